@@ -1,0 +1,2 @@
+-- Laws of the definitions, by which callers know them.
+pub mod Opening

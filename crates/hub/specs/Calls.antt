@@ -1,0 +1,67 @@
+-- "When the hub says no", and what a call that is not refused leaves.
+use Prim.Native.Nat.{ℕ, _+_}
+use mathlib.Core.Bool.{Bool, true, false}
+use mathlib.Core.List.{List}
+use lib.Dec.{leb, ltb}
+use Rattle.hub.specs.declared.answers.Answer.{Answer}
+use Rattle.hub.specs.declared.answers.Refusal.{Refusal}
+use Rattle.hub.specs.declared.moves.Call.{Call}
+use Rattle.hub.specs.declared.moves.Change.{Change}
+use Rattle.hub.specs.declared.moves.Move.{Move}
+use Rattle.hub.specs.declared.moves.Move.the-variants.{Refuse, Act, Wake}
+use Rattle.hub.specs.declared.moves.Sight.{Sight}
+use Rattle.hub.specs.declared.record.Hub.{Hub}
+use Rattle.hub.specs.declared.record.Outcome.{Outcome}
+use Rattle.hub.specs.declared.record.PartySlot.{PartySlot}
+use Rattle.hub.specs.declared.record.Phase.{Phase}
+use Rattle.hub.specs.Basics.{count}
+use Rattle.hub.specs.Record.{PLACES, writePhase, writePlace, phasesOf}
+use Rattle.hub.specs.Phases.{byTicket, drawsTicket}
+use Rattle.hub.specs.Table.{decide}
+use Rattle.hub.specs.Reclaim.{reclaimed}
+use Rattle.hub.specs.Fits.{fits, look}
+
+-- 7: the tickets issued, and those that may yet be drawn, fill the 256 places.
+abbrev pub isFull : Hub → Bool
+isFull h = leb (h .oldest + PLACES) (h .issued + count drawsTicket (phasesOf (h .slots)))
+
+-- 1, then 4, then the call's own.
+unfoldable pub checked : Bool → Bool → Move → Move
+checked false b m = Refuse Refusal.Unfit
+checked true false m = Refuse Refusal.NoSuchParty
+checked true true m = m
+
+abbrev pub moveOf : Hub → Call → Move
+moveOf h c =
+    checked (fits h) (ltb (c .party) (h .parties))
+    (decide (c .op) (isFull h) (look h (c .party)))
+
+-- The party that was seen makes its change; l are the slots before.
+abbrev pub changed : Hub → List PartySlot → Sight → Change → Hub
+changed h l s c =
+    record {
+      permits = h .permits;
+      parties = h .parties;
+      counter = c .counter;
+      issued = c .issued;
+      resumed = c .resumed;
+      begun = c .begun;
+      oldest = h .oldest;
+      places = byTicket (h .places) (λ t. writePlace (h .places) t (c .place)) (s .phase);
+      slots = writePhase l (s .party) (c .phase);
+    }
+
+-- A refusal leaves the record as it was; everything else ends with the tidying.
+unfoldable pub apply : Hub → Sight → Move → Outcome
+apply h s (Refuse r) = record { answer = Answer.Refused r; hub = h }
+apply h s (Act c) =
+    record { answer = c .answer; hub = reclaimed (changed h (h .slots) s c) }
+apply h s (Wake q c) =
+    record {
+      answer = c .answer;
+      hub = reclaimed (changed h (writePhase (h .slots) q Phase.Holding) s c);
+    }
+
+-- What a call answers, and the record that it leaves.
+unfoldable pub called : Hub → Call → Outcome
+called h c = apply h (look h (c .party)) (moveOf h c)

@@ -1,0 +1,59 @@
+-- The third demand: one claim over every schedule from an opening.
+use Prim.Native.Nat.{ℕ, _+_, _≤_, _<_}
+use mathlib.Core.Path.{_≡_}
+use mathlib.Core.Bool.{Bool, true}
+use mathlib.Core.List.{List, [], _∷_}
+use Rattle.hub.specs.declared.answers.Answer.{Answer}
+use Rattle.hub.specs.declared.moves.Call.{Call}
+use Rattle.hub.specs.declared.record.Hub.{Hub}
+use Rattle.hub.specs.declared.record.Phase.{Phase}
+use Rattle.hub.specs.Basics.{count}
+use Rattle.hub.specs.Fits.{fits}
+use Rattle.hub.specs.Ledger.{Ledger, ledger, opened, phaseIn, held, atCounter, onTheWay}
+use Rattle.hub.specs.Ledger.{coming, takenBack, permitPlaces, refusedPlaces}
+use Rattle.hub.specs.Opening.{opening}
+use Rattle.hub.specs.Phases.{atRest, holds, isPermit, isRefused}
+use Rattle.hub.specs.Record.{phasesOf, placesOf}
+use Rattle.hub.specs.Schedule.{run, entries}
+
+-- Every number of a list is below t.
+unfoldable pub AllBelow : ℕ → List ℕ → Type 0
+AllBelow t [] = Unit {0}
+AllBelow t (x ∷ xs) = (x < t) × AllBelow t xs
+
+-- Everybody is at rest.
+abbrev pub Calm : List Phase → Type 0
+Calm l = (p : ℕ) → atRest (phaseIn l p) ≡ true
+
+-- What holds of k permits, a ledger e and the record h that the schedule left.
+pub record Accounts (k : ℕ) (e : Ledger) (h : Hub) : Type 0 where
+  -- Held + at the counter + on the way = K.
+  pub sum : held e + atCounter (e .counter) + onTheWay e ≡ k
+  -- No difference in it is cut off.
+  pub gaveMost : e .took ≤ e .gave
+  pub leftMost : e .cleared ≤ e .left
+  pub refusedMost : e .met ≤ e .refused
+  pub comingMost : takenBack e ≤ coming e
+  -- The record shows the same.
+  pub phases : phasesOf (h .slots) ≡ e .phases
+  pub counter : h .counter ≡ e .counter
+  pub permitsLeft : count isPermit (placesOf (h .places)) ≡ permitPlaces e
+  pub placesRefused : count isRefused (placesOf (h .places)) ≡ refusedPlaces e
+  -- The parties that hold are as many as the permits held, and at most K.
+  pub holders : count holds (e .phases) ≡ held e
+  pub most : held e ≤ k
+  -- At rest with somebody waiting, exactly K hold, and whoever was served came before.
+  pub calm : Calm (e .phases) → (p t : ℕ) → phaseIn (e .phases) p ≡ Phase.Waiting t
+      → (held e ≡ k) × AllBelow t (e .served)
+
+-- For every opening that is accepted and every list of calls.
+unfoldable pub Demand3 : Type 0
+Demand3 =
+    (k n : ℕ) → opening k n .answer ≡ Answer.Opened → (cs : List Call)
+    → Accounts k (ledger (opened k) (entries (opening k n .hub) cs)) (run (opening k n .hub) cs)
+
+-- And every record reached fits, so that no schedule meets refusal 1.
+unfoldable pub ReachedFits : Type 0
+ReachedFits =
+    (k n : ℕ) → opening k n .answer ≡ Answer.Opened → (cs : List Call)
+    → fits (run (opening k n .hub) cs) ≡ true

@@ -1,0 +1,20 @@
+// The link hub of one house: a fair, abortable semaphore over a ring of waiting places.
+// Each module is a paragraph of the paper that the hub is built from (docs/PAPER.md); specs/
+// has its definitions, and every contract here cites one of them.
+
+pub mod record; // the record of a hub: phases, places, counters
+pub mod kinds; // the kind of each party
+pub mod answers; // what a call answers
+pub mod moves; // what a call looks at, and what it changes
+pub mod opening; // a fresh record
+
+pub use answers::Answer;
+pub use answers::Refusal;
+pub use moves::Call;
+pub use moves::Op;
+pub use record::Hub;
+pub use record::Outcome;
+pub use record::PartySlot;
+pub use record::Phase;
+pub use record::Place;
+pub use record::PlaceSlot;

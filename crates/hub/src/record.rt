@@ -1,0 +1,64 @@
+// The record of a hub. A link of the paper is a permit, the number of a wait its ticket.
+
+use crate::answers::Answer;
+
+// A party's phase: the first three are at rest, the others busy. Each t is a ticket.
+pub enum Phase {
+    Free,
+    Holding,
+    Waiting(u32),
+    Acquiring, // asked
+    Suspending, // unnumbered: to draw a ticket
+    Ticketed(u32), // numbered t
+    Aborting(u32), // giving up t: the counter is not told yet
+    Cancelling(u32), // the ticket is to be skipped
+    Refusing(u32), // a permit is on its way to the ticket, and is not wanted
+    Releasing, // giving back
+    Resuming, // carrying: to draw the next ticket to resume
+    ResumingAt(u32), // handing t
+}
+
+// What lies at the place of a ticket: a cell of the waiting queue.
+pub enum Place {
+    Empty,
+    Waiting(u32), // the party that waits there
+    Permit, // link
+    Cancelled,
+    Refused,
+    Done,
+}
+
+// An element of an array of places or of parties is a struct.
+pub struct PlaceSlot {
+    pub place: Place,
+}
+
+pub struct PartySlot {
+    pub phase: Phase,
+}
+
+pub struct Hub {
+    pub permits: u8, // links, K
+    pub parties: u8, // n
+    pub counter: i32,
+    pub issued: u32, // numbered: the next ticket for a wait
+    pub resumed: u32, // handed: the next ticket to resume
+    pub begun: u32, // acquires accepted since opening
+    pub oldest: u32, // the first ticket that has a place
+    pub places: [PlaceSlot; 256],
+    pub slots: [PartySlot; 32],
+}
+
+impl Hub {
+    pub const PLACES: u32 = 256;
+
+    pub const MAX_BEGUN: u32 = 1000000;
+
+    pub const PARTIES: u8 = 32;
+}
+
+// What an opening or a call answers, and the record that it leaves.
+pub struct Outcome {
+    pub answer: Answer,
+    pub hub: Hub,
+}
