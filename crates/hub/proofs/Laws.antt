@@ -1,2 +1,7 @@
 -- Laws of the definitions, by which callers know them.
+pub mod Bools
+pub mod Lists
+pub mod Ranges
+pub mod Places
+pub mod Reclaim
 pub mod Opening

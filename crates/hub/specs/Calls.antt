@@ -36,7 +36,7 @@ moveOf h c =
     checked (fits h) (ltb (c .party) (h .parties))
     (decide (c .op) (isFull h) (look h (c .party)))
 
--- The party that was seen makes its change; l are the slots before.
+-- The party that was seen makes its change; l are the slots, any woken party's set.
 abbrev pub changed : Hub → List PartySlot → Sight → Change → Hub
 changed h l s c =
     record {
@@ -51,17 +51,20 @@ changed h l s c =
       slots = writePhase l (s .party) (c .phase);
     }
 
--- A refusal leaves the record as it was; everything else ends with the tidying.
-unfoldable pub apply : Hub → Sight → Move → Outcome
-apply h s (Refuse r) = record { answer = Answer.Refused r; hub = h }
-apply h s (Act c) =
-    record { answer = c .answer; hub = reclaimed (changed h (h .slots) s c) }
-apply h s (Wake q c) =
-    record {
-      answer = c .answer;
-      hub = reclaimed (changed h (writePhase (h .slots) q Phase.Holding) s c);
-    }
+-- What a move answers.
+abbrev pub answerOf : Move → Answer
+answerOf (Refuse r) = Answer.Refused r
+answerOf (Act c) = c .answer
+answerOf (Wake q c) = c .answer
+
+-- The record that it leaves. A refusal leaves it as it was; all else ends with the tidying.
+unfoldable pub apply : Hub → Sight → Move → Hub
+apply h s (Refuse r) = h
+apply h s (Act c) = reclaimed (changed h (h .slots) s c)
+apply h s (Wake q c) = reclaimed (changed h (writePhase (h .slots) q Phase.Holding) s c)
 
 -- What a call answers, and the record that it leaves.
-unfoldable pub called : Hub → Call → Outcome
-called h c = apply h (look h (c .party)) (moveOf h c)
+abbrev pub called : Hub → Call → Outcome
+called h c =
+    let m = moveOf h c in
+    record { answer = answerOf m; hub = apply h (look h (c .party)) m }

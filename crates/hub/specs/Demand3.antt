@@ -29,20 +29,21 @@ Calm l = (p : ℕ) → atRest (phaseIn l p) ≡ true
 pub record Accounts (k : ℕ) (e : Ledger) (h : Hub) : Type 0 where
   -- Held + at the counter + on the way = K.
   pub sum : held e + atCounter (e .counter) + onTheWay e ≡ k
-  -- No difference in it is cut off.
-  pub gaveMost : e .took ≤ e .gave
-  pub leftMost : e .cleared ≤ e .left
-  pub refusedMost : e .met ≤ e .refused
-  pub comingMost : takenBack e ≤ coming e
-  -- The record shows the same.
+  -- None of the differences in it is cut off at 0.
+  pub heldWhole : e .took ≤ e .gave
+  pub permitsWhole : e .cleared ≤ e .left
+  pub refusedWhole : e .met ≤ e .refused
+  pub wayWhole : takenBack e ≤ coming e
+  -- The record shows the same: its phases, its counter, its link and refused places.
   pub phases : phasesOf (h .slots) ≡ e .phases
   pub counter : h .counter ≡ e .counter
-  pub permitsLeft : count isPermit (placesOf (h .places)) ≡ permitPlaces e
-  pub placesRefused : count isRefused (placesOf (h .places)) ≡ refusedPlaces e
+  pub permits : count isPermit (placesOf (h .places)) ≡ permitPlaces e
+  pub refusals : count isRefused (placesOf (h .places)) ≡ refusedPlaces e
   -- The parties that hold are as many as the permits held, and at most K.
   pub holders : count holds (e .phases) ≡ held e
   pub most : held e ≤ k
-  -- At rest with somebody waiting, exactly K hold, and whoever was served came before.
+  -- If all are at rest and somebody waits, exactly K hold, and every wait served so far has a
+  -- lower number than every wait that stands.
   pub calm : Calm (e .phases) → (p t : ℕ) → phaseIn (e .phases) p ≡ Phase.Waiting t
       → (held e ≡ k) × AllBelow t (e .served)
 

@@ -2,7 +2,7 @@
 use Prim.Native.Nat.{ℕ}
 use mathlib.Core.Path.{_≡_}
 use mathlib.Core.Bool.{Bool, true, false, _&&_}
-use mathlib.Core.List.{List, [], _∷_, _++_}
+use mathlib.Core.List.{List, [], _∷_, _++_, map}
 use lib.Dec.{eqb}
 use lib.IntN.{ℤ, pos, negsuc}
 use Rattle.hub.specs.declared.moves.Call.{Call}
@@ -11,6 +11,9 @@ use Rattle.hub.specs.declared.moves.Op.the-variants.{Acquire, Step, Canc
 use Rattle.hub.specs.declared.record.Hub.{Hub}
 use Rattle.hub.specs.Answers.{Printed, printed, plain, withNumber}
 use Rattle.hub.specs.Calls.{called}
+use Rattle.hub.specs.Basics.{count}
+use Rattle.hub.specs.Phases.{holds, isWaiting}
+use Rattle.hub.specs.Record.{phasesOf}
 use Rattle.hub.specs.Opening.{opening}
 use Rattle.hub.specs.Schedule.{Entry, run}
 
@@ -26,8 +29,8 @@ pub data Edge : Type 0 where
   opens : ℕ → ℕ → ℕ → Edge
   -- K, n and a schedule; the counter after it; one call more, and its code.
   calls : ℕ → ℕ → List Call → ℤ → Call → ℕ → Edge
-  -- K, n and a whole run.
-  runs : ℕ → ℕ → List Entry → Edge
+  -- K, n and a whole run; at its end the holders, those waiting and the counter.
+  runs : ℕ → ℕ → List Entry → ℕ → ℕ → ℤ → Edge
 
 -- With K 1: party 0 holds the permit. Then party 1 waits, with ticket 0.
 abbrev pub taken : List Call
@@ -35,6 +38,17 @@ taken = by Acquire 0 ∷ by Step 0 ∷ []
 
 abbrev pub awaited : List Call
 awaited = taken ++ by Acquire 1 ∷ by Step 1 ∷ by Step 1 ∷ by Step 1 ∷ []
+
+-- The run of "Frames", without its opening and its closing line.
+abbrev pub frames : List Entry
+frames =
+    entry Acquire 0 (plain 0x20) ∷ entry Step 0 (plain 0x21)
+    ∷ entry Acquire 1 (plain 0x20) ∷ entry Step 1 (plain 0x22)
+    ∷ entry Step 1 (withNumber 0x23 0) ∷ entry Step 1 (withNumber 0x24 0)
+    ∷ entry Release 0 (plain 0x20) ∷ entry Step 0 (plain 0x27)
+    ∷ entry Cancel 1 (plain 0x20) ∷ entry Step 1 (plain 0x2F)
+    ∷ entry Step 0 (withNumber 0x28 0) ∷ entry Step 0 (withNumber 0x2B 0)
+    ∷ entry Step 1 (withNumber 0x33 0) ∷ []
 
 unfoldable pub edges : List Edge
 edges =
@@ -44,6 +58,7 @@ edges =
     ∷ calls 1 3 [] (pos 1) (by Step 3) 0x04 ∷ calls 1 3 [] (pos 1) (by Step 2) 0x08
     ∷ calls 1 3 [] (pos 1) (by Cancel 3) 0x04 ∷ calls 1 3 [] (pos 1) (by Cancel 2) 0x09
     ∷ calls 1 3 [] (pos 1) (by Release 3) 0x04 ∷ calls 1 3 [] (pos 1) (by Release 2) 0x0B
+    ∷ calls 32 32 [] (pos 32) (by Acquire 32) 0x04 ∷ calls 32 32 [] (pos 32) (by Acquire 31) 0x20
     -- asked at 1, and at 0
     ∷ calls 1 3 (by Acquire 0 ∷ []) (pos 1) (by Step 0) 0x21
     ∷ calls 1 3 (taken ++ by Acquire 1 ∷ []) (pos 0) (by Step 1) 0x22
@@ -53,17 +68,8 @@ edges =
     -- giving up at −1, and at 0
     ∷ calls 1 3 (awaited ++ by Cancel 1 ∷ []) (negsuc 0) (by Step 1) 0x2E
     ∷ calls 1 3 (awaited ++ by Release 0 ∷ by Step 0 ∷ by Cancel 1 ∷ []) (pos 0) (by Step 1) 0x2F
-    -- the run of "Frames"
-    ∷ opens 1 3 0x1F
-    ∷ runs 1 3
-    (entry Acquire 0 (plain 0x20) ∷ entry Step 0 (plain 0x21)
-    ∷ entry Acquire 1 (plain 0x20) ∷ entry Step 1 (plain 0x22)
-    ∷ entry Step 1 (withNumber 0x23 0) ∷ entry Step 1 (withNumber 0x24 0)
-    ∷ entry Release 0 (plain 0x20) ∷ entry Step 0 (plain 0x27)
-    ∷ entry Cancel 1 (plain 0x20) ∷ entry Step 1 (plain 0x2F)
-    ∷ entry Step 0 (withNumber 0x28 0) ∷ entry Step 0 (withNumber 0x2B 0)
-    ∷ entry Step 1 (withNumber 0x33 0) ∷ [])
-    ∷ []
+    -- the run, and its closing line
+    ∷ opens 1 3 0x1F ∷ runs 1 3 frames 0 0 (pos 1) ∷ []
 
 -- Two counters, and two answers, alike?
 abbrev pub sameℤ : ℤ → ℤ → Bool
@@ -87,7 +93,11 @@ holdsAt (opens k n c) = eqb (printed (opening k n .answer) .code) c
 holdsAt (calls k n cs z c r) =
     let h = run (opening k n .hub) cs in
     sameℤ (h .counter) z && eqb (printed (called h c .answer) .code) r
-holdsAt (runs k n es) = follows (opening k n .hub) es
+holdsAt (runs k n es a b z) =
+    let h = run (opening k n .hub) (map (λ e. e .call) es) in
+    let l = phasesOf (h .slots) in
+    follows (opening k n .hub) es
+    && eqb (count holds l) a && eqb (count isWaiting l) b && sameℤ (h .counter) z
 
 unfoldable pub allHold : List Edge → Bool
 allHold [] = true

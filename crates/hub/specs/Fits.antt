@@ -54,7 +54,8 @@ countsFit h =
 abbrev pub inWindow : Hub → ℕ → ℕ → Bool
 inWindow h e t = leb (h .oldest) t && ltb t (h .oldest + PLACES) && ltb t e
 
--- A phase's ticket, and the room that drawing one needs.
+-- A party's ticket is one of the 256, below the next to resume if handing, else below the next
+-- issued. Drawing one needs room.
 unfoldable pub ticketFits : Hub → Phase → Bool
 ticketFits h Free = true
 ticketFits h Holding = true
@@ -69,13 +70,15 @@ ticketFits h Releasing = true
 ticketFits h Resuming = ltb (h .resumed) (h .oldest + PLACES)
 ticketFits h (ResumingAt t) = inWindow h (h .resumed) t
 
--- Has the step table a row for this? It has none where it refuses by 1.
+-- Has the step table a row for this? At a place that it does not list it refuses by 1.
 abbrev pub isListed : Move → Bool
 isListed (Refuse r) = not (eqb (refusalCode r) 1)
 isListed (Act c) = true
 isListed (Wake q c) = true
 
--- Parties from n up are free; a place about to be acted on is in a state that the table lists.
+-- Parties from n up are free; tickets fit; a place about to be acted on is in a state that the
+-- table lists: empty or link for numbered, waiting or link for cancelling and refusing, and any
+-- but link and done for handing.
 unfoldable pub partyFits : Hub → ℕ → Bool
 partyFits h p =
     (ltb p (h .parties) || isFree (readPhase (h .slots) p))

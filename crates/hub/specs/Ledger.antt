@@ -42,7 +42,7 @@ opened k =
 abbrev pub phaseIn : List Phase → ℕ → Phase
 phaseIn l p = getD l p Phase.Free
 
--- The phase of a party whose call was accepted, by 20.
+-- The phase of a party whose call was accepted, by 20 (a step never is).
 abbrev pub accepted : Op → Phase → Phase
 accepted Op.Acquire f = Phase.Acquiring
 accepted Op.Step f = f
@@ -61,7 +61,9 @@ phaseAfter o f r =
     (cond (among (0x27 ∷ 0x2C ∷ 0x31 ∷ []) c) Phase.Resuming
     (cond (eqb c 0x28) (Phase.ResumingAt (r .number))
     (cond (eqb c 0x2E) (Phase.Cancelling (ticketOf f))
-    (cond (eqb c 0x2F) (Phase.Refusing (ticketOf f)) Phase.Free))))))))
+    (cond (eqb c 0x2F) (Phase.Refusing (ticketOf f))
+    (cond (among (0x26 ∷ 0x29 ∷ 0x2A ∷ 0x2B ∷ 0x2D ∷ 0x30 ∷ 0x32 ∷ 0x33 ∷ []) c) Phase.Free
+    f)))))))))
 
 -- A 2A makes the woken party holding.
 unfoldable pub phasesAfter : Op → ℕ → Printed → List Phase → List Phase
@@ -116,7 +118,7 @@ succeeded o p r e =
       served = servedAfter p r (e .phases) (e .served);
     }
 
--- One entry; a refusal moves nobody.
+-- One entry; a refusal, a code below 20, moves nobody.
 unfoldable pub enter : Ledger → Entry → Ledger
 enter e x =
     let r = x .answer in

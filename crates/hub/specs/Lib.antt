@@ -1,15 +1,18 @@
--- The paper as definitions, in its order. A reader has to believe these files and no others.
-pub mod Basics
-pub mod Answers
+-- Document 01 as definitions: with the types of src/, what a reader has to believe. The lines of
+-- the schedule program (refusals 12 and 13, the closing line) are not the hub's.
+pub mod Basics  -- counting and testing
+pub mod Answers  -- codes, woken party and number
 pub mod Kinds
-pub mod Record
+pub mod Record  -- "The hub's record"
 pub mod Phases
-pub mod Table
-pub mod Reclaim
-pub mod Fits
-pub mod Opening
+pub mod Table  -- "Four calls"
+pub mod Reclaim  -- the tidying
+pub mod Fits  -- "A record that fits"
+pub mod Opening  -- "When the hub says no"
 pub mod Calls
-pub mod Schedule
-pub mod Ledger
-pub mod Demand3
-pub mod Edges
+pub mod Schedule  -- a list of calls
+pub mod Ledger  -- "Counting links"
+pub mod Demand3  -- the third demand
+pub mod Edges  -- "Edges"
+pub mod Queue  -- document 000's semaphore, and the hub beside it
+pub mod Refinement

@@ -35,7 +35,7 @@ byTicket z f =
 abbrev pub ticketOf : Phase → ℕ
 ticketOf = byTicket 0 (λ t. t)
 
--- The place of a phase in the list of phases.
+-- The index of a phase in the list of phases.
 abbrev pub rank : Phase → ℕ
 rank =
     elim [
@@ -100,7 +100,7 @@ byWaiter z f =
       | Done ↦ z
     ]
 
--- The place of a state in the list of states, and whether two states are the same there.
+-- The index of a state in the list of states, and whether two states have the same.
 abbrev pub placeRank : Place → ℕ
 placeRank =
     elim [ Empty ↦ 0 | WaitedBy q ↦ 1 | Permit ↦ 2 | Cancelled ↦ 3 | Refused ↦ 4 | Done ↦ 5 ]

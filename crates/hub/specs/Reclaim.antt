@@ -2,6 +2,8 @@
 use Prim.Native.Nat.{ℕ, zero, suc, _+_}
 use mathlib.Core.Bool.{Bool, true, false, _&&_}
 use lib.Dec.{ltb}
+use lib.ListN.{length}
+use mathlib.Core.Path.{_≡_}
 use Rattle.hub.specs.declared.record.Hub.{Hub}
 use Rattle.hub.specs.declared.record.Place.{Place}
 use Rattle.hub.specs.Record.{PLACES, readPlace, writePlace}
@@ -46,13 +48,13 @@ retired h =
       slots = h .slots;
     }
 
--- While it can be skipped, at most n times: 256 are always enough (proofs/Reclaim.antt).
+-- While b, and then while it can be skipped; at most n times.
 unfoldable pub skip : ℕ → Bool → Hub → Hub
 skip zero b h = h
 skip (suc n) false h = h
 skip (suc n) true h = skip n (canSkip (skipped h)) (skipped h)
 
--- While it can be retired, at most n times: 256 are always enough, too.
+-- While b, and then while it can be retired; at most n times.
 unfoldable pub retire : ℕ → Bool → Hub → Hub
 retire zero b h = h
 retire (suc n) false h = h
@@ -63,3 +65,10 @@ unfoldable pub reclaimed : Hub → Hub
 reclaimed h =
     let k = skip PLACES (canSkip h) h in
     retire PLACES (canRetire k) k
+
+-- 256 times are enough: both loops end because their test fails, on any record of 256 places.
+unfoldable pub LoopsEnd : Type 0
+LoopsEnd =
+    (h : Hub) → length (h .places) ≡ PLACES
+    → (canSkip (skip PLACES (canSkip h) h) ≡ false)
+    × (canRetire (retire PLACES (canRetire h) h) ≡ false)

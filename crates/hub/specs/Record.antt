@@ -17,7 +17,7 @@ PARTIES = 32
 abbrev pub MAX-BEGUN : ℕ
 MAX-BEGUN = 1000000
 
--- A party that is nobody's reads as free.
+-- A number past the 32 slots reads as free.
 unfoldable pub readPhase : List PartySlot → ℕ → Phase
 readPhase l p = (getD l p (record { phase = Phase.Free })) .phase
 

@@ -29,7 +29,7 @@ pub enum Answer {
     StartedResume(u32), // 28
     LeftPermit(u32), // 29: the waiter is still to come
     Woke(u32, u32), // 2A: the woken party, then the ticket
-    Delegated(u32), // 2B: the waiter is aborting, and finds the permit
+    Delegated(u32), // 2B: the waiter has given up, and will find the permit
     Skipped(u32), // 2C
     ResumeRefused(u32), // 2D
     MustCancel, // 2E

@@ -40,12 +40,12 @@ pub struct PartySlot {
 pub struct Hub {
     pub permits: u8, // links, K
     pub parties: u8, // n
-    pub counter: i32,
+    pub counter: i32, // permits available; below zero, waits that no permit comes for
     pub issued: u32, // numbered: the next ticket for a wait
     pub resumed: u32, // handed: the next ticket to resume
     pub begun: u32, // acquires accepted since opening
     pub oldest: u32, // the first ticket that has a place
-    pub places: [PlaceSlot; 256],
+    pub places: [PlaceSlot; 256], // a ring: that of ticket t is at t modulo 256
     pub slots: [PartySlot; 32],
 }
 

@@ -1,9 +1,12 @@
 -- What an opening answers, from its two tests.
 use Prim.Native.Nat.{ℕ}
-use mathlib.Core.Path.{_≡_}
+use mathlib.Core.Path.{_≡_, refl}
 use mathlib.Core.Bool.{Bool, true, false}
 use Rattle.hub.specs.declared.answers.Answer.{Answer}
 use Rattle.hub.specs.declared.answers.Refusal.{Refusal}
+use Rattle.hub.specs.declared.moves.Call.{Call}
+use Rattle.hub.specs.Calls.{called, checked, apply}
+use Rattle.hub.specs.Fits.{fits, countsFit}
 use Rattle.hub.specs.Opening.{fresh, notOpened, openingIf}
 
 module _ (a b : Bool) (k n : ℕ) where
@@ -19,3 +22,10 @@ module _ (a b : Bool) (k n : ℕ) where
       → openingIf a b k n ≡ record { answer = Answer.Opened; hub = fresh k n }
   unfolding openingIf
   accepted e f = rw (e, f)
+
+-- What a refused opening hands back refuses every call by 1.
+pub never-opened : (r : Refusal) (c : Call)
+    → called (notOpened r .hub) c
+    ≡ record { answer = Answer.Refused Refusal.Unfit; hub = notOpened r .hub }
+unfolding fresh fits countsFit checked apply
+never-opened r c = refl
