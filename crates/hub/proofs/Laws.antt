@@ -2,6 +2,7 @@
 pub mod Bools
 pub mod Lists
 pub mod Ranges
+pub mod Slots
 pub mod Places
 pub mod Reclaim
 pub mod Opening

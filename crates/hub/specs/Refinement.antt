@@ -9,6 +9,7 @@ use Rattle.hub.specs.declared.answers.Answer.{Answer}
 use Rattle.hub.specs.declared.moves.Call.{Call}
 use Rattle.hub.specs.declared.record.Hub.{Hub}
 use Rattle.hub.specs.declared.record.Place.{Place}
+use Rattle.hub.specs.declared.record.PlaceSlot.{PlaceSlot}
 use Rattle.hub.specs.Answers.{printed}
 use Rattle.hub.specs.Calls.{called}
 use Rattle.hub.specs.Opening.{opening}
@@ -17,8 +18,14 @@ use Rattle.hub.specs.Queue as queue
 use Rattle.hub.specs.Record.{PLACES, readPlace, phasesOf}
 use Rattle.hub.specs.Schedule.{run, answers}
 
--- The record h shows the queue m: cells before the oldest are done, those of the window are its
--- places, those beyond it are empty; all else is the same.
+-- Places l, with oldest ticket o, are a window of the cells g: cells before it are done, those
+-- within it are the places, those beyond it are empty.
+pub record Window (o : ℕ) (l : List PlaceSlot) (g : ℕ → Place) : Type 0 where
+  pub before : (t : ℕ) → t < o → g t ≡ Place.Done
+  pub within : (t : ℕ) → o ≤ t → t < o + PLACES → g t ≡ readPlace l t
+  pub beyond : (t : ℕ) → o + PLACES ≤ t → g t ≡ Place.Empty
+
+-- The record h shows the queue m.
 pub record Shows (h : Hub) (m : Queue) : Type 0 where
   pub parties : h .parties ≡ m .parties
   pub counter : h .counter ≡ m .counter
@@ -26,10 +33,7 @@ pub record Shows (h : Hub) (m : Queue) : Type 0 where
   pub resumed : h .resumed ≡ m .resumed
   pub begun : h .begun ≡ m .begun
   pub phases : phasesOf (h .slots) ≡ m .phases
-  pub before : (t : ℕ) → t < h .oldest → m .cells t ≡ Place.Done
-  pub within : (t : ℕ) → h .oldest ≤ t → t < h .oldest + PLACES
-      → m .cells t ≡ readPlace (h .places) t
-  pub beyond : (t : ℕ) → h .oldest + PLACES ≤ t → m .cells t ≡ Place.Empty
+  pub window : Window (h .oldest) (h .places) (m .cells)
 
 abbrev pub isSeven : Answer → Bool
 isSeven r = eqb (printed r .code) 7
