@@ -1,5 +1,6 @@
 -- Why the definitions of specs/ say what the paper claims of them, and why the code meets them.
 pub mod Laws  -- of single definitions
 pub mod Edges  -- the paper's marked cases
-pub mod Invariant -- why the permits add up
-pub mod Window -- the record beside the unbounded queue
+pub mod Invariant  -- why the permits add up
+pub mod Window  -- the record beside the unbounded queue
+pub mod Demand3  -- the third demand

@@ -57,48 +57,51 @@ names-same p t x Done o = tt
 module _ (k : ℕ) (m : Queue) (p : ℕ) (l : p < m .parties) (inv : Inv k m) where
   -- Rows on the counter alone. The ticket next issued stands for all: nothing happens to it.
   asked : (a : Place) (w u z : Bool) → aboveZero (m .counter) ≡ u
-    → phaseIn (m .phases) p ≡ Acquiring
-    → Good k Step p m Acquiring (step Acquiring a w u z (look m p))
+      → phaseIn (m .phases) p ≡ Acquiring
+      → Good k Step p m Acquiring (step Acquiring a w u z (look m p))
   unfolding step pick isOneOf isPlace phaseAfter phasesAfter counterAfter servedAfter
   asked a w true z e f =
       phase-row k m p l inv (m .issued) f refl
-        (omega (arith, inv .at (m .issued), took-above (m .counter) e))
-        (omega (arith, took-above (m .counter) e))
-        (omega arith) (refl, refl, refl, refl) (λ xs a. a)
+      (omega (arith, inv .at (m .issued), took-above (m .counter) e))
+      (omega (arith, took-above (m .counter) e))
+      (omega arith) (refl, refl, refl, refl) (λ xs a. a)
   asked a w false z e f =
       phase-row k m p l inv (m .issued) f refl
-        (omega (arith, inv .at (m .issued), took-below (m .counter) e))
-        (omega (arith, took-below (m .counter) e))
-        (omega arith) (refl, refl, refl, refl) (λ xs a. a)
+      (omega (arith, inv .at (m .issued), took-below (m .counter) e))
+      (omega (arith, took-below (m .counter) e))
+      (omega arith) (refl, refl, refl, refl) (λ xs a. a)
 
   giving-back : (a : Place) (w u z : Bool) → belowZero (m .counter) ≡ z
-    → phaseIn (m .phases) p ≡ Releasing
-    → Good k Step p m Releasing (step Releasing a w u z (look m p))
+      → phaseIn (m .phases) p ≡ Releasing
+      → Good k Step p m Releasing (step Releasing a w u z (look m p))
   unfolding step pick isOneOf isPlace phaseAfter phasesAfter counterAfter servedAfter
   giving-back a w u true e f =
       phase-row k m p l inv (m .issued) f refl
-        (omega (arith, inv .at (m .issued), gave-below (m .counter) e))
-        (omega (arith, gave-below (m .counter) e))
-        (omega arith) (refl, refl, refl, refl) (λ xs a. a)
+      (omega (arith, inv .at (m .issued), gave-below (m .counter) e))
+      (omega (arith, gave-below (m .counter) e))
+      (omega arith) (refl, refl, refl, refl) (λ xs a. a)
   giving-back a w u false e f =
       phase-row k m p l inv (m .issued) f refl
-        (omega (arith, inv .at (m .issued), gave-above (m .counter) e))
-        (omega (arith, gave-above (m .counter) e))
-        (omega arith) (refl, refl, refl, refl) (λ xs a. a)
+      (omega (arith, inv .at (m .issued), gave-above (m .counter) e))
+      (omega (arith, gave-above (m .counter) e))
+      (omega arith) (refl, refl, refl, refl) (λ xs a. a)
 
   -- A new ticket: nobody owned it, and its cell is empty or has a permit.
   fresh-cell : (least (m .cells (m .issued)) ≡ 0) × (1 ≤ most (m .cells (m .issued)))
-    × (sum (stage (m .issued)) m ≡ 0)
+      × (sum (stage (m .issued)) m ≡ 0)
   unfolding isPlace
   fresh-cell = go (m .cells (m .issued)) (inv .at (m .issued))
     where
       none : sum (stage (m .issued)) m ≤ 3 * sum (own (m .issued)) m
       none =
-          omega (arith,
+          omega (
+            arith,
             weight-scale 1 3 (stage (m .issued)) (own (m .issued)) Free (m .phases)
-              (λ i j. omega (arith, stage-own (m .issued) (phaseIn (m .phases) i))))
+                (λ i j. omega (arith, stage-own (m .issued) (phaseIn (m .phases) i))),
+          )
+
       go : (b : Place) → AtIn m (m .issued) b
-        → (least b ≡ 0) × (1 ≤ most b) × (sum (stage (m .issued)) m ≡ 0)
+          → (least b ≡ 0) × (1 ≤ most b) × (sum (stage (m .issued)) m ≡ 0)
       go Empty a = omega (arith, none, lt-no (m .issued) (m .issued) (omega arith))
       go (WaitedBy q) a = omega (arith, none, lt-no (m .issued) (m .issued) (omega arith))
       go Permit a = omega (arith, none, lt-no (m .issued) (m .issued) (omega arith))
@@ -107,29 +110,40 @@ module _ (k : ℕ) (m : Queue) (p : ℕ) (l : p < m .parties) (inv : Inv k m) wh
       go Done a = omega (arith, none, lt-no (m .issued) (m .issued) (omega arith))
 
   unnumbered : (a : Place) (w u z : Bool) → phaseIn (m .phases) p ≡ Suspending
-    → Good k Step p m Suspending (step Suspending a w u z (look m p))
+      → Good k Step p m Suspending (step Suspending a w u z (look m p))
   unfolding step pick isOneOf isPlace phaseAfter phasesAfter counterAfter servedAfter
   unnumbered a w u z f =
       phase-row k m p l inv (m .issued) f refl
-        (omega (arith, same-self (m .issued), inv .at (m .issued),
-          lt-suc (m .issued) (m .issued), fresh-cell))
-        (record
-          { numbers = λ u z. (omega (arith, lt-suc u (m .issued)), refl);
-            order = λ u j h. omega (arith, lt-yes u (m .issued) h) })
-        (omega arith) (refl, refl, refl, refl) (λ xs a. a)
+      (omega (
+        arith,
+        same-self (m .issued),
+        inv .at (m .issued),
+        lt-suc (m .issued) (m .issued),
+        fresh-cell,
+      ))
+      (record {
+        numbers = λ u z. (omega (arith, lt-suc u (m .issued)), refl);
+        order = λ u j h. omega (arith, lt-yes u (m .issued) h);
+      })
+      (omega arith) (refl, refl, refl, refl) (λ xs a. a)
 
   carrying : (a : Place) (w u z : Bool) → phaseIn (m .phases) p ≡ Resuming
-    → Good k Step p m Resuming (step Resuming a w u z (look m p))
+      → Good k Step p m Resuming (step Resuming a w u z (look m p))
   unfolding step pick isOneOf isPlace phaseAfter phasesAfter counterAfter servedAfter
   carrying a w u z f =
       phase-row k m p l inv (m .resumed) f refl
-        (omega (arith, same-self (m .resumed), inv .at (m .resumed),
-          lt-suc (m .resumed) (m .resumed)))
-        (record
-          { numbers = λ u z. (refl, omega (arith, lt-suc u (m .resumed)));
-            order = λ u j h. omega arith })
-        (omega arith) (refl, refl, refl, refl)
-        (λ xs a. all-more (m .resumed) (m .resumed + 1) (omega arith) xs a)
+      (omega (
+        arith,
+        same-self (m .resumed),
+        inv .at (m .resumed),
+        lt-suc (m .resumed) (m .resumed),
+      ))
+      (record {
+        numbers = λ u z. (refl, omega (arith, lt-suc u (m .resumed)));
+        order = λ u j h. omega arith;
+      })
+      (omega arith) (refl, refl, refl, refl)
+      (λ xs a. all-more (m .resumed) (m .resumed + 1) (omega arith) xs a)
 
   -- Rows on the cell of the party's own ticket t. Where the table lists none, the owner's stage
   -- is not one that the cell allows.
@@ -145,21 +159,22 @@ module _ (k : ℕ) (m : Queue) (p : ℕ) (l : p < m .parties) (inv : Inv k m) wh
   owns t = omega (arith, same-self t)
 
   numbered : (t : ℕ) (a : Place) (w u z : Bool) → m .cells t ≡ a
-    → phaseIn (m .phases) p ≡ Ticketed t
-    → Good k Step p m (Ticketed t) (step (Ticketed t) a w u z (look m p))
+      → phaseIn (m .phases) p ≡ Ticketed t
+      → Good k Step p m (Ticketed t) (step (Ticketed t) a w u z (look m p))
   unfolding step pick isOneOf isPlace phaseAfter phasesAfter counterAfter servedAfter AllBelow
   numbered t Empty w u z i e =
       place-row k m p l inv t e i (few t _ e (owns t))
-        (omega (arith, same-self t, known t _ e (owns t) _ i)) (omega arith)
-        (λ y. same-self t, λ y. absurd (y refl)) (omega arith) (refl, refl, refl, refl) (λ xs a. a)
+      (omega (arith, same-self t, known t _ e (owns t) _ i)) (omega arith)
+      (λ y. same-self t, λ y. absurd (y refl)) (omega arith) (refl, refl, refl, refl) (λ xs a. a)
   numbered t Permit w u z i e =
       let b = permit-below k m inv t i in
       place-row k m p l inv t e i (few t _ e (owns t))
-        (omega (arith, same-self t, known t _ e (owns t) _ i))
-        (record
-          { numbers = λ v y. (refl, refl);
-            order = λ v h j. omega (arith, lt-no v t (omega arith)) })
-        tt (omega arith) (refl, refl, refl, refl) (λ xs a. (omega (arith, ap ticketOf e), a))
+      (omega (arith, same-self t, known t _ e (owns t) _ i))
+      (record {
+        numbers = λ v y. (refl, refl);
+        order = λ v h j. omega (arith, lt-no v t (omega arith));
+      })
+      tt (omega arith) (refl, refl, refl, refl) (λ xs a. (omega (arith, ap ticketOf e), a))
   numbered t (WaitedBy q) w u z i e =
       let y : ⊥ = omega (arith, same-self t, known t _ e (owns t) _ i) in absurd y
   numbered t Cancelled w u z i e =
@@ -170,17 +185,17 @@ module _ (k : ℕ) (m : Queue) (p : ℕ) (l : p < m .parties) (inv : Inv k m) wh
       let y : ⊥ = omega (arith, same-self t, known t _ e (owns t) _ i) in absurd y
 
   cancelling : (t : ℕ) (a : Place) (w u z : Bool) → m .cells t ≡ a
-    → phaseIn (m .phases) p ≡ Cancelling t
-    → Good k Step p m (Cancelling t) (step (Cancelling t) a w u z (look m p))
+      → phaseIn (m .phases) p ≡ Cancelling t
+      → Good k Step p m (Cancelling t) (step (Cancelling t) a w u z (look m p))
   unfolding step pick isOneOf isPlace phaseAfter phasesAfter counterAfter servedAfter
   cancelling t (WaitedBy q) w u z i e =
       place-row k m p l inv t e i (few t _ e (owns t))
-        (omega (arith, same-self t, known t _ e (owns t) _ i)) (omega arith)
-        tt (omega arith) (refl, refl, refl, refl) (λ xs a. a)
+      (omega (arith, same-self t, known t _ e (owns t) _ i)) (omega arith)
+      tt (omega arith) (refl, refl, refl, refl) (λ xs a. a)
   cancelling t Permit w u z i e =
       place-row k m p l inv t e i (few t _ e (owns t))
-        (omega (arith, same-self t, known t _ e (owns t) _ i)) (omega arith)
-        tt (omega arith) (refl, refl, refl, refl) (λ xs a. a)
+      (omega (arith, same-self t, known t _ e (owns t) _ i)) (omega arith)
+      tt (omega arith) (refl, refl, refl, refl) (λ xs a. a)
   cancelling t Empty w u z i e =
       let y : ⊥ = omega (arith, same-self t, known t _ e (owns t) _ i) in absurd y
   cancelling t Cancelled w u z i e =
@@ -191,17 +206,17 @@ module _ (k : ℕ) (m : Queue) (p : ℕ) (l : p < m .parties) (inv : Inv k m) wh
       let y : ⊥ = omega (arith, same-self t, known t _ e (owns t) _ i) in absurd y
 
   refusing : (t : ℕ) (a : Place) (w u z : Bool) → m .cells t ≡ a
-    → phaseIn (m .phases) p ≡ Refusing t
-    → Good k Step p m (Refusing t) (step (Refusing t) a w u z (look m p))
+      → phaseIn (m .phases) p ≡ Refusing t
+      → Good k Step p m (Refusing t) (step (Refusing t) a w u z (look m p))
   unfolding step pick isOneOf isPlace phaseAfter phasesAfter counterAfter servedAfter
   refusing t (WaitedBy q) w u z i e =
       place-row k m p l inv t e i (few t _ e (owns t))
-        (omega (arith, same-self t, known t _ e (owns t) _ i)) (omega arith)
-        tt (omega arith) (refl, refl, refl, refl) (λ xs a. a)
+      (omega (arith, same-self t, known t _ e (owns t) _ i)) (omega arith)
+      tt (omega arith) (refl, refl, refl, refl) (λ xs a. a)
   refusing t Permit w u z i e =
       place-row k m p l inv t e i (few t _ e (owns t))
-        (omega (arith, same-self t, known t _ e (owns t) _ i)) (omega arith)
-        tt (omega arith) (refl, refl, refl, refl) (λ xs a. a)
+      (omega (arith, same-self t, known t _ e (owns t) _ i)) (omega arith)
+      tt (omega arith) (refl, refl, refl, refl) (λ xs a. a)
   refusing t Empty w u z i e =
       let y : ⊥ = omega (arith, same-self t, known t _ e (owns t) _ i) in absurd y
   refusing t Cancelled w u z i e =
@@ -212,27 +227,29 @@ module _ (k : ℕ) (m : Queue) (p : ℕ) (l : p < m .parties) (inv : Inv k m) wh
       let y : ⊥ = omega (arith, same-self t, known t _ e (owns t) _ i) in absurd y
 
   giving-up : (t : ℕ) (a : Place) (w u z : Bool) → m .cells t ≡ look m p .place
-    → belowZero (m .counter) ≡ z → phaseIn (m .phases) p ≡ Aborting t
-    → Good k Step p m (Aborting t) (step (Aborting t) a w u z (look m p))
+      → belowZero (m .counter) ≡ z → phaseIn (m .phases) p ≡ Aborting t
+      → Good k Step p m (Aborting t) (step (Aborting t) a w u z (look m p))
   unfolding step pick isOneOf isPlace phaseAfter phasesAfter counterAfter servedAfter
   giving-up t a w u true i c e =
       let b = look m p .place in
       place-row k m p l inv t e i (few t _ e (owns t))
-        (omega (arith, same-self t, known t _ e (owns t) b i, gave-below (m .counter) c))
-        (record
-          { numbers = λ v y. (refl, refl);
-            order = λ v h j. omega (arith, lt-le v t, gave-below (m .counter) c) })
-        (names-same p t (Cancelling t) b (same-self t)) (omega arith) (refl, refl, refl, refl)
-        (λ xs a. a)
+      (omega (arith, same-self t, known t _ e (owns t) b i, gave-below (m .counter) c))
+      (record {
+        numbers = λ v y. (refl, refl);
+        order = λ v h j. omega (arith, lt-le v t, gave-below (m .counter) c);
+      })
+      (names-same p t (Cancelling t) b (same-self t)) (omega arith) (refl, refl, refl, refl)
+      (λ xs a. a)
   giving-up t a w u false i c e =
       let b = look m p .place in
       place-row k m p l inv t e i (few t _ e (owns t))
-        (omega (arith, same-self t, known t _ e (owns t) b i, gave-above (m .counter) c))
-        (record
-          { numbers = λ v y. (refl, refl);
-            order = λ v h j. omega (arith, lt-le v t, gave-above (m .counter) c) })
-        (names-same p t (Refusing t) b (same-self t)) (omega arith) (refl, refl, refl, refl)
-        (λ xs a. a)
+      (omega (arith, same-self t, known t _ e (owns t) b i, gave-above (m .counter) c))
+      (record {
+        numbers = λ v y. (refl, refl);
+        order = λ v h j. omega (arith, lt-le v t, gave-above (m .counter) c);
+      })
+      (names-same p t (Refusing t) b (same-self t)) (omega arith) (refl, refl, refl, refl)
+      (λ xs a. a)
 
   -- Rows of a hand-over. The party owns no ticket; the owner's stage is what the cell allows.
   module _ (t : ℕ) (e : phaseIn (m .phases) p ≡ ResumingAt t) where
@@ -245,22 +262,23 @@ module _ (k : ℕ) (m : Queue) (p : ℕ) (l : p < m .parties) (inv : Inv k m) wh
     -- the one hand that ticket t has
     held : (a : Place) → m .cells t ≡ a → AtIn m t a × (1 ≤ sum (hand t) m)
     unfolding pick isOneOf
-    held a i =
-        (here k m p l inv t a i,
-         omega (arith, one-in k m inv (hand t) p (ResumingAt t) refl e, same-self t))
+    held a i = (
+      here k m p l inv t a i,
+      omega (arith, one-in k m inv (hand t) p (ResumingAt t) refl e, same-self t),
+    )
 
     -- the waiter has given up: the permit is left to it
     delegated : (q : ℕ) (u z : Bool) → m .cells t ≡ WaitedBy q
-      → isWaiting (phaseIn (m .phases) q) ≡ false
-      → Good k Step p m (ResumingAt t) (step (ResumingAt t) (WaitedBy q) false u z (look m p))
+        → isWaiting (phaseIn (m .phases) q) ≡ false
+        → Good k Step p m (ResumingAt t) (step (ResumingAt t) (WaitedBy q) false u z (look m p))
     unfolding step pick isOneOf isPlace phaseAfter phasesAfter counterAfter servedAfter
     delegated q u z i w =
         place-row k m p l inv t e i reach
-          (omega (arith, same-self t, here k m p l inv t (WaitedBy q) i, still)) (omega arith)
-          tt (omega arith) (refl, refl, refl, refl) (λ xs a. a)
+        (omega (arith, same-self t, here k m p l inv t (WaitedBy q) i, still)) (omega arith)
+        tt (omega arith) (refl, refl, refl, refl) (λ xs a. a)
       where
         gone : (g : Phase) → isWaiting g ≡ false → stand t g ≡ 1
-          → (stage t g ≤ 2) × (1 ≤ own t g)
+            → (stage t g ≤ 2) × (1 ≤ own t g)
         gone Free y o = omega arith
         gone Holding y o = omega arith
         gone (Waiting v) y o = let z : _≡_ {A = ℕ} 0 1 = cc in omega arith
@@ -273,6 +291,7 @@ module _ (k : ℕ) (m : Queue) (p : ℕ) (l : p < m .parties) (inv : Inv k m) wh
         gone Releasing y o = omega arith
         gone Resuming y o = omega arith
         gone (ResumingAt v) y o = omega arith
+
         still : sum (stage t) m ≤ 2
         still =
             let g = gone (phaseIn (m .phases) q) w (inv .named t q i) in
@@ -304,97 +323,129 @@ module _ (k : ℕ) (m : Queue) (p : ℕ) (l : p < m .parties) (inv : Inv k m) wh
       unfolding m₁
       s₁ =
           shift-phase m q (Waiting t) (Aborting t) t (inside k m p l inv q party) g (WaitedBy q)
-            (m .counter) (m .issued) (m .resumed) (m .begun) i
+          (m .counter) (m .issued) (m .resumed) (m .begun) i
 
       i₁ : Inv k m₁
       unfolding m₁ pick isOneOf isPlace
       i₁ =
           keep k m m₁ q (Waiting t) (Aborting t) t (WaitedBy q) (WaitedBy q) inv s₁
-            (omega (arith, same-self t, exact k m inv q t (Waiting t) g (owns t))) (omega arith)
-            (names-same q t (Aborting t) (WaitedBy q) (same-self t)) party
+          (omega (arith, same-self t, exact k m inv q t (Waiting t) g (owns t))) (omega arith)
+          (names-same q t (Aborting t) (WaitedBy q) (same-self t)) party
 
       s₂ : Shift m₁ m₂ p (ResumingAt t) Free t (WaitedBy q) Permit
       unfolding m₁ m₂
       s₂ =
           shift-place m₁ p (ResumingAt t) Free t
-            (omega (arith, s₁ .size, inside k m p l inv p l)) (s₁ .others p other ∙ e)
-            (WaitedBy q) Permit (m .counter) (m .issued) (m .resumed) (m .begun) i reach
+          (omega (arith, s₁ .size, inside k m p l inv p l)) (s₁ .others p other ∙ e)
+          (WaitedBy q) Permit (m .counter) (m .issued) (m .resumed) (m .begun) i reach
 
       i₂ : Inv k m₂
       unfolding m₁ m₂ pick isOneOf isPlace
       i₂ =
           keep k m₁ m₂ p (ResumingAt t) Free t (WaitedBy q) Permit i₁ s₂
-            (omega (arith, same-self t, exact k m₁ i₁ q t (Aborting t) (s₁ .now) (owns t)))
-            (omega arith) tt l
+          (omega (arith, same-self t, exact k m₁ i₁ q t (Aborting t) (s₁ .now) (owns t)))
+          (omega arith) tt l
 
       s₃ : Shift m₂ m₃ q (Aborting t) Holding t Permit Done
       unfolding m₁ m₂ m₃
       s₃ =
           shift-place m₂ q (Aborting t) Holding t
-            (omega (arith, s₁ .size, s₂ .size, inside k m p l inv q party))
-            (s₂ .others q (λ z. other (sym z)) ∙ s₁ .now)
-            Permit Done (m .counter) (m .issued) (m .resumed) (m .begun) (s₂ .cellNow) reach
+          (omega (arith, s₁ .size, s₂ .size, inside k m p l inv q party))
+          (s₂ .others q (λ z. other (sym z)) ∙ s₁ .now)
+          Permit Done (m .counter) (m .issued) (m .resumed) (m .begun) (s₂ .cellNow) reach
 
       i₃ : Inv k m₃
       unfolding m₁ m₂ m₃ pick isOneOf isPlace
       i₃ =
           keep k m₂ m₃ q (Aborting t) Holding t Permit Done i₂ s₃
-            (omega (arith, same-self t, exact k m₂ i₂ q t (Aborting t) (s₃ .was) (owns t)))
-            (record
-              { numbers = λ v z. (refl, refl);
-                order = λ v h j. omega (arith, lt-no v t (omega (arith, below))) })
-            tt party
+          (omega (arith, same-self t, exact k m₂ i₂ q t (Aborting t) (s₃ .was) (owns t)))
+          (record {
+            numbers = λ v z. (refl, refl);
+            order = λ v h j. omega (arith, lt-no v t (omega (arith, below)));
+          })
+          tt party
 
       -- the three at once
       abbrev woken : Queue
       woken =
-          record
-            { parties = m .parties; counter = m .counter; issued = m .issued;
-              resumed = m .resumed; begun = m .begun; cells = write (m .cells) t Done;
-              phases = set (set (m .phases) q Holding) p Free }
+          record {
+            parties = m .parties;
+            counter = m .counter;
+            issued = m .issued;
+            resumed = m .resumed;
+            begun = m .begun;
+            cells = write (m .cells) t Done;
+            phases = set (set (m .phases) q Holding) p Free;
+          }
 
       at-once : m₃ ≡ woken
       unfolding m₁ m₂ m₃
       at-once =
           ap (with m₂ q Holding) (write-twice (m .cells) t Permit Done)
-            ∙ ap
-                (λ (ps : List Phase).
-                  record
-                    { parties = m .parties; counter = m .counter; issued = m .issued;
-                      resumed = m .resumed; begun = m .begun; cells = write (m .cells) t Done;
-                      phases = ps })
-                (set-comm (set (m .phases) q (Aborting t)) p q Free Holding other
-                  ∙ ap (λ (ps : List Phase). set ps p Free)
-                      (set-set (m .phases) q (Aborting t) Holding))
+          ∙ ap
+          (λ (ps : List Phase).
+          record {
+            parties = m .parties;
+            counter = m .counter;
+            issued = m .issued;
+            resumed = m .resumed;
+            begun = m .begun;
+            cells = write (m .cells) t Done;
+            phases = ps;
+          })
+          (set-comm (set (m .phases) q (Aborting t)) p q Free Holding other
+          ∙ ap (λ (ps : List Phase). set ps p Free)
+          (set-set (m .phases) q (Aborting t) Holding))
 
       wakes : (u z : Bool)
-        → Good k Step p m (ResumingAt t) (step (ResumingAt t) (WaitedBy q) true u z (look m p))
+          → Good k Step p m (ResumingAt t) (step (ResumingAt t) (WaitedBy q) true u z (look m p))
       unfolding m₁ m₂ m₃ step pick isOneOf isPlace phaseAfter phasesAfter counterAfter servedAfter
-        AllBelow
+          AllBelow
       wakes u z =
-          record
-            { inv = subst (Inv k) at-once i₃;
-              reports =
-                record
-                  { success = refl;
-                    phases = refl;
-                    held =
-                      omega (arith, ap (sum holding) at-once,
-                        s₁ .sums holding, s₂ .sums holding, s₃ .sums holding);
-                    permits =
-                      omega (arith, ap (cellSum permitCell) at-once,
-                        s₁ .cellSums permitCell, s₂ .cellSums permitCell, s₃ .cellSums permitCell);
-                    refusals =
-                      omega (arith, ap (cellSum refusedCell) at-once,
-                        s₁ .cellSums refusedCell, s₂ .cellSums refusedCell,
-                        s₃ .cellSums refusedCell);
-                    counter = refl;
-                    resumed = omega arith;
-                    begins = omega arith;
-                    room =
-                      omega (arith, ap (sum drawing) at-once,
-                        s₁ .sums drawing, s₂ .sums drawing, s₃ .sums drawing);
-                    serves = λ xs a. (omega (arith, below, ap ticketOf g), a) } }
+          record {
+            inv = subst (Inv k) at-once i₃;
+            reports =
+                record {
+                  success = refl;
+                  phases = refl;
+                  held =
+                      omega (
+                        arith,
+                        ap (sum holding) at-once,
+                        s₁ .sums holding,
+                        s₂ .sums holding,
+                        s₃ .sums holding,
+                      );
+                  permits =
+                      omega (
+                        arith,
+                        ap (cellSum permitCell) at-once,
+                        s₁ .cellSums permitCell,
+                        s₂ .cellSums permitCell,
+                        s₃ .cellSums permitCell,
+                      );
+                  refusals =
+                      omega (
+                        arith,
+                        ap (cellSum refusedCell) at-once,
+                        s₁ .cellSums refusedCell,
+                        s₂ .cellSums refusedCell,
+                        s₃ .cellSums refusedCell,
+                      );
+                  counter = refl;
+                  resumed = omega arith;
+                  begins = omega arith;
+                  room =
+                      omega (
+                        arith,
+                        ap (sum drawing) at-once,
+                        s₁ .sums drawing,
+                        s₂ .sums drawing,
+                        s₃ .sums drawing,
+                      );
+                  serves = λ xs a. (omega (arith, below, ap ticketOf g), a);
+                };
+          }
 
     waits-here : (g : Phase) → isWaiting g ≡ true → stand t g ≡ 1 → g ≡ Waiting t
     unfolding pick isOneOf
@@ -412,21 +463,21 @@ module _ (k : ℕ) (m : Queue) (p : ℕ) (l : p < m .parties) (inv : Inv k m) wh
     waits-here (ResumingAt v) y o = cc
 
     handing : (a : Place) (w u z : Bool) → m .cells t ≡ a
-      → isWaiting (byWaiter Free (phaseIn (m .phases)) a) ≡ w
-      → Good k Step p m (ResumingAt t) (step (ResumingAt t) a w u z (look m p))
+        → isWaiting (byWaiter Free (phaseIn (m .phases)) a) ≡ w
+        → Good k Step p m (ResumingAt t) (step (ResumingAt t) a w u z (look m p))
     unfolding step pick isOneOf isPlace phaseAfter phasesAfter counterAfter servedAfter
     handing Empty w u z i y =
         place-row k m p l inv t e i reach (omega (arith, same-self t, held Empty i))
-          (omega arith) tt (omega arith) (refl, refl, refl, refl) (λ xs a. a)
+        (omega arith) tt (omega arith) (refl, refl, refl, refl) (λ xs a. a)
     handing (WaitedBy q) true u z i y =
         wakes q i (waits-here (phaseIn (m .phases) q) y (inv .named t q i)) u z
     handing (WaitedBy q) false u z i y = delegated q u z i y
     handing Cancelled w u z i y =
         place-row k m p l inv t e i reach (omega (arith, same-self t, held Cancelled i))
-          (omega arith) tt (omega arith) (refl, refl, refl, refl) (λ xs a. a)
+        (omega arith) tt (omega arith) (refl, refl, refl, refl) (λ xs a. a)
     handing Refused w u z i y =
         place-row k m p l inv t e i reach (omega (arith, same-self t, held Refused i))
-          (omega arith) tt (omega arith) (refl, refl, refl, refl) (λ xs a. a)
+        (omega arith) tt (omega arith) (refl, refl, refl, refl) (λ xs a. a)
     handing Permit w u z i y =
         let b : ⊥ = omega (arith, held Permit i, lt-le t (m .resumed)) in absurd b
     handing Done w u z i y =
@@ -434,14 +485,14 @@ module _ (k : ℕ) (m : Queue) (p : ℕ) (l : p < m .parties) (inv : Inv k m) wh
 
   -- The place that a party sees is the cell of its ticket.
   seen : (f : Phase) → phaseIn (m .phases) p ≡ f
-    → byTicket Empty (m .cells) f ≡ look m p .place
+      → byTicket Empty (m .cells) f ≡ look m p .place
   seen f e = sym (ap (byTicket Empty (m .cells)) e)
 
   step-good : (f : Phase) (a : Place) (w u z : Bool) → phaseIn (m .phases) p ≡ f
-    → byTicket Empty (m .cells) f ≡ a → look m p .place ≡ a
-    → isWaiting (byWaiter Free (phaseIn (m .phases)) a) ≡ w
-    → aboveZero (m .counter) ≡ u → belowZero (m .counter) ≡ z
-    → Good k Step p m f (step f a w u z (look m p))
+      → byTicket Empty (m .cells) f ≡ a → look m p .place ≡ a
+      → isWaiting (byWaiter Free (phaseIn (m .phases)) a) ≡ w
+      → aboveZero (m .counter) ≡ u → belowZero (m .counter) ≡ z
+      → Good k Step p m f (step f a w u z (look m p))
   unfolding step
   step-good Free a w u z e i j y x v = refl
   step-good Holding a w u z e i j y x v = refl
@@ -458,14 +509,14 @@ module _ (k : ℕ) (m : Queue) (p : ℕ) (l : p < m .parties) (inv : Inv k m) wh
 
   -- The three other calls.
   acquire-good : (f : Phase) (b : Bool) → phaseIn (m .phases) p ≡ f
-    → leb MAX-BEGUN (m .begun) ≡ b
-    → Good k Acquire p m f (acquire (isFree f) b false (look m p))
+      → leb MAX-BEGUN (m .begun) ≡ b
+      → Good k Acquire p m f (acquire (isFree f) b false (look m p))
   unfolding acquire pick isOneOf isPlace phaseAfter phasesAfter counterAfter servedAfter
   acquire-good Free true e i = refl
   acquire-good Free false e i =
       let j = leb-false MAX-BEGUN (m .begun) i in
       phase-row k m p l inv (m .issued) e refl (omega (arith, inv .at (m .issued)))
-        (omega arith) (omega arith) (refl, refl, refl, refl) (λ xs a. a)
+      (omega arith) (omega arith) (refl, refl, refl, refl) (λ xs a. a)
   acquire-good Holding b e i = refl
   acquire-good (Waiting t) b e i = refl
   acquire-good Acquiring b e i = refl
@@ -479,15 +530,15 @@ module _ (k : ℕ) (m : Queue) (p : ℕ) (l : p < m .parties) (inv : Inv k m) wh
   acquire-good (ResumingAt t) b e i = refl
 
   cancel-good : (f : Phase) (b : Bool) → phaseIn (m .phases) p ≡ f
-    → Good k Cancel p m f (cancel (isWaiting f) b (ticketOf f) (look m p))
+      → Good k Cancel p m f (cancel (isWaiting f) b (ticketOf f) (look m p))
   unfolding cancel pick isOneOf isPlace phaseAfter phasesAfter counterAfter servedAfter
   cancel-good (Waiting t) true e = refl
   cancel-good (Waiting t) false e =
       let b = look m p .place in
       place-row k m p l inv t e (seen (Waiting t) e) (few t _ e (owns t))
-        (omega (arith, same-self t, known t _ e (owns t) b (seen (Waiting t) e), least-le b))
-        (omega arith) (names-same p t (Aborting t) b (same-self t)) (omega arith)
-        (refl, refl, refl, refl) (λ xs a. a)
+      (omega (arith, same-self t, known t _ e (owns t) b (seen (Waiting t) e), least-le b))
+      (omega arith) (names-same p t (Aborting t) b (same-self t)) (omega arith)
+      (refl, refl, refl, refl) (λ xs a. a)
   cancel-good Free b e = refl
   cancel-good Holding b e = refl
   cancel-good Acquiring b e = refl
@@ -501,11 +552,11 @@ module _ (k : ℕ) (m : Queue) (p : ℕ) (l : p < m .parties) (inv : Inv k m) wh
   cancel-good (ResumingAt t) b e = refl
 
   release-good : (f : Phase) → phaseIn (m .phases) p ≡ f
-    → Good k Release p m f (release (isHolding f) (look m p))
+      → Good k Release p m f (release (isHolding f) (look m p))
   unfolding release pick isOneOf isPlace phaseAfter phasesAfter counterAfter servedAfter
   release-good Holding e =
       phase-row k m p l inv (m .issued) e refl (omega (arith, inv .at (m .issued)))
-        (omega arith) (omega arith) (refl, refl, refl, refl) (λ xs a. a)
+      (omega arith) (omega arith) (refl, refl, refl, refl) (λ xs a. a)
   release-good Free e = refl
   release-good (Waiting t) e = refl
   release-good Acquiring e = refl

@@ -140,28 +140,28 @@ within [] l = true
 within (x ∷ xs) l = among (map rank l) (rank x) && within xs l
 
 in-longer : (xs l : List Phase) (r : ℕ) → within xs l ≡ true
-  → among (map rank xs) r ≡ true → among (map rank l) r ≡ true
+    → among (map rank xs) r ≡ true → among (map rank l) r ≡ true
 in-longer [] l r e i = cc
 in-longer (x ∷ xs) l r e i =
     go (eqb r (rank x)) refl (among (map rank l) (rank x)) refl e i (in-longer xs l r)
   where
     go : (b : Bool) → eqb r (rank x) ≡ b → (d : Bool) → among (map rank l) (rank x) ≡ d
-      → d && within xs l ≡ true → b || among (map rank xs) r ≡ true
-      → (within xs l ≡ true → among (map rank xs) r ≡ true → among (map rank l) r ≡ true)
-      → among (map rank l) r ≡ true
+        → d && within xs l ≡ true → b || among (map rank xs) r ≡ true
+        → (within xs l ≡ true → among (map rank xs) r ≡ true → among (map rank l) r ≡ true)
+        → among (map rank l) r ≡ true
     go b z false y w v ih = cc
     go true z true y w v ih = ap (among (map rank l)) (eqb-true r (rank x) z) ∙ y
     go false z true y w v ih = ih w v
 
 pub pick-le : (l l′ : List Phase) (g g′ : ℕ → ℕ) → within l l′ ≡ true → ((u : ℕ) → g u ≤ g′ u)
-  → (f : Phase) → pick l g f ≤ pick l′ g′ f
+    → (f : Phase) → pick l g f ≤ pick l′ g′ f
 unfolding pick isOneOf
 pick-le l l′ g g′ e i f =
     go (among (map rank l) (rank f)) refl (among (map rank l′) (rank f)) refl
   where
     go : (b : Bool) → among (map rank l) (rank f) ≡ b
-      → (d : Bool) → among (map rank l′) (rank f) ≡ d
-      → cond b (g (ticketOf f)) 0 ≤ cond d (g′ (ticketOf f)) 0
+        → (d : Bool) → among (map rank l′) (rank f) ≡ d
+        → cond b (g (ticketOf f)) 0 ≤ cond d (g′ (ticketOf f)) 0
     go false z d y = omega arith
     go true z true y = i (ticketOf f)
     go true z false y = let w : true ≡ false = sym (in-longer l l′ (rank f) e z) ∙ y in absurd (apart w)

@@ -1,7 +1,7 @@
 -- The tidying's loops end by themselves: each turn leaves one cancelled, or one done, place less.
 use Prim.Native.Nat.{ℕ, zero, suc, _+_, _≤_, _<_}
 use mathlib.Core.Path.{_≡_, refl, ap}
-use mathlib.Core.Bool.{Bool, true, false, _&&_}
+use mathlib.Core.Bool.{Bool, true, false}
 use mathlib.Core.List.{List}
 use native.Mathlib.Omega.{arith}
 use lib.Dec.{ltb}
@@ -13,16 +13,13 @@ use Rattle.hub.specs.Basics.{bit, count}
 use Rattle.hub.specs.Phases.{isPlace, isCancelled, isDone}
 use Rattle.hub.specs.Record.{PLACES, readPlace, writePlace, placesOf}
 use Rattle.hub.specs.Reclaim.{LoopsEnd, canSkip, skipped, skip, canRetire, retired, retire}
+use Rattle.hub.proofs.Laws.Bools.{second}
 use Rattle.hub.proofs.Laws.Lists.{weight-length}
 use Rattle.hub.proofs.Laws.Places.{written-size, written-count}
 
 at-resumed : (h : Hub) → canSkip h ≡ true
     → isCancelled (readPlace (h .places) (h .resumed)) ≡ true
 at-resumed h e = second (ltb (h .resumed) (h .oldest + PLACES)) _ e
-  where
-    second : (a b : Bool) → a && b ≡ true → b ≡ true
-    second true b e = e
-    second false b e = cc
 
 -- A test that a place passes, and that what is written there does not, holds of one place less.
 fewer : (l : List PlaceSlot) → length l ≡ PLACES → (t : ℕ) (a : Place) (f : Place → Bool)

@@ -13,7 +13,7 @@ unfolding readPhase
 read-phase l p = sym (List·getD-map (λ (s : PartySlot). s .phase) l p (record { phase = Phase.Free }))
 
 pub write-phase : (l : List PartySlot) (p : ℕ) (f : Phase)
-  → phasesOf (writePhase l p f) ≡ set (phasesOf l) p f
+    → phasesOf (writePhase l p f) ≡ set (phasesOf l) p f
 unfolding writePhase
 write-phase [] p f = refl
 write-phase (s ∷ l) zero f = refl

@@ -43,7 +43,7 @@ use Rattle.hub.proofs.Invariant.Schedules.{is-cancelled, skipped-inv}
 -- A phase has a ticket, which then is owned or handed, or it has none.
 pub data Tickets (f : Phase) : Type 1 where
   with : (t : ℕ) → 1 ≤ own t f + hand t f
-    → ((A : Type 0) (z : A) (g : ℕ → A) → byTicket z g f ≡ g t) → Tickets f
+      → ((A : Type 0) (z : A) (g : ℕ → A) → byTicket z g f ≡ g t) → Tickets f
   without : ((A : Type 0) (z : A) (g : ℕ → A) → byTicket z g f ≡ z) → Tickets f
 
 pub tickets : (f : Phase) → Tickets f
@@ -78,36 +78,55 @@ module _ (k : ℕ) (h : Hub) (m : Queue) (r : Reached k h m) where
       go : (o : ℕ) → h .oldest ≡ o → (o ≤ m .issued) × (o ≤ m .resumed)
       go zero e = omega arith
       go (suc o) e =
-          let c : m .cells o ≡ Done = r .shows .window .before o (omega arith) in
-          (lt-pos o (m .issued) (omega (arith, r .inv .at o .owned, ap spent c)),
-           lt-pos o (m .resumed) (omega (arith, r .inv .at o .handed, ap served c)))
+          let c : m .cells o ≡ Done = r .shows .window .before o (omega arith) in (
+            lt-pos o (m .issued) (omega (arith, r .inv .at o .owned, ap spent c)),
+            lt-pos o (m .resumed) (omega (arith, r .inv .at o .handed, ap served c)),
+          )
 
   pub high : (m .issued ≤ h .oldest + PLACES) × (m .resumed ≤ h .oldest + PLACES)
   high = omega (arith, r .room, r .inv .line, drawing-most k m (r .inv))
 
   -- A ticket with an owner or a hand has a place: one that is done has neither.
   pub has-place : (p t : ℕ) → 1 ≤ own t (phaseIn (m .phases) p) + hand t (phaseIn (m .phases) p)
-    → (h .oldest ≤ t) × (t < h .oldest + PLACES)
+      → (h .oldest ≤ t) × (t < h .oldest + PLACES)
   unfolding isPlace pick isOneOf
   has-place p t o = (go (decLe (h .oldest) t), below (decLe 1 (own t (phaseIn (m .phases) p))))
     where
       owner : own t (phaseIn (m .phases) p) ≤ sum (own t) m
       owner = one-in k m (r .inv) (own t) p (phaseIn (m .phases) p) refl refl
+
       holder : hand t (phaseIn (m .phases) p) ≤ sum (hand t) m
       holder = one-in k m (r .inv) (hand t) p (phaseIn (m .phases) p) refl refl
+
       go : Dec (h .oldest ≤ t) → h .oldest ≤ t
       go (yes i) = i
       go (no i) =
           let c : m .cells t ≡ Done = r .shows .window .before t (omega arith) in
-          omega (arith, owner, holder, r .inv .at t .owned, r .inv .at t .handed, ap spent c,
-            ap served c, lt-le t (m .issued), lt-le t (m .resumed))
+          omega (
+            arith,
+            owner,
+            holder,
+            r .inv .at t .owned,
+            r .inv .at t .handed,
+            ap spent c,
+            ap served c,
+            lt-le t (m .issued),
+            lt-le t (m .resumed),
+          )
+
       below : Dec (1 ≤ own t (phaseIn (m .phases) p)) → t < h .oldest + PLACES
       below (yes i) =
-          omega (arith, high,
-            lt-pos t (m .issued) (omega (arith, owner, r .inv .at t .owned)))
+          omega (
+            arith,
+            high,
+            lt-pos t (m .issued) (omega (arith, owner, r .inv .at t .owned)),
+          )
       below (no i) =
-          omega (arith, high,
-            lt-pos t (m .resumed) (omega (arith, holder, r .inv .at t .handed)))
+          omega (
+            arith,
+            high,
+            lt-pos t (m .resumed) (omega (arith, holder, r .inv .at t .handed)),
+          )
 
   -- What the party sees is what it would see at the queue.
   pub read-same : (p : ℕ) → readPhase (h .slots) p ≡ phaseIn (m .phases) p
@@ -115,22 +134,22 @@ module _ (k : ℕ) (h : Hub) (m : Queue) (r : Reached k h m) where
       read-phase (h .slots) p ∙ ap (λ (l : List Phase). phaseIn l p) (r .shows .phases)
 
   place-same : (p : ℕ)
-    → byTicket Empty (readPlace (h .places)) (readPhase (h .slots) p)
+      → byTicket Empty (readPlace (h .places)) (readPhase (h .slots) p)
       ≡ byTicket Empty (m .cells) (phaseIn (m .phases) p)
   place-same p =
       ap (byTicket Empty (readPlace (h .places))) (read-same p) ∙ go (tickets (phaseIn (m .phases) p))
     where
       go : Tickets (phaseIn (m .phases) p)
-        → byTicket Empty (readPlace (h .places)) (phaseIn (m .phases) p)
+          → byTicket Empty (readPlace (h .places)) (phaseIn (m .phases) p)
           ≡ byTicket Empty (m .cells) (phaseIn (m .phases) p)
       go (with t o b) =
           let w = has-place p t o in
           b Place Empty (readPlace (h .places)) ∙ sym (r .shows .window .within t (w .0) (w .1))
-            ∙ sym (b Place Empty (m .cells))
+          ∙ sym (b Place Empty (m .cells))
       go (without b) = b Place Empty (readPlace (h .places)) ∙ sym (b Place Empty (m .cells))
 
   waiter-same : (a : Place)
-    → byWaiter Free (readPhase (h .slots)) a ≡ byWaiter Free (phaseIn (m .phases)) a
+      → byWaiter Free (readPhase (h .slots)) a ≡ byWaiter Free (phaseIn (m .phases)) a
   waiter-same Empty = refl
   waiter-same (WaitedBy q) = read-same q
   waiter-same Permit = refl
@@ -141,10 +160,16 @@ module _ (k : ℕ) (h : Hub) (m : Queue) (r : Reached k h m) where
   pub look-same : (p : ℕ) → look h p ≡ queue.look m p
   unfolding look
   look-same p = λ i.
-      record
-        { party = p; kind = kindOf p; phase = read-same p i; place = place-same p i;
-          waiter =
+      record {
+        party = p;
+        kind = kindOf p;
+        phase = read-same p i;
+        place = place-same p i;
+        waiter =
             (waiter-same (byTicket Empty (readPlace (h .places)) (readPhase (h .slots) p))
-              ∙ ap (byWaiter Free (phaseIn (m .phases))) (place-same p)) i;
-          counter = r .shows .counter i; issued = r .shows .issued i;
-          resumed = r .shows .resumed i; begun = r .shows .begun i }
+            ∙ ap (byWaiter Free (phaseIn (m .phases))) (place-same p)) i;
+        counter = r .shows .counter i;
+        issued = r .shows .issued i;
+        resumed = r .shows .resumed i;
+        begun = r .shows .begun i;
+      }

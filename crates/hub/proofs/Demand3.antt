@@ -1,0 +1,318 @@
+-- The third demand, that every record reached fits, and that the hub refines the queue.
+use Prim.Native.Nat.{ℕ, zero, suc, _+_, _-_, _%_, _≤_, _<_}
+use mathlib.Core.Path.{_≡_, refl, sym, ap, ap₂, subst, _∙_}
+use mathlib.Core.Bool.{Bool, true, false, cond}
+use mathlib.Core.List.{List, [], _∷_}
+use native.Mathlib.Omega.{arith}
+use borrow.Author.Tests.{leb-true, eqb-true, lt-ltb}
+use lib.Dec.{leb}
+use lib.IntN.{pos}
+use lib.ListN.{length, getD, replicate, length-map}
+use Rattle.hub.specs.declared.answers.Answer.{Answer}
+use Rattle.hub.specs.declared.answers.Refusal.{Refusal}
+use Rattle.hub.specs.declared.moves.Call.{Call}
+use Rattle.hub.specs.declared.record.Hub.{Hub}
+use Rattle.hub.specs.declared.record.Outcome.{Outcome}
+use Rattle.hub.specs.declared.record.Phase.{Phase}
+use Rattle.hub.specs.declared.record.Place.{Place}
+use Rattle.hub.specs.declared.record.PlaceSlot.{PlaceSlot}
+use Rattle.hub.specs.Answers.{printed}
+use Rattle.hub.specs.Basics.{weight, count, upTo32}
+use Rattle.hub.specs.Calls.{called, moveOf, answerOf, apply}
+use Rattle.hub.specs.Demand3.{Accounts, Calm, Demand3, ReachedFits}
+use Rattle.hub.specs.Fits.{fits, look}
+use Rattle.hub.specs.Ledger.{Ledger, opened, phaseIn, enter, ledger}
+use Rattle.hub.specs.Opening.{fresh, openingIf, opening}
+use Rattle.hub.specs.Phases.{isOneOf, isPlace, isPermit, isRefused}
+use Rattle.hub.specs.Queue.{Queue}
+use Rattle.hub.specs.Queue as queue
+use Rattle.hub.specs.Record.{PLACES, PARTIES, readPlace, placesOf}
+use Rattle.hub.specs.Refinement.{Window, Shows, isSeven, heard, withoutSevens, Refines}
+use Rattle.hub.specs.Schedule.{run, answers, entries}
+use Rattle.hub.proofs.Laws.Bools.{first, second, if-true}
+use Rattle.hub.proofs.Laws.Lists.{weight-replicate, weight-map}
+use Rattle.hub.proofs.Laws.Places.{next-round}
+use Rattle.hub.proofs.Laws.Ranges.{sumFrom, sum-zero, sum-same, sum-split, sum-rotate}
+use Rattle.hub.proofs.Laws.Ranges.{sum-list}
+use Rattle.hub.proofs.Invariant.Weights.{up, pick, one, count-pick, holding, resuming}
+use Rattle.hub.proofs.Invariant.Weights.{refusing, drawing, permitCell, refusedCell, sum}
+use Rattle.hub.proofs.Invariant.Weights.{cellSum, TICKETS}
+use Rattle.hub.proofs.Invariant.Keep.{Inv}
+use Rattle.hub.proofs.Invariant.Rows.{near}
+use Rattle.hub.proofs.Invariant.Walk.{all-more}
+use Rattle.hub.proofs.Invariant.Schedules.{Agrees, entered, next-good}
+use Rattle.hub.proofs.Invariant.Schedules.{fresh-inv, fresh-agrees}
+use Rattle.hub.proofs.Invariant.Rest.{held-most, way-whole, standing, all-held}
+use Rattle.hub.proofs.Window.Shown.{Reached, low}
+use Rattle.hub.proofs.Window.Reached.{reached-fits}
+use Rattle.hub.proofs.Window.Followed.{Follows, follows}
+
+-- An opening that is accepted is within bounds, and its record is fresh.
+pub record Opened (k n : ℕ) : Type 0 where
+  pub permits : (1 ≤ k) × (k ≤ 32)
+  pub parties : (1 ≤ n) × (n ≤ 32)
+  pub hub : opening k n .hub ≡ fresh k n
+
+accepted : (k n : ℕ) → opening k n .answer ≡ Answer.Opened → Opened k n
+unfolding openingIf
+accepted k n = go (upTo32 k) (upTo32 n) refl refl
+  where
+    range : (x : ℕ) → upTo32 x ≡ true → (1 ≤ x) × (x ≤ 32)
+    range x e = (leb-true 1 x (first (leb 1 x) _ e), leb-true x 32 (second (leb 1 x) _ e))
+
+    go : (a b : Bool) → upTo32 k ≡ a → upTo32 n ≡ b
+        → openingIf a b k n .answer ≡ Answer.Opened → Opened k n
+    go false b x y e = let z : _≡_ {A = ℕ} 0 1 = cc in let w : ⊥ = omega arith in absurd w
+    go true false x y e = let z : _≡_ {A = ℕ} 0 1 = cc in let w : ⊥ = omega arith in absurd w
+    go true true x y e =
+        record {
+          permits = range k x;
+          parties = range n y;
+          hub = ap₂ (λ (a b : Bool). openingIf a b k n .hub) x y;
+        }
+
+-- A fresh record shows a fresh queue.
+fresh-reached : (k n : ℕ) → 1 ≤ n → n ≤ PARTIES → Reached k (fresh k n) (queue.fresh k n)
+unfolding fresh queue.fresh readPlace pick isOneOf
+fresh-reached k n a b =
+    record {
+      permits = refl;
+      size = refl;
+      inv = fresh-inv k n a b;
+      room = omega (arith, weight-replicate drawing Phase.Free refl PARTIES);
+      shows =
+          record {
+            parties = refl;
+            counter = refl;
+            issued = refl;
+            resumed = refl;
+            begun = refl;
+            phases = refl;
+            window =
+                record {
+                  before = λ t i. (let z : ⊥ = omega arith in absurd z);
+                  within = λ t i j. ap (λ (s : PlaceSlot). s .place) (sym (bare PLACES (t % PLACES)));
+                  beyond = λ t i. refl;
+                };
+          };
+    }
+  where
+    empty : PlaceSlot
+    empty = record { place = Place.Empty }
+
+    bare : (n i : ℕ) → getD (replicate n empty) i empty ≡ empty
+    bare zero i = refl
+    bare (suc n) zero = refl
+    bare (suc n) (suc i) = bare n i
+
+-- A 7 moves nobody.
+seven-same : (e : Ledger) (c : Call) (r : Answer) → isSeven r ≡ true → entered e c r ≡ e
+unfolding enter
+seven-same e c r i =
+    if-true _ e _ (lt-ltb (printed r .code) 0x20 (omega (arith, eqb-true (printed r .code) 7 i)))
+
+-- Whatever a schedule does, its record is reached, and the ledger of its entries agrees with the
+-- queue that the record shows.
+module _ (k : ℕ) (k₁ : 1 ≤ k) (k₂ : k ≤ 32) where
+  pub record Account (h : Hub) (e : Ledger) : Type 0 where
+    pub queue : Queue
+    pub reached : Reached k h queue
+    pub agrees : Agrees e queue
+
+  one-call : (h : Hub) (e : Ledger) (c : Call) → Account h e
+      → Account (called h c .hub) (entered e c (called h c .answer))
+  one-call h e c x = go (isSeven (called h c .answer)) refl
+    where
+      f : Follows k h (x .queue) c (look h (c .party)) (moveOf h c)
+      f = follows k h (x .queue) (x .reached) c k₁ k₂
+
+      go : (b : Bool) → isSeven (called h c .answer) ≡ b
+          → Account (called h c .hub) (entered e c (called h c .answer))
+      go true i =
+          record {
+            queue = x .queue;
+            reached =
+                subst (λ (g : Hub). Reached k g (x .queue)) (sym (f .seven i)) (x .reached);
+            agrees =
+                subst (λ (l : Ledger). Agrees l (x .queue)) (sym (seven-same e c (called h c .answer) i))
+                (x .agrees);
+          }
+      go false i =
+          let a = f .alike i in
+          let n = next-good k (x .queue) (x .reached .inv) c e (x .agrees) in
+          record {
+            queue = queue.next (x .queue) c;
+            reached = a .0;
+            agrees =
+                subst (λ (r : Answer). Agrees (entered e c r) (queue.next (x .queue) c))
+                (sym (a .1)) (n .1);
+          }
+
+  every-call : (h : Hub) (e : Ledger) (cs : List Call) → Account h e
+      → Account (run h cs) (ledger e (entries h cs))
+  unfolding run ledger entries
+  every-call h e [] x = x
+  every-call h e (c ∷ cs) x = every-call (called h c .hub) _ cs (one-call h e c x)
+
+-- A count of cells that are neither empty nor done is the count over the places.
+ring-sum : (o : ℕ) (l : List PlaceSlot) (g : ℕ → Place) → Window o l g → length l ≡ PLACES
+    → o + PLACES ≤ TICKETS → (w : Place → ℕ) → w Place.Empty ≡ 0 → w Place.Done ≡ 0
+    → sumFrom (λ t. w (g t)) 0 TICKETS ≡ weight w (placesOf l)
+unfolding readPlace
+ring-sum o l g v s b w x y =
+    omega (
+      arith,
+      sum-split f 0 o (PLACES + rest) TICKETS (omega arith),
+      sum-split f (0 + o) PLACES rest (PLACES + rest) refl,
+      sum-zero f 0 o (λ t i j. ap w (v .before t (omega arith)) ∙ y),
+      sum-zero f (0 + o + PLACES) rest (λ t i j. ap w (v .beyond t (omega arith)) ∙ x),
+      sum-same f z (0 + o) PLACES (λ t i j. ap w (v .within t (omega arith) (omega arith))),
+      sum-rotate z PLACES (λ t. ap w (next-round l t)) (0 + o),
+      subst (λ (n : ℕ). sumFrom z 0 n ≡ weight (λ (q : PlaceSlot). w (q .place)) l) s
+          (sum-list (λ (q : PlaceSlot). w (q .place)) (record { place = Place.Empty }) l 0 z
+          (λ j i. ap (λ (n : ℕ). w ((getD l n (record { place = Place.Empty })) .place))
+          (small j (subst (λ (n : ℕ). j < n) s i)))),
+      weight-map w (λ (q : PlaceSlot). q .place) l,
+    )
+  where
+    f : ℕ → ℕ
+    f t = w (g t)
+
+    z : ℕ → ℕ
+    z t = w (readPlace l t)
+
+    rest : ℕ
+    rest = TICKETS - (o + PLACES)
+
+    small : (j : ℕ) → j < PLACES → (0 + j) % PLACES ≡ j
+    small j i = omega arith
+
+-- What the account of a schedule comes to.
+accounts : (k : ℕ) (h : Hub) (m : Queue) (e : Ledger) → Reached k h m → Agrees e m
+    → Accounts k e h
+unfolding isPlace
+accounts k h m e r a =
+    let near-end : h .oldest + PLACES ≤ TICKETS = omega (arith, low k h m r, near k m (r .inv)) in
+    let bring : count (isOneOf (Phase.Resuming ∷ Phase.ResumingAt 0 ∷ [])) (e .phases)
+    ≡ sum resuming m =
+    count-pick _ (e .phases) ∙ ap (weight resuming) (a .phases) in
+    let decline : count (isOneOf (Phase.Refusing 0 ∷ [])) (e .phases) ≡ sum refusing m =
+    count-pick _ (e .phases) ∙ ap (weight refusing) (a .phases) in
+    let hold : count (isOneOf (Phase.Holding ∷ Phase.Releasing ∷ [])) (e .phases)
+    ≡ sum holding m =
+    count-pick _ (e .phases) ∙ ap (weight holding) (a .phases) in
+    let whole = way-whole k m (r .inv) in
+    record {
+      sum =
+          omega (
+            arith,
+            a .held,
+            a .permits,
+            a .refusals,
+            r .inv .permits,
+            bring,
+            decline,
+            ap up (a .counter),
+            whole,
+          );
+      heldWhole = omega (arith, a .held);
+      permitsWhole = omega (arith, a .permits);
+      refusedWhole = omega (arith, a .refusals);
+      wayWhole = omega (arith, a .permits, a .refusals, bring, decline, whole);
+      phases = r .shows .phases ∙ sym (a .phases);
+      counter = r .shows .counter ∙ sym (a .counter);
+      permits =
+          omega (
+            arith,
+            a .permits,
+            ring-sum (h .oldest) (h .places) (m .cells) (r .shows .window) (r .size) near-end
+                permitCell refl refl,
+          );
+      refusals =
+          omega (
+            arith,
+            a .refusals,
+            ring-sum (h .oldest) (h .places) (m .cells) (r .shows .window) (r .size) near-end
+                refusedCell refl refl,
+          );
+      holders = omega (arith, a .held, hold);
+      most = omega (arith, a .held, held-most k m (r .inv));
+      calm = λ q p t i.
+          let rest : Calm (m .phases) = subst Calm (a .phases) q in
+          let z : phaseIn (m .phases) p ≡ Phase.Waiting t =
+          ap (λ (l : List Phase). phaseIn l p) (sym (a .phases)) ∙ i in (
+            omega (arith, a .held, all-held k m (r .inv) rest p t z),
+            all-more (m .resumed) t (standing k m (r .inv) rest p t z) (e .served) (a .served),
+          );
+    }
+
+-- From an accepted opening.
+module _ (k n : ℕ) (o : opening k n .answer ≡ Answer.Opened) where
+  start : Opened k n
+  start = accepted k n o
+
+  first-reached : Reached k (opening k n .hub) (queue.fresh k n)
+  first-reached =
+      subst (λ (h : Hub). Reached k h (queue.fresh k n)) (sym (start .hub))
+      (fresh-reached k n (start .parties .0) (start .parties .1))
+
+  schedule : (cs : List Call)
+      → Account k (start .permits .0) (start .permits .1) (run (opening k n .hub) cs)
+      (ledger (opened k) (entries (opening k n .hub) cs))
+  schedule cs =
+      every-call k (start .permits .0) (start .permits .1) (opening k n .hub) (opened k) cs
+      (record
+      { queue = queue.fresh k n; reached = first-reached; agrees = fresh-agrees k n })
+
+pub demand3 : Demand3
+unfolding Demand3
+demand3 k n o cs =
+    let x = schedule k n o cs in
+    accounts k _ (x .queue) _ (x .reached) (x .agrees)
+
+pub every-record-fits : ReachedFits
+unfolding ReachedFits
+every-record-fits k n o cs =
+    let x = schedule k n o cs in
+    let s = start k n o in
+    reached-fits k _ (x .queue) (x .reached) (s .permits .0) (s .permits .1)
+
+-- The queue on the calls that were heard gives the other answers, and the record shows it.
+module _ (k : ℕ) (k₁ : 1 ≤ k) (k₂ : k ≤ 32) where
+  refined : (h : Hub) (m : Queue) (cs : List Call) → Reached k h m
+      → Shows (run h cs) (queue.run m (heard h cs))
+      × (withoutSevens (answers h cs) ≡ queue.answers m (heard h cs))
+  unfolding run answers heard withoutSevens queue.run queue.answers
+  refined h m [] r = (r .shows, refl)
+  refined h m (c ∷ cs) r =
+      go (isSeven (called h c .answer)) refl
+      (λ e. refined (called h c .hub) m cs
+      (subst (λ (g : Hub). Reached k g m) (sym (f .seven e)) r))
+      (λ e. refined (called h c .hub) (queue.next m c) cs (f .alike e .0))
+    where
+      f : Follows k h m c (look h (c .party)) (moveOf h c)
+      f = follows k h m r c k₁ k₂
+
+      rest : List Call
+      rest = heard (called h c .hub) cs
+
+      others : List Answer
+      others = withoutSevens (answers (called h c .hub) cs)
+
+      go : (b : Bool) → isSeven (called h c .answer) ≡ b
+          → (isSeven (called h c .answer) ≡ true
+          → Shows (run (called h c .hub) cs) (queue.run m rest) × (others ≡ queue.answers m rest))
+          → (isSeven (called h c .answer) ≡ false
+          → Shows (run (called h c .hub) cs) (queue.run (queue.next m c) rest)
+          × (others ≡ queue.answers (queue.next m c) rest))
+          → Shows (run (called h c .hub) cs) (queue.run m (cond b rest (c ∷ rest)))
+          × (cond b others (called h c .answer ∷ others) ≡ queue.answers m (cond b rest (c ∷ rest)))
+      go true e x y = x e
+      go false e x y = (y e .0, ap₂ _∷_ (f .alike e .1) (y e .1))
+
+pub refines : Refines
+unfolding Refines
+refines k n o cs =
+    let s = start k n o in
+    refined k (s .permits .0) (s .permits .1) (opening k n .hub) (queue.fresh k n) cs
+    (first-reached k n o)
