@@ -9,11 +9,10 @@ use Rattle.hub.specs.Reclaim.{skip, retire, reclaimed}
 use Rattle.hub.specs.Fits.{look, counterFits, countsFit, ticketFits, partyFits, placeFits, fits}
 use Rattle.hub.specs.Opening.{fresh, openingIf}
 use Rattle.hub.specs.Calls.{checked, apply}
-use Rattle.hub.specs.Schedule.{run}
-use Rattle.hub.specs.Edges.{EdgesHold, edges, follows, holdsAt, allHold}
+use Rattle.hub.specs.Edges.{EdgesHold, edges, goes, holdsAt, allHold}
 
 pub edges-hold : EdgesHold
-unfolding EdgesHold edges follows holdsAt allHold run checked apply fresh openingIf
+unfolding EdgesHold edges goes holdsAt allHold checked apply fresh openingIf
     look counterFits countsFit ticketFits partyFits placeFits fits skip retire reclaimed
     step acquire cancel release decide isOneOf isPlace readPhase writePhase readPlace writePlace
     kindOf weight allFrom
