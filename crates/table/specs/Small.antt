@@ -1,0 +1,16 @@
+-- Figures that leave room for one more: what the code may assume of a record that fits.
+use Prim.Native.Nat.{ℕ, _≤_}
+use mathlib.Core.Path.{_≡_}
+use mathlib.Core.Bool.{true}
+use lib.IntN.{ℤ}
+use Rattle.hub.specs.declared.moves.Sight.{Sight}
+use Rattle.hub.specs.Fits.{counterFits}
+use Rattle.hub.specs.Record.{MAX-BEGUN}
+
+abbrev pub CounterFits : ℤ → Type 0
+CounterFits z = counterFits z ≡ true
+
+pub record Small (s : Sight) : Type 0 where
+  pub counter : CounterFits (s .counter)
+  pub issued : s .issued ≤ MAX-BEGUN
+  pub resumed : s .resumed ≤ MAX-BEGUN
