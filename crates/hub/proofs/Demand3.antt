@@ -19,14 +19,15 @@ use Rattle.hub.specs.declared.record.PlaceSlot.{PlaceSlot}
 use Rattle.hub.specs.Answers.{printed}
 use Rattle.hub.specs.Basics.{weight, count, upTo32}
 use Rattle.hub.specs.Calls.{called, moveOf, answerOf, apply}
+use Rattle.hub.specs.Counts.{countsOf, CountsAddUp}
 use Rattle.hub.specs.Demand3.{Accounts, Calm, Demand3, ReachedFits}
 use Rattle.hub.specs.Fits.{fits, look}
-use Rattle.hub.specs.Ledger.{Ledger, opened, phaseIn, enter, ledger}
+use Rattle.hub.specs.Ledger.{Ledger, opened, phaseIn, enter, ledger, atCounter}
 use Rattle.hub.specs.Opening.{fresh, openingIf, opening}
-use Rattle.hub.specs.Phases.{isOneOf, isPlace, isPermit, isRefused}
+use Rattle.hub.specs.Phases.{isOneOf, isPlace, holds, resumes, refuses}
 use Rattle.hub.specs.Queue.{Queue}
 use Rattle.hub.specs.Queue as queue
-use Rattle.hub.specs.Record.{PLACES, PARTIES, readPlace, placesOf}
+use Rattle.hub.specs.Record.{PLACES, PARTIES, readPlace, phasesOf, placesOf}
 use Rattle.hub.specs.Refinement.{Window, Shows, isSeven, heard, withoutSevens, Refines}
 use Rattle.hub.specs.Schedule.{run, answers, entries}
 use Rattle.hub.proofs.Laws.Bools.{first, second, if-true}
@@ -316,3 +317,30 @@ refines k n o cs =
     let s = start k n o in
     refined k (s .permits .0) (s .permits .1) (opening k n .hub) (queue.fresh k n) cs
     (first-reached k n o)
+
+-- What the record shows is what the ledger says.
+pub counts-add-up : CountsAddUp
+unfolding CountsAddUp countsOf Demand3
+counts-add-up k n o cs =
+    let d = demand3 k n o cs in
+    let h = run (opening k n .hub) cs in
+    let e = ledger (opened k) (entries (opening k n .hub) cs) in
+    let hold : count holds (phasesOf (h .slots)) ≡ count holds (e .phases) =
+    ap (count holds) (d .phases) in
+    let bring : count resumes (phasesOf (h .slots)) ≡ count resumes (e .phases) =
+    ap (count resumes) (d .phases) in
+    let decline : count refuses (phasesOf (h .slots)) ≡ count refuses (e .phases) =
+    ap (count refuses) (d .phases) in (
+      omega (
+        arith,
+        d .sum,
+        d .holders,
+        d .permits,
+        d .refusals,
+        hold,
+        bring,
+        decline,
+        ap atCounter (d .counter),
+      ),
+      omega (arith, d .wayWhole, d .permits, d .refusals, bring, decline),
+    )

@@ -13,6 +13,7 @@ pub mod Calls
 pub mod Schedule  -- a list of calls
 pub mod Ledger  -- "Counting links"
 pub mod Demand3  -- the third demand
+pub mod Counts  -- what a record shows
 pub mod Edges  -- "Edges"
 pub mod Queue  -- document 000's semaphore, and the hub beside it
 pub mod Refinement

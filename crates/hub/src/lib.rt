@@ -7,6 +7,7 @@ pub mod kinds; // the kind of each party
 pub mod answers; // what a call answers
 pub mod moves; // what a call looks at, and what it changes
 pub mod opening; // a fresh record
+pub mod counts; // what a record shows
 
 pub use answers::Answer;
 pub use answers::Refusal;

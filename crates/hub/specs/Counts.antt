@@ -1,0 +1,36 @@
+-- What a record shows of "Counting links".
+use Prim.Native.Nat.{ℕ, _+_, _-_}
+use mathlib.Core.Path.{_≡_}
+use mathlib.Core.List.{List}
+use Rattle.hub.specs.declared.answers.Answer.{Answer}
+use Rattle.hub.specs.declared.counts.Counts.{Counts}
+use Rattle.hub.specs.declared.moves.Call.{Call}
+use Rattle.hub.specs.declared.record.Hub.{Hub}
+use Rattle.hub.specs.Basics.{count}
+use Rattle.hub.specs.Ledger.{atCounter}
+use Rattle.hub.specs.Opening.{opening}
+use Rattle.hub.specs.Phases.{holds, resumes, refuses, isWaiting, isPermit, isRefused}
+use Rattle.hub.specs.Record.{phasesOf, placesOf}
+use Rattle.hub.specs.Schedule.{run}
+
+unfoldable pub countsOf : Hub → Counts
+countsOf h =
+    let phases = phasesOf (h .slots) in
+    let places = placesOf (h .places) in
+    let coming = count resumes phases + count isPermit places in
+    let declined = count refuses phases + count isRefused places in
+    record {
+      held = count holds phases;
+      available = atCounter (h .counter);
+      coming = coming;
+      declined = declined;
+      onway = coming - declined;
+      waiting = count isWaiting phases;
+    }
+
+-- On every schedule from an accepted opening they add up to K, and nothing is cut off.
+unfoldable pub CountsAddUp : Type 0
+CountsAddUp =
+    (k n : ℕ) → opening k n .answer ≡ Answer.Opened → (cs : List Call)
+    → let c = countsOf (run (opening k n .hub) cs) in
+    (c .held + c .available + c .onway ≡ k) × (c .onway + c .declined ≡ c .coming)
