@@ -1,5 +1,6 @@
 -- Laws of the definitions, by which callers know them.
 pub mod Bools
+pub mod Tags
 pub mod Lists
 pub mod Ranges
 pub mod Slots

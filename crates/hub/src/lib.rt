@@ -3,6 +3,7 @@
 // has its definitions, and every contract here cites one of them.
 
 pub mod record; // the record of a hub: phases, places, counters
+pub mod phases; // what is asked of a phase
 pub mod kinds; // the kind of each party
 pub mod answers; // what a call answers
 pub mod moves; // what a call looks at, and what it changes

@@ -45,7 +45,8 @@ fn refused(why: Refusal) -> Outcome
     }
 }
 
-fn up_to_32(n: u8) -> bool
+// 1 to 32, as K and n are.
+pub fn up_to_32(n: u8) -> bool
     ensures { λ r. ⌜ r ≡ upTo32 n ⌝ }
 {
     if n < 1 {

@@ -1,14 +1,14 @@
 // The three other calls: ask, give up, give back.
 
 use crate::changes::turned;
-use crate::phases::is_free;
-use crate::phases::is_holding;
 use hub::answers::Answer;
 use hub::answers::Refusal;
 use hub::moves::Change;
 use hub::moves::Move;
 use hub::moves::Op;
 use hub::moves::Sight;
+use hub::phases::is_free;
+use hub::phases::is_holding;
 use hub::record::Phase;
 ghost use mathlib.Core.Path.{_≡_};
 ghost use mathlib.Core.Bool.{false};

@@ -3,14 +3,14 @@
 use crate::changes::given;
 use crate::changes::placed;
 use crate::changes::taken;
-use crate::phases::above_zero;
-use crate::phases::below_zero;
-use crate::phases::is_waiting;
+use crate::counter::above_zero;
+use crate::counter::below_zero;
 use hub::answers::Answer;
 use hub::answers::Refusal;
 use hub::moves::Change;
 use hub::moves::Move;
 use hub::moves::Sight;
+use hub::phases::is_waiting;
 use hub::record::Phase;
 use hub::record::Place;
 ghost use mathlib.Core.Path.{_≡_};

@@ -1,9 +1,8 @@
-// What is asked of a phase and of the counter.
+// What is asked of a phase.
 
-use hub::record::Phase;
+use crate::record::Phase;
 ghost use mathlib.Core.Path.{_≡_};
 ghost use Rattle.hub.specs.Phases.{isFree, isHolding, isWaiting, ticketOf};
-ghost use Rattle.hub.specs.Table.{aboveZero, belowZero};
 
 pub fn is_free(phase: Phase) -> bool
     ensures { λ r. ⌜ r ≡ isFree phase ⌝ }
@@ -45,16 +44,4 @@ pub fn ticket(phase: Phase) -> u32
         Phase::ResumingAt(t) => t,
         _ => 0,
     }
-}
-
-pub fn above_zero(counter: i32) -> bool
-    ensures { λ r. ⌜ r ≡ aboveZero counter ⌝ }
-{
-    0 < counter
-}
-
-pub fn below_zero(counter: i32) -> bool
-    ensures { λ r. ⌜ r ≡ belowZero counter ⌝ }
-{
-    counter < 0
 }

@@ -1,0 +1,5 @@
+-- Laws of the definitions, by which the functions' proofs know them.
+pub mod Bools
+pub mod Ranges
+pub mod Variants
+pub mod Parts

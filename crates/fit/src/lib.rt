@@ -1,0 +1,242 @@
+// Does a record fit? The check of every clause, for any value of the type.
+
+use hub::opening::up_to_32;
+use hub::phases::is_free;
+use hub::phases::ticket;
+use hub::record::Hub;
+use hub::record::Phase;
+use hub::record::Place;
+ghost use mathlib.Core.Path.{_≡_};
+ghost use mathlib.Core.Bool.{_||_};
+ghost use Prim.Native.Nat.{_≤_};
+ghost use lib.Dec.{ltb};
+ghost use Rattle.hub.specs.Basics.{upTo32, allFrom};
+ghost use Rattle.hub.specs.Fits.{counterFits, countsFit, inWindow, ticketFits};
+ghost use Rattle.hub.specs.Fits.{partyFits, placeFits, standsAt};
+ghost use Rattle.hub.specs.Phases.{isFree, ticketOf};
+ghost use Rattle.fit.specs.Parts.{scalars, windowed, listedAt, partyTest};
+
+// −32 to 32.
+fn counter_fits(counter: i32) -> bool
+    ensures { λ r. ⌜ r ≡ counterFits counter ⌝ }
+{
+    if counter < -32 {
+        return false;
+    }
+    counter <= 32
+}
+
+// The counts, clause by clause.
+fn counts_fit(
+    permits: u8,
+    parties: u8,
+    counter: i32,
+    issued: u32,
+    resumed: u32,
+    begun: u32,
+    oldest: u32,
+) -> bool
+    ensures { λ r. ⌜ r ≡ countsFit (scalars permits parties counter issued resumed begun oldest) ⌝ }
+{
+    if !up_to_32(permits) {
+        return false;
+    }
+    if !up_to_32(parties) {
+        return false;
+    }
+    if !counter_fits(counter) {
+        return false;
+    }
+    if 1000000 < begun {
+        return false;
+    }
+    if 1000000 < issued {
+        return false;
+    }
+    if 1000000 < resumed {
+        return false;
+    }
+    if issued < oldest {
+        return false;
+    }
+    if resumed < oldest {
+        return false;
+    }
+    if oldest + 256 < issued {
+        return false;
+    }
+    resumed <= oldest + 256
+}
+
+// A party from n up must be free.
+fn present(p: usize, parties: u8, phase: Phase) -> bool
+    ensures { λ r. ⌜ r ≡ (ltb p parties || isFree phase) ⌝ }
+{
+    if p < parties as usize {
+        return true;
+    }
+    is_free(phase)
+}
+
+// Has t a place, and is it below end?
+fn in_window(oldest: u32, end: u32, t: u32) -> bool
+    requires { ⌜ oldest ≤ 1000000 ⌝ }
+    ensures { λ r. ⌜ r ≡ inWindow (windowed 0 0 oldest) end t ⌝ }
+{
+    if t < oldest {
+        return false;
+    }
+    if oldest + 256 <= t {
+        return false;
+    }
+    t < end
+}
+
+// Is the ticket t of this phase one that fits? Drawing a ticket needs room.
+fn ticket_fits(phase: Phase, t: u32, issued: u32, resumed: u32, oldest: u32) -> bool
+    requires { ⌜ (t ≡ ticketOf phase) × (oldest ≤ 1000000) ⌝ }
+    ensures { λ r. ⌜ r ≡ ticketFits (windowed issued resumed oldest) phase ⌝ }
+{
+    match phase {
+        Phase::Waiting(_)
+        | Phase::Ticketed(_)
+        | Phase::Aborting(_)
+        | Phase::Cancelling(_)
+        | Phase::Refusing(_) => in_window(oldest, issued, t),
+        Phase::ResumingAt(_) => in_window(oldest, resumed, t),
+        Phase::Suspending => issued < oldest + 256,
+        Phase::Resuming => resumed < oldest + 256,
+        _ => true,
+    }
+}
+
+// Does the step table list the place that a party of this phase is about to act on?
+fn listed(phase: Phase, place: Place) -> bool
+    ensures { λ r. ⌜ r ≡ listedAt phase place ⌝ }
+{
+    match phase {
+        Phase::Ticketed(_) => match place {
+            Place::Empty | Place::Permit => true,
+            _ => false,
+        },
+        Phase::Cancelling(_) | Phase::Refusing(_) => match place {
+            Place::Waiting(_) | Place::Permit => true,
+            _ => false,
+        },
+        Phase::ResumingAt(_) => match place {
+            Place::Permit | Place::Done => false,
+            _ => true,
+        },
+        _ => true,
+    }
+}
+
+// A party's clauses, over its phase, its ticket t and what lies at the place of that ticket.
+fn party_fits(
+    p: usize,
+    parties: u8,
+    phase: Phase,
+    t: u32,
+    place: Place,
+    issued: u32,
+    resumed: u32,
+    oldest: u32,
+) -> bool
+    requires { ⌜ (t ≡ ticketOf phase) × (oldest ≤ 1000000) ⌝ }
+    ensures { λ r. ⌜ r ≡ partyTest p parties phase place (windowed issued resumed oldest) ⌝ }
+{
+    if !present(p, parties, phase) {
+        return false;
+    }
+    if !ticket_fits(phase, t, issued, resumed, oldest) {
+        return false;
+    }
+    listed(phase, place)
+}
+
+// All 32 parties.
+fn parties_fit(hub: Hub) -> bool
+    requires { ⌜ hub .oldest ≤ 1000000 ⌝ }
+    ensures { λ r. ⌜ r ≡ allFrom (partyFits hub) 0 32 ⌝ }
+{
+    let parties = hub.parties;
+    let issued = hub.issued;
+    let resumed = hub.resumed;
+    let oldest = hub.oldest;
+    let mut p: usize = 0;
+    while p < 32 {
+        let slot = hub.slots[p];
+        let phase = slot.phase;
+        let t = ticket(phase);
+        let i = (t % 256) as usize;
+        let seat = hub.places[i];
+        let place = seat.place;
+        if !party_fits(p, parties, phase, t, place, issued, resumed, oldest) {
+            return false;
+        }
+        p += 1;
+    }
+    true
+}
+
+// Is the phase one of a party that stands at ticket t?
+fn stands_at(phase: Phase, t: u32) -> bool
+    ensures { λ r. ⌜ r ≡ standsAt phase t ⌝ }
+{
+    match phase {
+        Phase::Waiting(u) => u == t,
+        Phase::Aborting(u) => u == t,
+        Phase::Cancelling(u) => u == t,
+        Phase::Refusing(u) => u == t,
+        _ => false,
+    }
+}
+
+// The places of all 256 tickets.
+fn places_fit(hub: Hub) -> bool
+    requires { ⌜ hub .oldest ≤ 1000000 ⌝ }
+    ensures { λ r. ⌜ r ≡ allFrom (placeFits hub) (hub .oldest) 256 ⌝ }
+{
+    let oldest = hub.oldest;
+    let mut j: u32 = 0;
+    while j < 256 {
+        let t = oldest + j;
+        let i = (t % 256) as usize;
+        let seat = hub.places[i];
+        let place = seat.place;
+        if let Place::Waiting(q) = place {
+            if 32 <= q {
+                return false;
+            }
+            let w = q as usize;
+            let slot = hub.slots[w];
+            let phase = slot.phase;
+            if !stands_at(phase, t) {
+                return false;
+            }
+        }
+        j += 1;
+    }
+    true
+}
+
+// Does the record fit?
+pub fn fits(hub: Hub) -> bool
+    ensures { λ r. ⌜ r ≡ Rattle.hub.specs.Fits.fits hub ⌝ }
+{
+    if !counts_fit(
+        hub.permits,
+        hub.parties,
+        hub.counter,
+        hub.issued,
+        hub.resumed,
+        hub.begun,
+        hub.oldest,
+    ) {
+        return false;
+    }
+    if !parties_fit(hub) {
+        return false;
+    }
+    places_fit(hub)
+}

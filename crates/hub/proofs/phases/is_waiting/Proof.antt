@@ -1,0 +1,21 @@
+-- `is_waiting` meets its contract: the definition is true at the one phase and false at the others.
+use borrow.Author.Needs.{needs}
+use mathlib.Core.Path.{refl}
+use Rattle.hub.specs.Phases.{isWaiting, isOneOf}
+use Rattle.hub.proofs.Laws.Tags.{allBut, phase-arm}
+use Rattle.hub.proofs.phases.is_waiting.Statement.{statement}
+use Rattle.hub.proofs.phases.is_waiting.Tie as tie
+
+enum-told : tie.Need-enum-told
+enum-told c = search needs
+
+returns : tie.Need-returns
+unfolding isOneOf
+returns c = let e = c .enum-told .given .1 in rw e
+
+returns-2 : tie.Need-returns-2
+unfolding isOneOf
+returns-2 c = phase-arm (allBut 2) isWaiting (c .before .args .phase) refl (c .match .keys2)
+
+pub is-waiting-spec : {M : Type 1} → statement M
+is-waiting-spec = tie.close (tie.spec enum-told returns returns-2)

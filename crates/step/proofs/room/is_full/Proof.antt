@@ -1,0 +1,26 @@
+-- `is_full` meets its contract: the sums of the test are those of the definition.
+use borrow.Author.Needs.{needs}
+use mathlib.Core.Path.{ap}
+use lib.Dec.{leb}
+use Prim.Native.Nat.{ℕ, _+_}
+use Rattle.hub.specs.Phases.{isOneOf}
+use Rattle.step.proofs.room.is_full.Statement.{statement}
+use Rattle.step.proofs.room.is_full.Tie as tie
+
+count-phases-requires : tie.Need-count-phases-requires
+count-phases-requires c κs = search needs
+
+add-result : tie.Need-add-result
+add-result c = search needs
+
+add-result-2 : tie.Need-add-result-2
+add-result-2 c = search needs
+
+returns : tie.Need-returns
+unfolding isOneOf
+returns c =
+    let h = c .before .before .before .before .args .hub in
+    ap (λ (n : ℕ). leb (h .oldest + 256) (h .issued + n)) (c .before .before .count-phases .ensures .0)
+
+pub is-full-spec : {M : Type 1} → statement M
+is-full-spec = tie.close (tie.spec count-phases-requires add-result add-result-2 returns)

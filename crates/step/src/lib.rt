@@ -1,0 +1,8 @@
+// The four calls of the hub, record in and record out, on any record and any party byte.
+
+mod sight; // what a call looks at
+pub mod counts; // what a record shows
+mod room; // refusal 7
+mod reclaim; // the tidying
+mod apply; // a move made
+pub mod calls; // the four calls

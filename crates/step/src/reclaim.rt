@@ -1,0 +1,82 @@
+// The tidying, which ends every success.
+
+use hub::record::Hub;
+use hub::record::Place;
+use hub::record::PlaceSlot;
+ghost use mathlib.Core.Path.{_≡_};
+ghost use Prim.Native.Nat.{_≤_};
+ghost use Rattle.hub.specs.Phases.{isCancelled, isDone};
+ghost use Rattle.hub.specs.Reclaim.{reclaimed};
+
+fn is_cancelled(place: Place) -> bool
+    ensures { λ r. ⌜ r ≡ isCancelled place ⌝ }
+{
+    match place {
+        Place::Cancelled => true,
+        _ => false,
+    }
+}
+
+fn is_done(place: Place) -> bool
+    ensures { λ r. ⌜ r ≡ isDone place ⌝ }
+{
+    match place {
+        Place::Done => true,
+        _ => false,
+    }
+}
+
+// Passes the cancelled places at the next ticket to resume.
+fn skip_cancelled(mut hub: Hub) -> Hub
+    requires { ⌜ hub .oldest ≤ 1000000 ⌝ }
+    ensures { λ r. ⌜ r ≡ Rattle.hub.specs.Reclaim.skip 256 (Rattle.hub.specs.Reclaim.canSkip hub) hub ⌝ }
+{
+    let end = hub.oldest + 256;
+    let mut n: u32 = 0;
+    while n < 256 {
+        let t = hub.resumed;
+        if end <= t {
+            break;
+        }
+        let i = (t % 256) as usize;
+        let slot = hub.places[i];
+        let place = slot.place;
+        if !is_cancelled(place) {
+            break;
+        }
+        hub.places[i] = PlaceSlot { place: Place::Done };
+        hub.resumed = t + 1;
+        n += 1;
+    }
+    hub
+}
+
+// Frees the places at the oldest ticket that are done.
+fn retire_done(mut hub: Hub) -> Hub
+    requires { ⌜ hub .oldest ≤ 1000000 ⌝ }
+    ensures { λ r. ⌜ r ≡ Rattle.hub.specs.Reclaim.retire 256 (Rattle.hub.specs.Reclaim.canRetire hub) hub ⌝ }
+{
+    let mut n: u32 = 0;
+    while n < 256 {
+        let t = hub.oldest;
+        let i = (t % 256) as usize;
+        let slot = hub.places[i];
+        let place = slot.place;
+        if !is_done(place) {
+            break;
+        }
+        hub.places[i] = PlaceSlot {
+            place: Place::Empty,
+        };
+        hub.oldest = t + 1;
+        n += 1;
+    }
+    hub
+}
+
+pub fn reclaim(hub: Hub) -> Hub
+    requires { ⌜ hub .oldest ≤ 1000000 ⌝ }
+    ensures { λ r. ⌜ r ≡ reclaimed hub ⌝ }
+{
+    retire_done(skip_cancelled(hub))
+}

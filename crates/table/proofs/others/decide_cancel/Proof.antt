@@ -1,0 +1,37 @@
+-- `decide_cancel` meets its contract: its tests, in order, are those of the definition.
+use borrow.Author.Needs.{needs}
+use borrow.Author.Tests.{eq-eqb, ne-eqb}
+use mathlib.Core.Path.{refl, sym}
+use Rattle.hub.specs.Phases.{isOneOf, isWaiting}
+use Rattle.hub.specs.Table.{cancel, decide}
+use Rattle.hub.proofs.Laws.Tags.{allBut, phase-arm}
+use Rattle.table.proofs.others.decide_cancel.Statement.{statement}
+use Rattle.table.proofs.others.decide_cancel.Tie as tie
+
+enum-known-phase : tie.Need-enum-known-phase
+enum-known-phase c = search needs
+
+returns : tie.Need-returns
+unfolding decide cancel isOneOf
+returns c =
+    let f = c .before .args .s .phase in
+    let e = sym (phase-arm (allBut 2) isWaiting f refl (c .match .keys2)) in rw e
+
+returns-2 : tie.Need-returns-2
+unfolding decide cancel isOneOf
+returns-2 c =
+    let e = c .before .before .phase .given .1 in
+    rw (e, eq-eqb _ _ (c .if1 .taken))
+
+turned-requires : tie.Need-turned-requires
+turned-requires c κs = search needs
+
+returns-3 : tie.Need-returns-3
+unfolding decide cancel isOneOf
+returns-3 c =
+    let e = c .before .before .before .phase .given .1 in
+    rw (e, ne-eqb _ _ (c .before .if1 .left)) (c .turned .ensures)
+
+pub decide-cancel-spec : {M : Type 1} → statement M
+decide-cancel-spec =
+    tie.close (tie.spec enum-known-phase returns returns-2 turned-requires returns-3)

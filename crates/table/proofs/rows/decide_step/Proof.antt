@@ -1,0 +1,153 @@
+-- `decide_step` meets its contract: each arm is the row of its phase.
+use borrow.Author.Needs.{needs}
+use mathlib.Core.Path.{_≡_, refl, sym, ap, _∙_}
+use mathlib.Core.List.{[], _∷_}
+use Rattle.hub.specs.declared.moves.Move.{Move}
+use Rattle.hub.specs.declared.moves.Sight.{Sight}
+use Rattle.hub.specs.declared.record.Phase.{Phase}
+use Rattle.hub.specs.Table.{step, stepOf}
+use Rattle.table.specs.Rows.{stepAs}
+use Rattle.hub.proofs.Laws.Tags.{phase-arm}
+use Rattle.table.proofs.rows.decide_step.Statement.{statement}
+use Rattle.table.proofs.rows.decide_step.Tie as tie
+
+as-phase : (s : Sight) {f : Phase} {m : Move} → s .phase ≡ f → m ≡ stepAs f s → m ≡ stepOf s
+as-phase s e h = h ∙ ap (λ x. stepAs x s) (sym e)
+
+enum-told : tie.Need-enum-told
+enum-told c = search needs
+
+step-acquiring-requires : tie.Need-step-acquiring-requires
+step-acquiring-requires c κs = search needs
+
+enum-told-2 : tie.Need-enum-told-2
+enum-told-2 c = search needs
+
+step-suspending-requires : tie.Need-step-suspending-requires
+step-suspending-requires c κs = search needs
+
+enum-known-phase : tie.Need-enum-known-phase
+enum-known-phase c = search needs
+
+step-ticketed-requires : tie.Need-step-ticketed-requires
+step-ticketed-requires c κs = search needs
+
+enum-known-phase-2 : tie.Need-enum-known-phase-2
+enum-known-phase-2 c = search needs
+
+step-aborting-requires : tie.Need-step-aborting-requires
+step-aborting-requires c κs = search needs
+
+enum-known-phase-3 : tie.Need-enum-known-phase-3
+enum-known-phase-3 c = search needs
+
+step-cancelling-requires : tie.Need-step-cancelling-requires
+step-cancelling-requires c κs = search needs
+
+enum-known-phase-4 : tie.Need-enum-known-phase-4
+enum-known-phase-4 c = search needs
+
+step-refusing-requires : tie.Need-step-refusing-requires
+step-refusing-requires c κs = search needs
+
+enum-told-3 : tie.Need-enum-told-3
+enum-told-3 c = search needs
+
+step-releasing-requires : tie.Need-step-releasing-requires
+step-releasing-requires c κs = search needs
+
+enum-told-4 : tie.Need-enum-told-4
+enum-told-4 c = search needs
+
+step-resuming-requires : tie.Need-step-resuming-requires
+step-resuming-requires c κs = search needs
+
+enum-known-phase-5 : tie.Need-enum-known-phase-5
+enum-known-phase-5 c = search needs
+
+step-resuming-at-requires : tie.Need-step-resuming-at-requires
+step-resuming-at-requires c κs = search needs
+
+returns : tie.Need-returns
+returns c =
+    let b = c .before in
+    as-phase (b .before .before .args .s) (b .enum-told .given .1) (c .step-acquiring .ensures)
+
+returns-2 : tie.Need-returns-2
+returns-2 c =
+    let b = c .before in
+    as-phase (b .before .before .args .s) (b .enum-told2 .given .1) (c .step-suspending .ensures)
+
+returns-3 : tie.Need-returns-3
+returns-3 c =
+    let b = c .before .before in
+    as-phase (b .before .before .args .s) (b .phase .given .1) (c .step-ticketed .ensures)
+
+returns-4 : tie.Need-returns-4
+returns-4 c =
+    let b = c .before .before in
+    as-phase (b .before .before .args .s) (b .phase2 .given .1) (c .step-aborting .ensures)
+
+returns-5 : tie.Need-returns-5
+returns-5 c =
+    let b = c .before .before in
+    as-phase (b .before .before .args .s) (b .phase3 .given .1) (c .step-cancelling .ensures)
+
+returns-6 : tie.Need-returns-6
+returns-6 c =
+    let b = c .before .before in
+    as-phase (b .before .before .args .s) (b .phase4 .given .1) (c .step-refusing .ensures)
+
+returns-7 : tie.Need-returns-7
+returns-7 c =
+    let b = c .before in
+    as-phase (b .before .before .args .s) (b .enum-told3 .given .1) (c .step-releasing .ensures)
+
+returns-8 : tie.Need-returns-8
+returns-8 c =
+    let b = c .before in
+    as-phase (b .before .before .args .s) (b .enum-told4 .given .1) (c .step-resuming .ensures)
+
+returns-9 : tie.Need-returns-9
+returns-9 c =
+    let b = c .before .before in
+    as-phase (b .before .before .args .s) (b .phase5 .given .1) (c .step-resuming-at .ensures)
+
+returns-10 : tie.Need-returns-10
+unfolding step
+returns-10 c =
+    let s = c .before .args .s in
+    phase-arm (0 ∷ 1 ∷ 2 ∷ []) (λ f. stepAs f s) (s .phase) refl (c .match .keys10)
+
+pub decide-step-spec : {M : Type 1} → statement M
+decide-step-spec =
+    tie.close
+    (tie.spec
+    enum-told
+    step-acquiring-requires
+    enum-told-2
+    step-suspending-requires
+    enum-known-phase
+    step-ticketed-requires
+    enum-known-phase-2
+    step-aborting-requires
+    enum-known-phase-3
+    step-cancelling-requires
+    enum-known-phase-4
+    step-refusing-requires
+    enum-told-3
+    step-releasing-requires
+    enum-told-4
+    step-resuming-requires
+    enum-known-phase-5
+    step-resuming-at-requires
+    returns
+    returns-2
+    returns-3
+    returns-4
+    returns-5
+    returns-6
+    returns-7
+    returns-8
+    returns-9
+    returns-10)

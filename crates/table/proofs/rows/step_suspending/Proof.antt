@@ -1,0 +1,15 @@
+-- `step_suspending` meets its contract: it draws its row's ticket, and one more still fits.
+use borrow.Author.Needs.{needs}
+use Rattle.hub.specs.Table.{step}
+use Rattle.table.proofs.rows.step_suspending.Statement.{statement}
+use Rattle.table.proofs.rows.step_suspending.Tie as tie
+
+add-t5 : tie.Need-add-t5
+add-t5 c = search needs
+
+returns : tie.Need-returns
+unfolding step
+returns c = search needs
+
+pub step-suspending-spec : {M : Type 1} → statement M
+step-suspending-spec = tie.close (tie.spec add-t5 returns)
