@@ -47,13 +47,13 @@ fn counts_fit(
     if !counter_fits(counter) {
         return false;
     }
-    if 1000000 < begun {
+    if Hub::MAX_BEGUN < begun {
         return false;
     }
-    if 1000000 < issued {
+    if Hub::MAX_BEGUN < issued {
         return false;
     }
-    if 1000000 < resumed {
+    if Hub::MAX_BEGUN < resumed {
         return false;
     }
     if issued < oldest {
@@ -62,10 +62,10 @@ fn counts_fit(
     if resumed < oldest {
         return false;
     }
-    if oldest + 256 < issued {
+    if oldest + Hub::PLACES < issued {
         return false;
     }
-    resumed <= oldest + 256
+    resumed <= oldest + Hub::PLACES
 }
 
 // A party from n up must be free.
@@ -86,7 +86,7 @@ fn in_window(oldest: u32, end: u32, t: u32) -> bool
     if t < oldest {
         return false;
     }
-    if oldest + 256 <= t {
+    if oldest + Hub::PLACES <= t {
         return false;
     }
     t < end
@@ -104,8 +104,8 @@ fn ticket_fits(phase: Phase, t: u32, issued: u32, resumed: u32, oldest: u32) -> 
         | Phase::Cancelling(_)
         | Phase::Refusing(_) => in_window(oldest, issued, t),
         Phase::ResumingAt(_) => in_window(oldest, resumed, t),
-        Phase::Suspending => issued < oldest + 256,
-        Phase::Resuming => resumed < oldest + 256,
+        Phase::Suspending => issued < oldest + Hub::PLACES,
+        Phase::Resuming => resumed < oldest + Hub::PLACES,
         _ => true,
     }
 }
@@ -168,7 +168,7 @@ fn parties_fit(hub: Hub) -> bool
         let slot = hub.slots[p];
         let phase = slot.phase;
         let t = ticket(phase);
-        let i = (t % 256) as usize;
+        let i = (t % Hub::PLACES) as usize;
         let seat = hub.places[i];
         let place = seat.place;
         if !party_fits(p, parties, phase, t, place, issued, resumed, oldest) {
@@ -199,9 +199,9 @@ fn places_fit(hub: Hub) -> bool
 {
     let oldest = hub.oldest;
     let mut j: u32 = 0;
-    while j < 256 {
+    while j < Hub::PLACES {
         let t = oldest + j;
-        let i = (t % 256) as usize;
+        let i = (t % Hub::PLACES) as usize;
         let seat = hub.places[i];
         let place = seat.place;
         if let Place::Waiting(q) = place {

@@ -39,7 +39,7 @@ fn change(mut hub: Hub, slots: [PartySlot; 32], s: Sight, c: Change) -> Hub
 {
     let before = s.phase;
     if has_ticket(before) {
-        let i = (ticket(before) % 256) as usize;
+        let i = (ticket(before) % Hub::PLACES) as usize;
         let place = c.place;
         hub.places[i] = PlaceSlot { place };
     }

@@ -31,14 +31,14 @@ fn skip_cancelled(mut hub: Hub) -> Hub
     requires { ⌜ hub .oldest ≤ 1000000 ⌝ }
     ensures { λ r. ⌜ r ≡ Rattle.hub.specs.Reclaim.skip 256 (Rattle.hub.specs.Reclaim.canSkip hub) hub ⌝ }
 {
-    let end = hub.oldest + 256;
+    let end = hub.oldest + Hub::PLACES;
     let mut n: u32 = 0;
-    while n < 256 {
+    while n < Hub::PLACES {
         let t = hub.resumed;
         if end <= t {
             break;
         }
-        let i = (t % 256) as usize;
+        let i = (t % Hub::PLACES) as usize;
         let slot = hub.places[i];
         let place = slot.place;
         if !is_cancelled(place) {
@@ -57,9 +57,9 @@ fn retire_done(mut hub: Hub) -> Hub
     ensures { λ r. ⌜ r ≡ Rattle.hub.specs.Reclaim.retire 256 (Rattle.hub.specs.Reclaim.canRetire hub) hub ⌝ }
 {
     let mut n: u32 = 0;
-    while n < 256 {
+    while n < Hub::PLACES {
         let t = hub.oldest;
-        let i = (t % 256) as usize;
+        let i = (t % Hub::PLACES) as usize;
         let slot = hub.places[i];
         let place = slot.place;
         if !is_done(place) {

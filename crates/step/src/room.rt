@@ -13,5 +13,5 @@ pub fn is_full(hub: Hub) -> bool
     let slots = hub.slots;
     // asked and unnumbered
     let drawing = count_phases(slots, 3, 4);
-    hub.oldest + 256 <= hub.issued + drawing
+    hub.oldest + Hub::PLACES <= hub.issued + drawing
 }

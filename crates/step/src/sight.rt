@@ -54,7 +54,7 @@ pub fn look(hub: Hub, party: u8) -> Sight
 {
     let slots = hub.slots;
     let phase = phase_of(slots, party as u32);
-    let i = (ticket(phase) % 256) as usize;
+    let i = (ticket(phase) % Hub::PLACES) as usize;
     let slot = hub.places[i];
     let there = slot.place;
     let place = place_for(phase, there);

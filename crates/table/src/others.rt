@@ -9,6 +9,7 @@ use hub::moves::Op;
 use hub::moves::Sight;
 use hub::phases::is_free;
 use hub::phases::is_holding;
+use hub::record::Hub;
 use hub::record::Phase;
 ghost use mathlib.Core.Path.{_≡_};
 ghost use mathlib.Core.Bool.{false};
@@ -23,7 +24,7 @@ pub fn decide_acquire(full: bool, s: Sight) -> Move
         return Move::Refuse(Refusal::NotFree);
     }
     let begun = s.begun;
-    if 1000000 <= begun {
+    if Hub::MAX_BEGUN <= begun {
         return Move::Refuse(Refusal::Exhausted);
     }
     if full {
