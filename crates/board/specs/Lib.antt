@@ -1,0 +1,2 @@
+-- What the contracts of the functions over the fields cite.
+pub mod Fields

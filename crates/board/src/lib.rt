@@ -1,0 +1,227 @@
+// The four calls on a record in place. A shell takes the hub by reference, hands its fields to a
+// function over them, which calls the by-value core, and stores the record that comes back.
+
+use hub::Answer;
+use hub::Hub;
+use hub::Op;
+use hub::Outcome;
+use hub::PartySlot;
+use hub::PlaceSlot;
+ghost use mathlib.Core.Path.{_≡_};
+ghost use Rattle.hub.specs.declared.moves.Op.{Op};
+ghost use Rattle.hub.specs.Calls.{called};
+ghost use Rattle.board.specs.Fields.{ofFields};
+
+fn acquire_fields(
+    party: u8,
+    permits: u8,
+    parties: u8,
+    counter: i32,
+    issued: u32,
+    resumed: u32,
+    begun: u32,
+    oldest: u32,
+    places: [PlaceSlot; 256],
+    slots: [PartySlot; 32],
+) -> Outcome
+    ensures { λ r. ⌜ r ≡ called
+        (ofFields permits parties counter issued resumed begun oldest places slots)
+        (record { op = Op.Acquire; party = party }) ⌝ }
+{
+    let hub = Hub {
+        permits,
+        parties,
+        counter,
+        issued,
+        resumed,
+        begun,
+        oldest,
+        places,
+        slots,
+    };
+    step::calls::acquire(hub, party)
+}
+
+pub fn acquire(hub: &mut Hub, party: u8) -> Answer
+    ensures { λ r. ⌜ (r ≡ called (now (hub .entry)) (record { op = Op.Acquire; party = party }) .answer)
+        × (now (hub .exit) ≡ called (now (hub .entry)) (record { op = Op.Acquire; party = party }) .hub) ⌝ }
+{
+    let o = acquire_fields(
+        party,
+        hub.permits,
+        hub.parties,
+        hub.counter,
+        hub.issued,
+        hub.resumed,
+        hub.begun,
+        hub.oldest,
+        hub.places,
+        hub.slots,
+    );
+    *hub = o.hub;
+    o.answer
+}
+
+fn step_fields(
+    party: u8,
+    permits: u8,
+    parties: u8,
+    counter: i32,
+    issued: u32,
+    resumed: u32,
+    begun: u32,
+    oldest: u32,
+    places: [PlaceSlot; 256],
+    slots: [PartySlot; 32],
+) -> Outcome
+    ensures { λ r. ⌜ r ≡ called
+        (ofFields permits parties counter issued resumed begun oldest places slots)
+        (record { op = Op.Step; party = party }) ⌝ }
+{
+    let hub = Hub {
+        permits,
+        parties,
+        counter,
+        issued,
+        resumed,
+        begun,
+        oldest,
+        places,
+        slots,
+    };
+    step::calls::step(hub, party)
+}
+
+pub fn step(hub: &mut Hub, party: u8) -> Answer
+    ensures { λ r. ⌜ (r ≡ called (now (hub .entry)) (record { op = Op.Step; party = party }) .answer)
+        × (now (hub .exit) ≡ called (now (hub .entry)) (record { op = Op.Step; party = party }) .hub) ⌝ }
+{
+    let o = step_fields(
+        party,
+        hub.permits,
+        hub.parties,
+        hub.counter,
+        hub.issued,
+        hub.resumed,
+        hub.begun,
+        hub.oldest,
+        hub.places,
+        hub.slots,
+    );
+    *hub = o.hub;
+    o.answer
+}
+
+fn cancel_fields(
+    party: u8,
+    permits: u8,
+    parties: u8,
+    counter: i32,
+    issued: u32,
+    resumed: u32,
+    begun: u32,
+    oldest: u32,
+    places: [PlaceSlot; 256],
+    slots: [PartySlot; 32],
+) -> Outcome
+    ensures { λ r. ⌜ r ≡ called
+        (ofFields permits parties counter issued resumed begun oldest places slots)
+        (record { op = Op.Cancel; party = party }) ⌝ }
+{
+    let hub = Hub {
+        permits,
+        parties,
+        counter,
+        issued,
+        resumed,
+        begun,
+        oldest,
+        places,
+        slots,
+    };
+    step::calls::cancel(hub, party)
+}
+
+pub fn cancel(hub: &mut Hub, party: u8) -> Answer
+    ensures { λ r. ⌜ (r ≡ called (now (hub .entry)) (record { op = Op.Cancel; party = party }) .answer)
+        × (now (hub .exit) ≡ called (now (hub .entry)) (record { op = Op.Cancel; party = party }) .hub) ⌝ }
+{
+    let o = cancel_fields(
+        party,
+        hub.permits,
+        hub.parties,
+        hub.counter,
+        hub.issued,
+        hub.resumed,
+        hub.begun,
+        hub.oldest,
+        hub.places,
+        hub.slots,
+    );
+    *hub = o.hub;
+    o.answer
+}
+
+fn release_fields(
+    party: u8,
+    permits: u8,
+    parties: u8,
+    counter: i32,
+    issued: u32,
+    resumed: u32,
+    begun: u32,
+    oldest: u32,
+    places: [PlaceSlot; 256],
+    slots: [PartySlot; 32],
+) -> Outcome
+    ensures { λ r. ⌜ r ≡ called
+        (ofFields permits parties counter issued resumed begun oldest places slots)
+        (record { op = Op.Release; party = party }) ⌝ }
+{
+    let hub = Hub {
+        permits,
+        parties,
+        counter,
+        issued,
+        resumed,
+        begun,
+        oldest,
+        places,
+        slots,
+    };
+    step::calls::release(hub, party)
+}
+
+pub fn release(hub: &mut Hub, party: u8) -> Answer
+    ensures { λ r. ⌜ (r ≡ called (now (hub .entry)) (record { op = Op.Release; party = party }) .answer)
+        × (now (hub .exit) ≡ called (now (hub .entry)) (record { op = Op.Release; party = party }) .hub) ⌝ }
+{
+    let o = release_fields(
+        party,
+        hub.permits,
+        hub.parties,
+        hub.counter,
+        hub.issued,
+        hub.resumed,
+        hub.begun,
+        hub.oldest,
+        hub.places,
+        hub.slots,
+    );
+    *hub = o.hub;
+    o.answer
+}
+
+// A call for those who have the record by value: what calls this needs no walk by hand.
+pub fn call_on_board(hub: Hub, op: Op, party: u8) -> Outcome
+    ensures { λ r. ⌜ r ≡ called hub (record { op = op; party = party }) ⌝ }
+{
+    let mut h = hub;
+    let answer = match op {
+        Op::Acquire => acquire(&mut h, party),
+        Op::Step => step(&mut h, party),
+        Op::Cancel => cancel(&mut h, party),
+        Op::Release => release(&mut h, party),
+    };
+    Outcome { answer, hub: h }
+}
