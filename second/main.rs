@@ -1,0 +1,632 @@
+//! The link hub, second program: a fair semaphore with cancellation, driven by
+//! a schedule on standard input.
+//!
+//! It is the oracle another implementation is tested against, so it prefers
+//! the obvious form: one mutable record and one `match` for the step table.
+//!
+//! Calls and counters carry the field's terms, the paper's word beside each
+//! where it differs: permit (link), acquire (ask), cancel (give up), release
+//! (give back), ticket (number of a wait), resume (hand-over). Phases and
+//! places keep the paper's names, save that a place with a link is `Permit`.
+
+use std::env;
+use std::io::{self, BufRead, BufReader, BufWriter, ErrorKind, Write};
+use std::process::ExitCode;
+
+#[cfg(test)]
+mod tests;
+
+/// Most permits a hub may have (the paper's K).
+const MAX_PERMITS: u8 = 32;
+/// Phases in the record, and so the most parties a hub may have.
+const PARTIES: usize = 32;
+/// Places in the ring.
+const PLACES: usize = 256;
+/// The span of tickets the ring covers: `PLACES`, as tickets are counted.
+const SPAN: u32 = PLACES as u32;
+/// Most acquires since opening; it bounds both ticket counters too.
+const MAX_BEGUN: u32 = 1_000_000;
+/// How far the counter may lie from zero.
+const MAX_COUNTER: u32 = 32;
+
+/// The number of a wait. Place `ticket % PLACES` of the ring belongs to it.
+type Ticket = u32;
+
+#[derive(Clone, Copy, Debug, PartialEq, Eq)]
+enum Place {
+    Empty,
+    /// The party that waits here.
+    Waiting(u32),
+    /// Paper: link. A permit lies here.
+    Permit,
+    Cancelled,
+    Refused,
+    Done,
+}
+
+#[derive(Clone, Copy, Debug, PartialEq, Eq)]
+enum Phase {
+    // At rest.
+    Free,
+    Holding,
+    Waiting(Ticket),
+    // Busy.
+    Asked,
+    Unnumbered,
+    Numbered(Ticket),
+    GivingUp(Ticket),
+    Cancelling(Ticket),
+    Refusing(Ticket),
+    GivingBack,
+    Carrying,
+    Handing(Ticket),
+}
+
+#[derive(Clone, Copy, Debug, PartialEq, Eq)]
+enum Kind {
+    Desk,
+    Door,
+    Replacement,
+    BatteryRound,
+}
+
+/// The constant table of kinds.
+const fn kind(party: usize) -> Kind {
+    match party {
+        0..=7 => Kind::Desk,
+        8..=27 => Kind::Door,
+        28..=29 => Kind::Replacement,
+        _ => Kind::BatteryRound,
+    }
+}
+
+#[derive(Clone, Copy, Debug, PartialEq, Eq)]
+enum Call {
+    /// Paper: ask.
+    Acquire,
+    Step,
+    /// Paper: give up.
+    Cancel,
+    /// Paper: give back.
+    Release,
+}
+
+/// Each refusal is its number in the paper.
+#[derive(Clone, Copy, Debug, PartialEq, Eq)]
+enum Refusal {
+    Misfit = 1,
+    Permits = 2,
+    Parties = 3,
+    NoSuchParty = 4,
+    NotFree = 5,
+    BegunFull = 6,
+    RingFull = 7,
+    AtRest = 8,
+    NotWaiting = 9,
+    MustWait = 10,
+    NotHolding = 11,
+    Malformed = 12,
+    OutOfOrder = 13,
+}
+
+#[derive(Clone, Copy, Debug, PartialEq, Eq)]
+struct Answer {
+    code: u8,
+    woken: Option<u32>,
+    ticket: Option<Ticket>,
+}
+
+impl Answer {
+    const fn plain(code: u8) -> Self {
+        Answer {
+            code,
+            woken: None,
+            ticket: None,
+        }
+    }
+
+    const fn of(code: u8, ticket: Ticket) -> Self {
+        Answer {
+            code,
+            woken: None,
+            ticket: Some(ticket),
+        }
+    }
+
+    const fn waking(code: u8, ticket: Ticket, woken: u32) -> Self {
+        Answer {
+            code,
+            woken: Some(woken),
+            ticket: Some(ticket),
+        }
+    }
+}
+
+#[derive(Clone, Debug, PartialEq, Eq)]
+struct Hub {
+    /// Paper: K, the links.
+    permits: u8,
+    /// Paper: n.
+    parties: u8,
+    counter: i32,
+    /// Paper: numbered. The next wait's ticket.
+    next_ticket: Ticket,
+    /// Paper: handed. The ticket of the next resume.
+    next_resume: Ticket,
+    /// The first ticket the ring covers.
+    oldest: Ticket,
+    /// Acquires accepted since opening.
+    begun: u32,
+    ring: [Place; PLACES],
+    phases: [Phase; PARTIES],
+}
+
+impl Hub {
+    fn open(permits: u8, parties: u8) -> Result<Hub, Refusal> {
+        if !(1..=MAX_PERMITS).contains(&permits) {
+            return Err(Refusal::Permits);
+        }
+        if !(1..=PARTIES).contains(&usize::from(parties)) {
+            return Err(Refusal::Parties);
+        }
+        Ok(Hub {
+            permits,
+            parties,
+            counter: i32::from(permits),
+            next_ticket: 0,
+            next_resume: 0,
+            oldest: 0,
+            begun: 0,
+            ring: [Place::Empty; PLACES],
+            phases: [Phase::Free; PARTIES],
+        })
+    }
+
+    /// One of the four calls. A refusal leaves the whole record alone.
+    /// `check` says whether the record must be shown to fit first.
+    fn call(&mut self, call: Call, party: u8, check: bool) -> Result<Answer, Refusal> {
+        if check && !self.fits() {
+            return Err(Refusal::Misfit);
+        }
+        if party >= self.parties {
+            return Err(Refusal::NoSuchParty);
+        }
+        let party = usize::from(party);
+        let answer = match call {
+            Call::Acquire => self.acquire(party),
+            Call::Step => self.step(party),
+            Call::Cancel => self.cancel(party),
+            Call::Release => self.release(party),
+        }?;
+        self.tidy();
+        Ok(answer)
+    }
+
+    /// Paper: ask.
+    fn acquire(&mut self, party: usize) -> Result<Answer, Refusal> {
+        if self.phases[party] != Phase::Free {
+            return Err(Refusal::NotFree);
+        }
+        if self.begun == MAX_BEGUN {
+            return Err(Refusal::BegunFull);
+        }
+        // Whoever may still take a ticket needs a place kept for it.
+        let claims = self.count_phases(|phase| matches!(phase, Phase::Asked | Phase::Unnumbered));
+        if self.next_ticket + u32::from(claims) >= self.oldest + SPAN {
+            return Err(Refusal::RingFull);
+        }
+        self.phases[party] = Phase::Asked;
+        self.begun += 1;
+        Ok(Answer::plain(0x20))
+    }
+
+    /// Paper: give up.
+    fn cancel(&mut self, party: usize) -> Result<Answer, Refusal> {
+        let Phase::Waiting(t) = self.phases[party] else {
+            return Err(Refusal::NotWaiting);
+        };
+        if kind(party) == Kind::BatteryRound {
+            return Err(Refusal::MustWait);
+        }
+        self.phases[party] = Phase::GivingUp(t);
+        Ok(Answer::plain(0x20))
+    }
+
+    /// Paper: give back.
+    fn release(&mut self, party: usize) -> Result<Answer, Refusal> {
+        if self.phases[party] != Phase::Holding {
+            return Err(Refusal::NotHolding);
+        }
+        self.phases[party] = Phase::GivingBack;
+        Ok(Answer::plain(0x20))
+    }
+
+    /// The step table. Counter tests look at the value before the change. A
+    /// place in a state the table does not list means that the record never
+    /// fitted; those arms answer so before anything is altered.
+    fn step(&mut self, party: usize) -> Result<Answer, Refusal> {
+        let (phase, answer) = match self.phases[party] {
+            Phase::Free | Phase::Holding | Phase::Waiting(_) => return Err(Refusal::AtRest),
+
+            Phase::Asked => {
+                let before = self.counter;
+                self.counter -= 1;
+                if before > 0 {
+                    (Phase::Holding, Answer::plain(0x21))
+                } else {
+                    (Phase::Unnumbered, Answer::plain(0x22))
+                }
+            }
+            Phase::Unnumbered => {
+                let t = self.next_ticket;
+                self.next_ticket += 1;
+                (Phase::Numbered(t), Answer::of(0x23, t))
+            }
+            Phase::Numbered(t) => match self.place(t) {
+                Place::Empty => {
+                    self.set_place(t, Place::Waiting(party as u32));
+                    (Phase::Waiting(t), Answer::of(0x24, t))
+                }
+                Place::Permit => {
+                    self.set_place(t, Place::Done);
+                    (Phase::Holding, Answer::of(0x25, t))
+                }
+                _ => return Err(Refusal::Misfit),
+            },
+
+            Phase::GivingBack => {
+                let before = self.counter;
+                self.counter += 1;
+                if before >= 0 {
+                    (Phase::Free, Answer::plain(0x26))
+                } else {
+                    (Phase::Carrying, Answer::plain(0x27))
+                }
+            }
+            Phase::Carrying => {
+                let t = self.next_resume;
+                self.next_resume += 1;
+                (Phase::Handing(t), Answer::of(0x28, t))
+            }
+            Phase::Handing(t) => match self.place(t) {
+                Place::Empty => {
+                    self.set_place(t, Place::Permit);
+                    (Phase::Free, Answer::of(0x29, t))
+                }
+                Place::Waiting(waiter) => match self.phases.get_mut(waiter as usize) {
+                    Some(phase @ Phase::Waiting(_)) => {
+                        *phase = Phase::Holding;
+                        self.set_place(t, Place::Done);
+                        (Phase::Free, Answer::waking(0x2A, t, waiter))
+                    }
+                    // The waiter is leaving and will find the permit.
+                    _ => {
+                        self.set_place(t, Place::Permit);
+                        (Phase::Free, Answer::of(0x2B, t))
+                    }
+                },
+                Place::Cancelled => {
+                    self.set_place(t, Place::Done);
+                    (Phase::Carrying, Answer::of(0x2C, t))
+                }
+                Place::Refused => {
+                    self.set_place(t, Place::Done);
+                    (Phase::Free, Answer::of(0x2D, t))
+                }
+                Place::Permit | Place::Done => return Err(Refusal::Misfit),
+            },
+
+            Phase::GivingUp(t) => {
+                let before = self.counter;
+                self.counter += 1;
+                if before < 0 {
+                    (Phase::Cancelling(t), Answer::plain(0x2E))
+                } else {
+                    (Phase::Refusing(t), Answer::plain(0x2F))
+                }
+            }
+            Phase::Cancelling(t) => match self.place(t) {
+                Place::Waiting(_) => {
+                    self.set_place(t, Place::Cancelled);
+                    (Phase::Free, Answer::of(0x30, t))
+                }
+                Place::Permit => {
+                    self.set_place(t, Place::Done);
+                    (Phase::Carrying, Answer::of(0x31, t))
+                }
+                _ => return Err(Refusal::Misfit),
+            },
+            Phase::Refusing(t) => match self.place(t) {
+                Place::Waiting(_) => {
+                    self.set_place(t, Place::Refused);
+                    (Phase::Free, Answer::of(0x32, t))
+                }
+                // Dropped here: the counter took this permit back at 2F.
+                Place::Permit => {
+                    self.set_place(t, Place::Done);
+                    (Phase::Free, Answer::of(0x33, t))
+                }
+                _ => return Err(Refusal::Misfit),
+            },
+        };
+        self.phases[party] = phase;
+        Ok(answer)
+    }
+
+    /// Ends every success: passes the cancelled places next to be resumed,
+    /// then frees the done places at the ring's old end.
+    fn tidy(&mut self) {
+        while self.covers(self.next_resume) && self.place(self.next_resume) == Place::Cancelled {
+            self.set_place(self.next_resume, Place::Done);
+            self.next_resume += 1;
+        }
+        while self.place(self.oldest) == Place::Done {
+            self.set_place(self.oldest, Place::Empty);
+            self.oldest += 1;
+        }
+    }
+
+    /// The paper's "A record that fits", on any value of the type. The bounds
+    /// come first: they keep the sums after them from overflowing.
+    fn fits(&self) -> bool {
+        self.bounds_fit()
+            && self.phases.iter().all(|&phase| self.phase_fits(phase))
+            && (self.oldest..self.oldest + SPAN).all(|t| self.place_fits(t))
+    }
+
+    fn bounds_fit(&self) -> bool {
+        let parties = usize::from(self.parties);
+        (1..=MAX_PERMITS).contains(&self.permits)
+            && (1..=PARTIES).contains(&parties)
+            && self
+                .phases
+                .iter()
+                .skip(parties)
+                .all(|&phase| phase == Phase::Free)
+            && self.counter.unsigned_abs() <= MAX_COUNTER
+            && self.begun <= MAX_BEGUN
+            && [self.next_ticket, self.next_resume]
+                .iter()
+                .all(|&next| next <= MAX_BEGUN && self.oldest <= next && next - self.oldest <= SPAN)
+    }
+
+    /// Any ticket lies in the ring and was given out; a place about to be
+    /// acted on is in a state the step table lists; and a ticket about to be
+    /// taken has a place.
+    fn phase_fits(&self, phase: Phase) -> bool {
+        match phase {
+            Phase::Free | Phase::Holding | Phase::Asked | Phase::GivingBack => true,
+            Phase::Unnumbered => self.covers(self.next_ticket),
+            Phase::Carrying => self.covers(self.next_resume),
+            // Neither acts on its place: one rests, the other only counts.
+            Phase::Waiting(t) | Phase::GivingUp(t) => self.covers(t) && t < self.next_ticket,
+            Phase::Numbered(t) => {
+                self.covers(t)
+                    && t < self.next_ticket
+                    && matches!(self.place(t), Place::Empty | Place::Permit)
+            }
+            Phase::Cancelling(t) | Phase::Refusing(t) => {
+                self.covers(t)
+                    && t < self.next_ticket
+                    && matches!(self.place(t), Place::Waiting(_) | Place::Permit)
+            }
+            Phase::Handing(t) => {
+                self.covers(t)
+                    && t < self.next_resume
+                    && !matches!(self.place(t), Place::Permit | Place::Done)
+            }
+        }
+    }
+
+    /// A waiting place's party is there, or on its way out, with that ticket.
+    fn place_fits(&self, ticket: Ticket) -> bool {
+        let Place::Waiting(waiter) = self.place(ticket) else {
+            return true;
+        };
+        match self.phases.get(waiter as usize) {
+            Some(
+                Phase::Waiting(t) | Phase::GivingUp(t) | Phase::Cancelling(t) | Phase::Refusing(t),
+            ) => *t == ticket,
+            _ => false,
+        }
+    }
+
+    /// Whether the ring has a place for this ticket now.
+    fn covers(&self, ticket: Ticket) -> bool {
+        ticket >= self.oldest && ticket - self.oldest < SPAN
+    }
+
+    fn place(&self, ticket: Ticket) -> Place {
+        self.ring[ticket as usize % PLACES]
+    }
+
+    fn set_place(&mut self, ticket: Ticket, place: Place) {
+        self.ring[ticket as usize % PLACES] = place;
+    }
+
+    fn holders(&self) -> u8 {
+        self.count_phases(|phase| matches!(phase, Phase::Holding | Phase::GivingBack))
+    }
+
+    fn waiters(&self) -> u8 {
+        self.count_phases(|phase| matches!(phase, Phase::Waiting(_)))
+    }
+
+    fn count_phases(&self, wanted: impl Fn(Phase) -> bool) -> u8 {
+        self.phases
+            .iter()
+            .map(|&phase| u8::from(wanted(phase)))
+            .sum()
+    }
+}
+
+/// Longest line, in bytes before its line feed, that is looked into.
+const MAX_LINE: usize = 64;
+/// Printed for a party that is not there.
+const NO_PARTY: u8 = 0xFF;
+/// Printed for a ticket that is not there.
+const NO_TICKET: Ticket = Ticket::MAX;
+/// Bytes read or written at a time.
+const BUFFER: usize = 64 * 1024;
+
+enum Frame {
+    Open { permits: u8, parties: u8 },
+    Call { call: Call, party: u8 },
+}
+
+fn parse(line: &[u8]) -> Option<Frame> {
+    if line.len() > MAX_LINE {
+        return None;
+    }
+    match decode_hex(line)?[..] {
+        [0x01, permits, parties] => Some(Frame::Open { permits, parties }),
+        [0x10, party] => Some(Frame::Call {
+            call: Call::Acquire,
+            party,
+        }),
+        [0x11, party] => Some(Frame::Call {
+            call: Call::Step,
+            party,
+        }),
+        [0x12, party] => Some(Frame::Call {
+            call: Call::Cancel,
+            party,
+        }),
+        [0x13, party] => Some(Frame::Call {
+            call: Call::Release,
+            party,
+        }),
+        _ => None,
+    }
+}
+
+fn decode_hex(line: &[u8]) -> Option<Vec<u8>> {
+    line.chunks(2)
+        .map(|pair| match *pair {
+            [high, low] => Some(hex_digit(high)? << 4 | hex_digit(low)?),
+            _ => None,
+        })
+        .collect()
+}
+
+fn hex_digit(byte: u8) -> Option<u8> {
+    match byte {
+        b'0'..=b'9' => Some(byte - b'0'),
+        b'A'..=b'F' => Some(byte - b'A' + 10),
+        b'a'..=b'f' => Some(byte - b'a' + 10),
+        _ => None,
+    }
+}
+
+/// The schedule program: at most one hub, opened by the first accepted opening.
+struct Program {
+    hub: Option<Hub>,
+    check: bool,
+}
+
+impl Program {
+    /// The party byte to print for a line, and what became of it.
+    fn answer(&mut self, line: &[u8]) -> (u8, Result<Answer, Refusal>) {
+        match parse(line) {
+            None => (NO_PARTY, Err(Refusal::Malformed)),
+            Some(Frame::Open { permits, parties }) => (NO_PARTY, self.open(permits, parties)),
+            Some(Frame::Call { call, party }) => {
+                let outcome = match &mut self.hub {
+                    Some(hub) => hub.call(call, party, self.check),
+                    None => Err(Refusal::OutOfOrder),
+                };
+                (party, outcome)
+            }
+        }
+    }
+
+    fn open(&mut self, permits: u8, parties: u8) -> Result<Answer, Refusal> {
+        if self.hub.is_some() {
+            return Err(Refusal::OutOfOrder);
+        }
+        self.hub = Some(Hub::open(permits, parties)?);
+        Ok(Answer::plain(0x1F))
+    }
+}
+
+/// Reads the next line, without its line feed, into `line`; false when there is
+/// none. Keeps one byte more than a line may have, which is enough to tell that
+/// it is over-long and bounds the memory.
+fn read_line(input: &mut impl BufRead, line: &mut Vec<u8>) -> io::Result<bool> {
+    line.clear();
+    loop {
+        let chunk = match input.fill_buf() {
+            Ok(chunk) => chunk,
+            Err(error) if error.kind() == ErrorKind::Interrupted => continue,
+            Err(error) => return Err(error),
+        };
+        if chunk.is_empty() {
+            // A line left without its line feed counts; nothing is no line.
+            return Ok(!line.is_empty());
+        }
+        let feed = chunk.iter().position(|&byte| byte == b'\n');
+        let part = &chunk[..feed.unwrap_or(chunk.len())];
+        let room = (MAX_LINE + 1).saturating_sub(line.len());
+        line.extend(part.iter().take(room));
+        let used = part.len() + usize::from(feed.is_some());
+        input.consume(used);
+        if feed.is_some() {
+            return Ok(true);
+        }
+    }
+}
+
+fn write_answer(
+    output: &mut impl Write,
+    party: u8,
+    outcome: Result<Answer, Refusal>,
+) -> io::Result<()> {
+    let answer = outcome.unwrap_or_else(|refusal| Answer::plain(refusal as u8));
+    let woken = answer.woken.unwrap_or(u32::from(NO_PARTY));
+    let ticket = answer.ticket.unwrap_or(NO_TICKET);
+    writeln!(
+        output,
+        "{:02X}{party:02X}{woken:02X}{ticket:08X}",
+        answer.code
+    )
+}
+
+fn write_closing(output: &mut impl Write, hub: Option<&Hub>) -> io::Result<()> {
+    let (holders, waiters, counter) =
+        hub.map_or((0, 0, 0), |hub| (hub.holders(), hub.waiters(), hub.counter));
+    // A negative counter prints in two's complement.
+    writeln!(output, "7E{holders:02X}{waiters:02X}{counter:08X}")
+}
+
+fn run(mut input: impl BufRead, mut output: impl Write, check: bool) -> io::Result<()> {
+    let mut program = Program { hub: None, check };
+    let mut line = Vec::with_capacity(MAX_LINE + 1);
+    while read_line(&mut input, &mut line)? {
+        let (party, outcome) = program.answer(&line);
+        write_answer(&mut output, party, outcome)?;
+    }
+    write_closing(&mut output, program.hub.as_ref())?;
+    output.flush()
+}
+
+fn main() -> ExitCode {
+    let mut check = true;
+    for argument in env::args_os().skip(1) {
+        if argument != "--no-check" {
+            return fail("usage: main [--no-check] < schedule > answers");
+        }
+        check = false;
+    }
+    let input = BufReader::with_capacity(BUFFER, io::stdin().lock());
+    let output = BufWriter::with_capacity(BUFFER, io::stdout().lock());
+    match run(input, output, check) {
+        Ok(()) => ExitCode::SUCCESS,
+        Err(error) => fail(&error.to_string()),
+    }
+}
+
+/// Says why on standard error. `eprintln!` would panic if that were closed.
+fn fail(message: &str) -> ExitCode {
+    let _ = writeln!(io::stderr(), "{message}");
+    ExitCode::FAILURE
+}

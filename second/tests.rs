@@ -1,0 +1,1172 @@
+//! Tests of the second program: the paper's run and edges, malformed lines,
+//! hand-made records for the fit check, and random schedules.
+
+use super::*;
+
+const CALLS: [Call; 4] = [Call::Acquire, Call::Step, Call::Cancel, Call::Release];
+
+/// Feeds the input through a reader of the given chunk size.
+fn run_chunked(input: &[u8], chunk: usize, check: bool) -> String {
+    let mut output = Vec::new();
+    run(BufReader::with_capacity(chunk, input), &mut output, check).unwrap();
+    String::from_utf8(output).unwrap()
+}
+
+/// The answers to an input; chunk size and fit check must not show in them.
+fn answers(input: impl AsRef<[u8]>) -> String {
+    let input = input.as_ref();
+    let output = run_chunked(input, BUFFER, true);
+    for chunk in [1, 2, 3, 7, 65] {
+        assert_eq!(output, run_chunked(input, chunk, true));
+    }
+    assert_eq!(output, run_chunked(input, BUFFER, false));
+    output
+}
+
+/// Asserts the answer to each line, and the closing line.
+fn assert_run(pairs: &[(&str, &str)], closing: &str) {
+    let input: String = pairs.iter().map(|(line, _)| format!("{line}\n")).collect();
+    let expected: String = pairs
+        .iter()
+        .map(|(_, answer)| format!("{answer}\n"))
+        .collect();
+    assert_eq!(answers(input), format!("{expected}{closing}\n"));
+}
+
+/// The last answer before the closing line.
+fn last_answer(input: impl AsRef<[u8]>) -> String {
+    answers(input).lines().rev().nth(1).unwrap().to_string()
+}
+
+const NOTHING_OPENED: &str = "7E000000000000";
+const MALFORMED: &str = "0CFFFFFFFFFFFF";
+
+mod paper {
+    use super::*;
+
+    #[test]
+    fn whole_run() {
+        assert_run(
+            &[
+                ("010103", "1FFFFFFFFFFFFF"),
+                ("1000", "2000FFFFFFFFFF"),
+                ("1100", "2100FFFFFFFFFF"),
+                ("1001", "2001FFFFFFFFFF"),
+                ("1101", "2201FFFFFFFFFF"),
+                ("1101", "2301FF00000000"),
+                ("1101", "2401FF00000000"),
+                ("1300", "2000FFFFFFFFFF"),
+                ("1100", "2700FFFFFFFFFF"),
+                ("1201", "2001FFFFFFFFFF"),
+                ("1101", "2F01FFFFFFFFFF"),
+                ("1100", "2800FF00000000"),
+                ("1100", "2B00FF00000000"),
+                ("1101", "3301FF00000000"),
+            ],
+            "7E000000000001",
+        );
+    }
+
+    #[test]
+    fn openings() {
+        assert_run(&[("010001", "02FFFFFFFFFFFF")], NOTHING_OPENED);
+        assert_run(&[("012101", "02FFFFFFFFFFFF")], NOTHING_OPENED);
+        assert_run(&[("01FF01", "02FFFFFFFFFFFF")], NOTHING_OPENED);
+        assert_run(&[("010100", "03FFFFFFFFFFFF")], NOTHING_OPENED);
+        assert_run(&[("010121", "03FFFFFFFFFFFF")], NOTHING_OPENED);
+        assert_run(&[("010000", "02FFFFFFFFFFFF")], NOTHING_OPENED);
+        assert_run(&[("012020", "1FFFFFFFFFFFFF")], "7E000000000020");
+        assert_run(&[("010101", "1FFFFFFFFFFFFF")], "7E000000000001");
+    }
+
+    #[test]
+    fn party_bound() {
+        assert_run(
+            &[
+                ("010103", "1FFFFFFFFFFFFF"),
+                ("1003", "0403FFFFFFFFFF"),
+                ("1103", "0403FFFFFFFFFF"),
+                ("1203", "0403FFFFFFFFFF"),
+                ("1303", "0403FFFFFFFFFF"),
+                ("10FF", "04FFFFFFFFFFFF"),
+                ("1102", "0802FFFFFFFFFF"),
+                ("1202", "0902FFFFFFFFFF"),
+                ("1302", "0B02FFFFFFFFFF"),
+                ("1002", "2002FFFFFFFFFF"),
+                ("1002", "0502FFFFFFFFFF"),
+            ],
+            "7E000000000001",
+        );
+    }
+
+    /// Steps party 0 of a reached-looking record with this counter and phase.
+    fn step_at(counter: i32, phase: Phase, place: Place) -> u8 {
+        let mut hub = Hub::open(1, 2).unwrap();
+        hub.counter = counter;
+        hub.next_ticket = 1;
+        hub.phases[0] = phase;
+        hub.ring[0] = place;
+        hub.call(Call::Step, 0, true).unwrap().code
+    }
+
+    #[test]
+    fn counter_edges() {
+        assert_eq!(step_at(1, Phase::Asked, Place::Empty), 0x21);
+        assert_eq!(step_at(0, Phase::Asked, Place::Empty), 0x22);
+        assert_eq!(step_at(-1, Phase::GivingBack, Place::Empty), 0x27);
+        assert_eq!(step_at(0, Phase::GivingBack, Place::Empty), 0x26);
+        assert_eq!(step_at(-1, Phase::GivingUp(0), Place::Waiting(0)), 0x2E);
+        assert_eq!(step_at(0, Phase::GivingUp(0), Place::Waiting(0)), 0x2F);
+    }
+
+    /// Party 0 holds, 1 waits with number 0, 2 gives up so many waits.
+    fn ring_edge(waits: usize) -> String {
+        let wait = "1002\n1102\n1102\n1102\n1202\n1102\n1102\n";
+        let start = "010103\n1000\n1100\n1001\n1101\n1101\n1101\n";
+        format!("{start}{}", wait.repeat(waits))
+    }
+
+    #[test]
+    fn ring_full_after_255_given_up_waits() {
+        assert_eq!(last_answer(ring_edge(254)), "3002FF000000FE");
+        assert_eq!(last_answer(ring_edge(254) + "1002\n"), "2002FFFFFFFFFF");
+        assert_eq!(last_answer(ring_edge(255)), "3002FF000000FF");
+        assert_eq!(last_answer(ring_edge(255) + "1002\n"), "0702FFFFFFFFFF");
+    }
+
+    /// Serving number 0 lets the tidying pass every cancelled place.
+    #[test]
+    fn ring_empties_when_the_oldest_wait_is_served() {
+        let output = answers(ring_edge(255) + "1300\n1100\n1100\n1100\n1002\n1102\n1102\n");
+        let tail: Vec<&str> = output.lines().rev().take(6).collect();
+        assert_eq!(
+            tail,
+            [
+                "7E0100FFFFFFFF",
+                "2302FF00000100",
+                "2202FFFFFFFFFF",
+                "2002FFFFFFFFFF",
+                "2A000100000000",
+                "2800FF00000000",
+            ]
+        );
+    }
+
+    #[test]
+    fn asked_and_unnumbered_parties_count_towards_the_ring() {
+        let mut hub = Hub::open(1, 4).unwrap();
+        hub.next_ticket = 254;
+        hub.phases[0] = Phase::Asked;
+        assert_eq!(
+            hub.clone().call(Call::Acquire, 2, true),
+            Ok(Answer::plain(0x20))
+        );
+        hub.phases[1] = Phase::Unnumbered;
+        assert_eq!(hub.call(Call::Acquire, 2, true), Err(Refusal::RingFull));
+    }
+
+    #[test]
+    fn refusals_come_in_order() {
+        let mut hub = Hub::open(1, 2).unwrap();
+        hub.begun = MAX_BEGUN;
+        hub.next_ticket = SPAN;
+        hub.phases[1] = Phase::Holding;
+        assert_eq!(hub.call(Call::Acquire, 2, true), Err(Refusal::NoSuchParty));
+        assert_eq!(hub.call(Call::Acquire, 1, true), Err(Refusal::NotFree));
+        assert_eq!(hub.call(Call::Acquire, 0, true), Err(Refusal::BegunFull));
+        hub.begun -= 1;
+        assert_eq!(hub.call(Call::Acquire, 0, true), Err(Refusal::RingFull));
+        hub.next_ticket -= 1;
+        assert_eq!(hub.call(Call::Acquire, 0, true), Ok(Answer::plain(0x20)));
+        assert_eq!(hub.begun, MAX_BEGUN);
+    }
+
+    #[test]
+    fn battery_rounds_may_not_give_up() {
+        for party in 0..PARTIES {
+            let mut hub = Hub::open(1, 32).unwrap();
+            hub.next_ticket = 1;
+            assert_eq!(
+                hub.call(Call::Cancel, party as u8, true),
+                Err(Refusal::NotWaiting)
+            );
+            hub.phases[party] = Phase::Waiting(0);
+            hub.ring[0] = Place::Waiting(party as u32);
+            let expected = if party < 30 {
+                Ok(Answer::plain(0x20))
+            } else {
+                Err(Refusal::MustWait)
+            };
+            assert_eq!(hub.call(Call::Cancel, party as u8, true), expected);
+        }
+    }
+
+    #[test]
+    fn kinds() {
+        let of = |kind_wanted| (0..PARTIES).filter(move |&party| kind(party) == kind_wanted);
+        assert!(of(Kind::Desk).eq(0..8));
+        assert!(of(Kind::Door).eq(8..28));
+        assert!(of(Kind::Replacement).eq(28..30));
+        assert!(of(Kind::BatteryRound).eq(30..32));
+    }
+
+    /// Every row of the step table on hand-made records: phase and place
+    /// before, then code, phase and place after. The place is number 7's.
+    #[test]
+    fn step_table() {
+        use Phase::*;
+        let rows = [
+            (
+                Numbered(7),
+                Place::Empty,
+                0x24,
+                Waiting(7),
+                Place::Waiting(0),
+            ),
+            (Numbered(7), Place::Permit, 0x25, Holding, Place::Done),
+            (Handing(7), Place::Empty, 0x29, Free, Place::Permit),
+            (Handing(7), Place::Waiting(1), 0x2A, Free, Place::Done),
+            (Handing(7), Place::Waiting(2), 0x2B, Free, Place::Permit),
+            (Handing(7), Place::Waiting(3), 0x2B, Free, Place::Permit),
+            (Handing(7), Place::Waiting(4), 0x2B, Free, Place::Permit),
+            (Handing(7), Place::Cancelled, 0x2C, Carrying, Place::Done),
+            (Handing(7), Place::Refused, 0x2D, Free, Place::Done),
+            (
+                Cancelling(7),
+                Place::Waiting(0),
+                0x30,
+                Free,
+                Place::Cancelled,
+            ),
+            (Cancelling(7), Place::Permit, 0x31, Carrying, Place::Done),
+            (Refusing(7), Place::Waiting(0), 0x32, Free, Place::Refused),
+            (Refusing(7), Place::Permit, 0x33, Free, Place::Done),
+        ];
+        for (before, place, code, after, place_after) in rows {
+            let mut hub = Hub::open(1, 5).unwrap();
+            hub.next_ticket = 8;
+            hub.next_resume = 8;
+            hub.ring[7] = place;
+            hub.phases[0] = before;
+            match place {
+                Place::Waiting(1) => hub.phases[1] = Waiting(7),
+                Place::Waiting(2) => hub.phases[2] = GivingUp(7),
+                Place::Waiting(3) => hub.phases[3] = Cancelling(7),
+                Place::Waiting(4) => hub.phases[4] = Refusing(7),
+                _ => {}
+            }
+            let mut expected = hub.clone();
+            expected.phases[0] = after;
+            expected.ring[7] = place_after;
+            let woken = (code == 0x2A).then(|| {
+                expected.phases[1] = Holding;
+                1
+            });
+            let answer = Answer {
+                code,
+                woken,
+                ticket: Some(7),
+            };
+            assert_eq!(hub.call(Call::Step, 0, true), Ok(answer));
+            assert_eq!(hub, expected);
+        }
+    }
+}
+
+mod frames {
+    use super::*;
+
+    #[test]
+    fn no_lines() {
+        assert_eq!(answers(""), format!("{NOTHING_OPENED}\n"));
+    }
+
+    #[test]
+    fn malformed_lines() {
+        let long = "0".repeat(65);
+        let full = "0".repeat(64);
+        let longer = "1000".repeat(100_000);
+        let lines: [&[u8]; 31] = [
+            b"",
+            b"1",
+            b"100",
+            b"10000",
+            b"0101",
+            b"01010",
+            b"01010100",
+            b"10",
+            b"01",
+            b"100000",
+            b"110000",
+            b"120000",
+            b"130000",
+            b"00",
+            b"0000",
+            b"1400",
+            b"0F00",
+            b"7E00",
+            b"FFFF",
+            b"1000\r",
+            b"100\r",
+            b" 1000",
+            b"10 0",
+            b"10\t0",
+            b"10\x000",
+            b"10\xFF0",
+            b"10G0",
+            b"10g0",
+            long.as_bytes(),
+            full.as_bytes(),
+            longer.as_bytes(),
+        ];
+        for open in ["", "010101\n"] {
+            for line in lines {
+                let mut input = open.as_bytes().to_vec();
+                input.extend(line);
+                input.extend(b"\n");
+                assert_eq!(last_answer(&input), MALFORMED, "{line:?}");
+                // Each was one line: the count of answers says so.
+                let expected = 2 + open.lines().count();
+                assert_eq!(answers(&input).lines().count(), expected);
+            }
+        }
+    }
+
+    #[test]
+    fn every_code_and_length() {
+        for code in 0..=255u8 {
+            for length in 1..=33usize {
+                let line = format!("{code:02X}{}\n", "01".repeat(length - 1));
+                let known = match code {
+                    0x01 => length == 3,
+                    0x10..=0x13 => length == 2,
+                    _ => false,
+                };
+                assert_eq!(last_answer(line) != MALFORMED, known);
+            }
+        }
+    }
+
+    #[test]
+    fn every_byte_as_a_digit() {
+        for byte in (0..=255u8).filter(|&byte| byte != b'\n') {
+            let expected = match byte {
+                b'0'..=b'9' | b'a'..=b'f' | b'A'..=b'F' => {
+                    format!("0D0{}FFFFFFFFFF", char::from(byte.to_ascii_uppercase()))
+                }
+                _ => MALFORMED.to_string(),
+            };
+            assert_eq!(last_answer([b'1', b'0', b'0', byte, b'\n']), expected);
+        }
+    }
+
+    #[test]
+    fn line_ends() {
+        // A line without its end mark counts.
+        assert_eq!(answers("010101"), "1FFFFFFFFFFFFF\n7E000000000001\n");
+        assert_eq!(answers("010101\n"), "1FFFFFFFFFFFFF\n7E000000000001\n");
+        assert_eq!(answers("\n"), format!("{MALFORMED}\n{NOTHING_OPENED}\n"));
+        assert_eq!(
+            answers("010101\n\n"),
+            format!("1FFFFFFFFFFFFF\n{MALFORMED}\n7E000000000001\n")
+        );
+        assert_eq!(answers("0"), format!("{MALFORMED}\n{NOTHING_OPENED}\n"));
+        // An over-long line hides nothing after it.
+        let long = "1".repeat(1000);
+        assert_eq!(
+            answers(format!("{long}\n010101\n{long}")),
+            format!("{MALFORMED}\n1FFFFFFFFFFFFF\n{MALFORMED}\n7E000000000001\n")
+        );
+    }
+
+    #[test]
+    fn either_case_is_read_and_capitals_written() {
+        assert_eq!(last_answer("01201f\n10aB\n"), "04ABFFFFFFFFFF");
+        assert_eq!(last_answer("01201F\n101e\n"), "201EFFFFFFFFFF");
+    }
+
+    #[test]
+    fn calls_out_of_order() {
+        assert_run(
+            &[
+                ("1000", "0D00FFFFFFFFFF"),
+                ("1105", "0D05FFFFFFFFFF"),
+                ("12FE", "0DFEFFFFFFFFFF"),
+                ("1321", "0D21FFFFFFFFFF"),
+                ("010000", "02FFFFFFFFFFFF"),
+                ("1000", "0D00FFFFFFFFFF"),
+                ("010100", "03FFFFFFFFFFFF"),
+                ("010202", "1FFFFFFFFFFFFF"),
+                ("010202", "0DFFFFFFFFFFFF"),
+                ("010000", "0DFFFFFFFFFFFF"),
+                ("0100", MALFORMED),
+                ("1000", "2000FFFFFFFFFF"),
+            ],
+            "7E000000000002",
+        );
+    }
+
+    #[test]
+    fn closing_line_counts() {
+        // Party 0 gives back, 1 and 2 wait, 3 is asked.
+        let wait = "1001\n1101\n1101\n1101\n1002\n1102\n1102\n1102\n1003\n";
+        let input = format!("010104\n1000\n1100\n{wait}1300\n");
+        assert_eq!(answers(input).lines().last(), Some("7E0102FFFFFFFE"));
+    }
+}
+
+mod fit {
+    use super::*;
+
+    /// A phase that carries a ticket, the ticket still to be filled in.
+    type Ticketed = fn(Ticket) -> Phase;
+
+    /// A fitting record in the middle of its life, each party elsewhere.
+    fn sample() -> Hub {
+        use Phase::*;
+        let mut hub = Hub::open(3, 13).unwrap();
+        hub.counter = -2;
+        hub.begun = 700;
+        hub.oldest = 500;
+        hub.next_ticket = 520;
+        hub.next_resume = 510;
+        let phases = [
+            Free,
+            Holding,
+            Waiting(511),
+            Asked,
+            Unnumbered,
+            Numbered(512),
+            GivingUp(513),
+            Cancelling(514),
+            Refusing(515),
+            GivingBack,
+            Carrying,
+            Handing(500),
+            Handing(501),
+        ];
+        hub.phases[..phases.len()].copy_from_slice(&phases);
+        for (ticket, party) in [(511, 2), (513, 6), (514, 7), (515, 8)] {
+            hub.set_place(ticket, Place::Waiting(party));
+        }
+        hub.set_place(501, Place::Cancelled);
+        hub.set_place(502, Place::Refused);
+        hub.set_place(503, Place::Permit);
+        hub.set_place(504, Place::Done);
+        hub
+    }
+
+    /// A record that does not fit: 1 to every call, whoever makes it, and the
+    /// record stays as it was.
+    fn assert_misfit(what: &str, alter: impl FnOnce(&mut Hub)) {
+        let mut hub = sample();
+        alter(&mut hub);
+        assert!(!hub.fits(), "{}", what);
+        let before = hub.clone();
+        for call in CALLS {
+            for party in [0, 12, 13, 255] {
+                assert_eq!(hub.call(call, party, true), Err(Refusal::Misfit), "{what}");
+            }
+        }
+        assert_eq!(hub, before, "{what}");
+    }
+
+    fn assert_fits(what: &str, alter: impl FnOnce(&mut Hub)) {
+        let mut hub = sample();
+        alter(&mut hub);
+        assert!(hub.fits(), "{}", what);
+    }
+
+    /// The sample without its phases and places, to move its bounds about.
+    fn bare(hub: &mut Hub, oldest: Ticket, next_ticket: Ticket, next_resume: Ticket) {
+        hub.phases = [Phase::Free; PARTIES];
+        hub.ring = [Place::Empty; PLACES];
+        hub.oldest = oldest;
+        hub.next_ticket = next_ticket;
+        hub.next_resume = next_resume;
+    }
+
+    #[test]
+    fn sample_and_fresh_records_fit() {
+        assert_fits("sample", |_| {});
+        for permits in 1..=32 {
+            for parties in 1..=32 {
+                assert!(Hub::open(permits, parties).unwrap().fits());
+            }
+        }
+    }
+
+    #[test]
+    fn permits_and_parties_in_range() {
+        assert_misfit("K 0", |hub| hub.permits = 0);
+        assert_fits("K 1", |hub| hub.permits = 1);
+        assert_fits("K 32", |hub| hub.permits = 32);
+        assert_misfit("K 33", |hub| hub.permits = 33);
+        assert_misfit("K 255", |hub| hub.permits = 255);
+        let free = |parties| {
+            move |hub: &mut Hub| {
+                bare(hub, 0, 0, 0);
+                hub.parties = parties;
+            }
+        };
+        assert_misfit("n 0", free(0));
+        assert_fits("n 1", free(1));
+        assert_fits("n 32", free(32));
+        assert_misfit("n 33", free(33));
+        assert_misfit("n 255", free(255));
+    }
+
+    #[test]
+    fn parties_from_n_up_free() {
+        assert_misfit("n holds", |hub| hub.phases[13] = Phase::Holding);
+        assert_misfit("n asked", |hub| hub.phases[13] = Phase::Asked);
+        assert_misfit("31 gives back", |hub| hub.phases[31] = Phase::GivingBack);
+        assert_misfit("n lowered", |hub| hub.parties = 12);
+        assert_misfit("n waits", |hub| {
+            hub.phases[13] = Phase::Waiting(516);
+            hub.set_place(516, Place::Waiting(13));
+        });
+        assert_fits("n raised", |hub| hub.parties = 14);
+    }
+
+    #[test]
+    fn counter_in_range() {
+        assert_misfit("-33", |hub| hub.counter = -33);
+        assert_fits("-32", |hub| hub.counter = -32);
+        assert_fits("32", |hub| hub.counter = 32);
+        assert_misfit("33", |hub| hub.counter = 33);
+        assert_misfit("least", |hub| hub.counter = i32::MIN);
+        assert_misfit("most", |hub| hub.counter = i32::MAX);
+    }
+
+    #[test]
+    fn counts_at_most_a_million() {
+        assert_fits("begun", |hub| hub.begun = 1_000_000);
+        assert_misfit("begun", |hub| hub.begun = 1_000_001);
+        assert_misfit("begun", |hub| hub.begun = u32::MAX);
+        assert_fits("both", |hub| bare(hub, 999_990, 1_000_000, 1_000_000));
+        assert_fits("all", |hub| bare(hub, 1_000_000, 1_000_000, 1_000_000));
+        assert_misfit("numbered", |hub| bare(hub, 999_990, 1_000_001, 1_000_000));
+        assert_misfit("handed", |hub| bare(hub, 999_990, 1_000_000, 1_000_001));
+        assert_misfit("greatest", |hub| bare(hub, u32::MAX, u32::MAX, u32::MAX));
+    }
+
+    #[test]
+    fn counters_within_the_ring() {
+        assert_fits("oldest at both", |hub| bare(hub, 500, 500, 500));
+        assert_misfit("numbered below oldest", |hub| bare(hub, 500, 499, 500));
+        assert_misfit("handed below oldest", |hub| bare(hub, 500, 500, 499));
+        assert_fits("both at the end", |hub| bare(hub, 500, 756, 756));
+        assert_misfit("numbered past the end", |hub| bare(hub, 500, 757, 756));
+        assert_misfit("handed past the end", |hub| bare(hub, 500, 756, 757));
+        assert_misfit("oldest greatest", |hub| bare(hub, u32::MAX, 500, 500));
+    }
+
+    #[test]
+    fn party_numbers_within_the_ring_and_given_out() {
+        let on_empty = [Phase::Waiting, Phase::GivingUp, Phase::Numbered];
+        let on_permit = [Phase::Cancelling, Phase::Refusing];
+        let numbered = on_empty.map(|phase: Ticketed| (phase, Place::Empty));
+        let leaving = on_permit.map(|phase: Ticketed| (phase, Place::Permit));
+        let put = |phase: Ticketed, place, ticket: Ticket| {
+            move |hub: &mut Hub| {
+                bare(hub, 500, 520, 510);
+                hub.phases[0] = phase(ticket);
+                hub.set_place(ticket, place);
+            }
+        };
+        for (phase, place) in numbered.iter().chain(&leaving).copied() {
+            let what = format!("{:?} {place:?}", phase(0));
+            assert_misfit(&what, put(phase, place, 499));
+            assert_fits(&what, put(phase, place, 500));
+            assert_fits(&what, put(phase, place, 519));
+            assert_misfit(&what, put(phase, place, 520));
+            assert_misfit(&what, put(phase, place, 756));
+            assert_misfit(&what, put(phase, place, u32::MAX));
+        }
+        assert_misfit("handing", put(Phase::Handing, Place::Empty, 499));
+        assert_fits("handing", put(Phase::Handing, Place::Empty, 500));
+        assert_fits("handing", put(Phase::Handing, Place::Empty, 509));
+        assert_misfit("handing", put(Phase::Handing, Place::Empty, 510));
+        assert_misfit("handing", put(Phase::Handing, Place::Empty, 756));
+        // With the ring full the bounds and the ring end together.
+        let full = |phase: Ticketed, ticket| {
+            move |hub: &mut Hub| {
+                bare(hub, 500, 756, 756);
+                hub.phases[0] = phase(ticket);
+            }
+        };
+        assert_fits("last", full(Phase::Handing, 755));
+        assert_fits("last", full(Phase::Numbered, 755));
+        assert_misfit("end", full(Phase::Handing, 756));
+        assert_misfit("end", full(Phase::Numbered, 756));
+    }
+
+    #[test]
+    fn waiting_place_has_its_party() {
+        use Phase::*;
+        for party in [32, 255, 256, u32::MAX] {
+            assert_misfit("no such party", |hub| {
+                hub.set_place(516, Place::Waiting(party))
+            });
+        }
+        assert_misfit("party from n up", |hub| {
+            hub.set_place(516, Place::Waiting(13))
+        });
+        let put = |phase| {
+            move |hub: &mut Hub| {
+                bare(hub, 500, 520, 520);
+                hub.set_place(516, Place::Waiting(0));
+                hub.phases[0] = phase;
+            }
+        };
+        for phase in [Waiting(516), GivingUp(516), Cancelling(516), Refusing(516)] {
+            assert_fits("own number", put(phase));
+        }
+        for phase in [
+            Free,
+            Holding,
+            Asked,
+            Unnumbered,
+            GivingBack,
+            Carrying,
+            Handing(516),
+        ] {
+            assert_misfit("wrong phase", put(phase));
+        }
+        for phase in [Waiting, GivingUp] {
+            assert_misfit("other number", put(phase(515)));
+        }
+        for phase in [Cancelling, Refusing] {
+            assert_misfit("other number", |hub| {
+                put(phase(515))(hub);
+                hub.set_place(515, Place::Permit);
+            });
+        }
+        // A place beyond the numbers given out is not exempt.
+        assert_misfit("unused place", |hub| hub.set_place(755, Place::Waiting(0)));
+        // The same ring index one turn later is another number.
+        assert_misfit("one turn on", |hub| {
+            bare(hub, 500, 756, 500);
+            hub.set_place(700, Place::Waiting(0));
+            hub.phases[0] = Waiting(700 - SPAN);
+        });
+    }
+
+    #[test]
+    fn places_about_to_be_acted_on_are_listed() {
+        let places = [
+            Place::Empty,
+            Place::Waiting(1),
+            Place::Permit,
+            Place::Cancelled,
+            Place::Refused,
+            Place::Done,
+        ];
+        let table: [(Ticketed, [bool; 6]); 6] = [
+            (Phase::Numbered, [true, false, true, false, false, false]),
+            (Phase::Handing, [true, true, false, true, true, false]),
+            (Phase::Cancelling, [false, true, true, false, false, false]),
+            (Phase::Refusing, [false, true, true, false, false, false]),
+            // These two do not act on their place.
+            (Phase::Waiting, [true; 6]),
+            (Phase::GivingUp, [true; 6]),
+        ];
+        for (phase, listed) in table {
+            for (place, fits) in places.iter().copied().zip(listed) {
+                let what = format!("{:?} {place:?}", phase(505));
+                let alter = |hub: &mut Hub| {
+                    bare(hub, 500, 520, 510);
+                    hub.phases[0] = phase(505);
+                    hub.set_place(505, place);
+                    if place == Place::Waiting(1) {
+                        hub.phases[1] = Phase::Waiting(505);
+                    }
+                };
+                if fits {
+                    assert_fits(&what, alter);
+                } else {
+                    assert_misfit(&what, alter);
+                }
+            }
+        }
+    }
+
+    #[test]
+    fn numbers_about_to_be_taken_have_a_place() {
+        let put = |phase, next_ticket, next_resume| {
+            move |hub: &mut Hub| {
+                bare(hub, 500, next_ticket, next_resume);
+                hub.phases[0] = phase;
+            }
+        };
+        assert_fits("unnumbered", put(Phase::Unnumbered, 755, 756));
+        assert_misfit("unnumbered", put(Phase::Unnumbered, 756, 500));
+        assert_fits("carrying", put(Phase::Carrying, 756, 755));
+        assert_misfit("carrying", put(Phase::Carrying, 500, 756));
+        // The clause is about these phases only.
+        assert_fits("asked", put(Phase::Asked, 756, 756));
+        assert_fits("giving back", put(Phase::GivingBack, 756, 756));
+    }
+
+    /// Nothing else is required of a record.
+    #[test]
+    fn no_clause_too_many() {
+        assert_fits("counter says otherwise", |hub| hub.counter = 32);
+        assert_fits("begun below numbered", |hub| hub.begun = 0);
+        assert_fits("all hold", |hub| {
+            bare(hub, 0, 0, 0);
+            hub.parties = 32;
+            hub.phases = [Phase::Holding; PARTIES];
+        });
+        assert_fits("untidy", |hub| {
+            hub.set_place(500, Place::Empty);
+            hub.set_place(510, Place::Cancelled);
+        });
+        assert_fits("stray places", |hub| hub.set_place(755, Place::Done));
+        assert_fits("shared number", |hub| hub.phases[0] = Phase::Waiting(511));
+    }
+
+    /// With the check off a record is taken as it comes.
+    #[test]
+    fn check_can_be_left_out() {
+        let mut hub = sample();
+        hub.begun = MAX_BEGUN;
+        hub.counter = 33;
+        assert_eq!(hub.call(Call::Acquire, 0, true), Err(Refusal::Misfit));
+        assert_eq!(hub.call(Call::Acquire, 0, false), Err(Refusal::BegunFull));
+    }
+
+    /// A tidying on a hand-made record: places are passed in order, first the
+    /// cancelled at the next resume, then the done at the oldest.
+    #[test]
+    fn tidying() {
+        let mut hub = Hub::open(1, 1).unwrap();
+        hub.oldest = 250;
+        hub.next_ticket = 270;
+        hub.next_resume = 252;
+        for ticket in [250, 251] {
+            hub.set_place(ticket, Place::Done);
+        }
+        for ticket in [252, 253, 254, 256, 258] {
+            hub.set_place(ticket, Place::Cancelled);
+        }
+        hub.set_place(255, Place::Refused);
+        assert_eq!(hub.call(Call::Acquire, 0, true), Ok(Answer::plain(0x20)));
+        assert_eq!((hub.oldest, hub.next_resume), (255, 255));
+        for ticket in 250..255 {
+            assert_eq!(hub.place(ticket), Place::Empty);
+        }
+        assert_eq!(hub.place(255), Place::Refused);
+        assert_eq!(hub.place(256), Place::Cancelled);
+    }
+
+    /// The place just past the ring's end is the oldest one's: not to be passed.
+    #[test]
+    fn tidying_stays_within_the_ring() {
+        let mut hub = Hub::open(1, 1).unwrap();
+        hub.ring = [Place::Cancelled; PLACES];
+        hub.next_resume = SPAN;
+        let mut expected = hub.clone();
+        expected.phases[0] = Phase::Holding;
+        hub.phases[0] = Phase::Asked;
+        expected.counter = 0;
+        assert_eq!(hub.call(Call::Step, 0, true), Ok(Answer::plain(0x21)));
+        assert_eq!(hub, expected);
+    }
+}
+
+/// Small seeded generator (xorshift64*).
+struct Random(u64);
+
+impl Random {
+    fn seeded(seed: u64) -> Self {
+        // Xorshift must not start at zero.
+        Random(seed.wrapping_mul(0x9E37_79B9_7F4A_7C15) | 1)
+    }
+
+    /// A number below `bound`.
+    fn below(&mut self, bound: u32) -> u32 {
+        self.0 ^= self.0 >> 12;
+        self.0 ^= self.0 << 25;
+        self.0 ^= self.0 >> 27;
+        let high = (self.0.wrapping_mul(0x2545_F491_4F6C_DD1D) >> 32) as u32;
+        high % bound
+    }
+
+    fn one_in(&mut self, odds: u32) -> bool {
+        self.below(odds) == 0
+    }
+}
+
+/// The paper's "Counting links", from calls and answers alone.
+struct Ledger {
+    permits: i32,
+    phases: [Phase; PARTIES],
+    held: i32,
+    counter: i32,
+    /// Places with a permit.
+    lying: i32,
+    /// Refused places.
+    refused: i32,
+    /// The greatest number served so far.
+    last_served: Option<Ticket>,
+}
+
+impl Ledger {
+    fn new(permits: u8) -> Self {
+        Ledger {
+            permits: i32::from(permits),
+            phases: [Phase::Free; PARTIES],
+            held: 0,
+            counter: i32::from(permits),
+            lying: 0,
+            refused: 0,
+            last_served: None,
+        }
+    }
+
+    fn enter(&mut self, call: Call, party: usize, answer: Answer) {
+        use Phase::*;
+        let own = match self.phases[party] {
+            Numbered(t) | Waiting(t) | GivingUp(t) | Cancelling(t) | Refusing(t) | Handing(t) => {
+                Some(t)
+            }
+            _ => None,
+        };
+        // Only 23 and 28 bring a number; later answers repeat the party's own.
+        if let (Some(given), false) = (answer.ticket, matches!(answer.code, 0x23 | 0x28)) {
+            assert_eq!(Some(given), own);
+        }
+        let numbered = matches!(answer.code, 0x23..=0x25 | 0x28..=0x2D | 0x30..=0x33);
+        assert_eq!(answer.ticket.is_some(), numbered);
+        let ticket = answer.ticket.or(own);
+        let t = || ticket.expect("an answer that needs a number");
+        let phase = match (call, answer.code) {
+            (Call::Acquire, 0x20) => Asked,
+            (Call::Cancel, 0x20) => GivingUp(t()),
+            (Call::Release, 0x20) => GivingBack,
+            (Call::Step, 0x21 | 0x25) => Holding,
+            (Call::Step, 0x22) => Unnumbered,
+            (Call::Step, 0x23) => Numbered(t()),
+            (Call::Step, 0x24) => Waiting(t()),
+            (Call::Step, 0x27 | 0x2C | 0x31) => Carrying,
+            (Call::Step, 0x28) => Handing(t()),
+            (Call::Step, 0x26 | 0x29 | 0x2A | 0x2B | 0x2D | 0x30 | 0x32 | 0x33) => Free,
+            (Call::Step, 0x2E) => Cancelling(t()),
+            (Call::Step, 0x2F) => Refusing(t()),
+            other => panic!("no such answer: {:?}", other),
+        };
+        self.phases[party] = phase;
+        assert_eq!(answer.woken.is_some(), answer.code == 0x2A);
+        if let Some(woken) = answer.woken {
+            assert_eq!(self.phases[woken as usize], Waiting(t()));
+            self.phases[woken as usize] = Holding;
+        }
+        match answer.code {
+            0x21 | 0x25 | 0x2A => self.held += 1,
+            0x26 | 0x27 => self.held -= 1,
+            _ => {}
+        }
+        match answer.code {
+            0x21 | 0x22 => self.counter -= 1,
+            0x26 | 0x27 | 0x2E | 0x2F => self.counter += 1,
+            _ => {}
+        }
+        match answer.code {
+            0x29 | 0x2B => self.lying += 1,
+            0x25 | 0x31 | 0x33 => self.lying -= 1,
+            0x32 => self.refused += 1,
+            0x2D => self.refused -= 1,
+            _ => {}
+        }
+        if matches!(answer.code, 0x25 | 0x2A) {
+            self.last_served = self.last_served.max(ticket);
+        }
+    }
+
+    fn count(&self, wanted: impl Fn(&Phase) -> bool) -> i32 {
+        self.phases.iter().filter(|phase| wanted(phase)).count() as i32
+    }
+
+    fn busy(&self) -> Vec<u8> {
+        let rests = |p: Phase| matches!(p, Phase::Free | Phase::Holding | Phase::Waiting(_));
+        let parties = (0..).zip(self.phases);
+        parties
+            .filter(|&(_, p)| !rests(p))
+            .map(|(party, _)| party)
+            .collect()
+    }
+
+    /// The demand on every list of calls.
+    fn assert_sound(&self) {
+        let carried = self.count(|p| matches!(p, Phase::Carrying | Phase::Handing(_)));
+        let refusing = self.count(|p| matches!(p, Phase::Refusing(_)));
+        let on_the_way = carried + self.lying - refusing - self.refused;
+        assert_eq!(self.held + self.counter.max(0) + on_the_way, self.permits);
+        let holders = self.count(|p| matches!(p, Phase::Holding | Phase::GivingBack));
+        assert_eq!(holders, self.held);
+        assert!(holders <= self.permits);
+        let standing = self.phases.iter().filter_map(|p| match p {
+            Phase::Waiting(t) => Some(*t),
+            _ => None,
+        });
+        if let (Some(first), true) = (standing.min(), self.busy().is_empty()) {
+            assert_eq!(self.held, self.permits);
+            assert!(self.last_served.is_none_or(|last| last < first));
+        }
+    }
+
+    /// The record shows the same.
+    fn assert_shown_by(&self, hub: &Hub) {
+        let places = |wanted| hub.ring.iter().filter(|&&place| place == wanted).count() as i32;
+        assert_eq!(self.phases, hub.phases);
+        assert_eq!(self.counter, hub.counter);
+        assert_eq!(self.lying, places(Place::Permit));
+        assert_eq!(self.refused, places(Place::Refused));
+    }
+}
+
+/// What parties like to do in a random schedule, changed now and then.
+struct Habits {
+    /// Parties that are hardly ever called, one bit each.
+    frozen: u32,
+    /// How eager a resting party is to ask, to give up and to give back, of 8.
+    acquire: u32,
+    cancel: u32,
+    release: u32,
+}
+
+impl Habits {
+    fn new(random: &mut Random) -> Self {
+        let frozen = match random.below(3) {
+            0 => 0,
+            1 => 1 << random.below(32),
+            _ => random.below(u32::MAX) & random.below(u32::MAX) & random.below(u32::MAX),
+        };
+        Habits {
+            frozen,
+            acquire: 1 + random.below(8),
+            cancel: random.below(9),
+            release: random.below(9),
+        }
+    }
+
+    fn next(&self, random: &mut Random, hub: &Hub) -> (Call, u8) {
+        if random.one_in(50) {
+            // Any call by any party, whether it makes sense or not.
+            return (CALLS[random.below(4) as usize], random.below(256) as u8);
+        }
+        let parties = u32::from(hub.parties);
+        for _ in 0..8 {
+            let party = random.below(parties) as u8;
+            if self.frozen >> party & 1 == 1 && !random.one_in(500) {
+                continue;
+            }
+            let (call, eager) = match hub.phases[usize::from(party)] {
+                Phase::Free => (Call::Acquire, self.acquire),
+                Phase::Waiting(_) => (Call::Cancel, self.cancel),
+                Phase::Holding => (Call::Release, self.release),
+                _ => (Call::Step, 8),
+            };
+            if random.below(8) < eager {
+                return (call, party);
+            }
+        }
+        // Nobody seems to want anything.
+        (Call::Step, random.below(parties) as u8)
+    }
+}
+
+mod schedules {
+    use super::*;
+
+    /// A hub under a random schedule, with the ledger kept beside it.
+    struct Walk {
+        hub: Hub,
+        ledger: Ledger,
+        random: Random,
+    }
+
+    /// How often each answer and refusal was met, by number.
+    type Seen = [u64; 256];
+
+    impl Walk {
+        fn new(seed: u64) -> Self {
+            let mut random = Random::seeded(seed);
+            // Few parties and permits meet most often, so favour them.
+            let (most_permits, most_parties) = if random.one_in(3) { (32, 32) } else { (3, 6) };
+            let permits = 1 + random.below(most_permits) as u8;
+            let parties = 1 + random.below(most_parties) as u8;
+            Walk {
+                hub: Hub::open(permits, parties).unwrap(),
+                ledger: Ledger::new(permits),
+                random,
+            }
+        }
+
+        /// One call, entered in the ledger and checked against it.
+        fn make(&mut self, call: Call, party: u8, seen: &mut Seen) {
+            let before = self.hub.clone();
+            match self.hub.call(call, party, true) {
+                Ok(answer) => {
+                    seen[usize::from(answer.code)] += 1;
+                    self.ledger.enter(call, usize::from(party), answer);
+                }
+                Err(refusal) => {
+                    seen[refusal as usize] += 1;
+                    assert_eq!(self.hub, before);
+                }
+            }
+            assert!(self.hub.fits());
+            self.ledger.assert_shown_by(&self.hub);
+            self.ledger.assert_sound();
+        }
+
+        /// Steps busy parties, in random order, until all rest.
+        fn settle(&mut self, seen: &mut Seen) {
+            loop {
+                let busy = self.ledger.busy();
+                if busy.is_empty() {
+                    return;
+                }
+                let party = busy[self.random.below(busy.len() as u32) as usize];
+                self.make(Call::Step, party, seen);
+            }
+        }
+    }
+
+    #[test]
+    fn every_reached_record_is_sound() {
+        let mut seen: Seen = [0; 256];
+        let mut rests_with_waiters = 0u64;
+        for seed in 0..600 {
+            let mut walk = Walk::new(seed);
+            let mut habits = Habits::new(&mut walk.random);
+            for _ in 0..12_000 {
+                if walk.random.one_in(2_000) {
+                    habits = Habits::new(&mut walk.random);
+                }
+                if walk.random.one_in(150) {
+                    walk.settle(&mut seen);
+                    rests_with_waiters += u64::from(walk.hub.waiters() > 0);
+                }
+                let (call, party) = habits.next(&mut walk.random, &walk.hub);
+                walk.make(call, party, &mut seen);
+            }
+            walk.settle(&mut seen);
+        }
+        // The schedules reached every answer, and every refusal a call can
+        // meet but 1 (never, from an opening) and 6 (a million asks away).
+        assert_eq!(seen[Refusal::Misfit as usize], 0);
+        for number in (0x20..=0x33).chain([4, 5, 7, 8, 9, 10, 11]) {
+            assert!(seen[number] > 0, "never met {:#04X}", number);
+        }
+        assert!(rests_with_waiters > 1_000);
+    }
+
+    /// Any value of the type: the check and the calls are total, a misfit is
+    /// always 1, and a record that fits never meets an unlisted place.
+    #[test]
+    fn any_record_is_answered() {
+        let mut fitting = 0u64;
+        for seed in 0..300_000 {
+            let mut random = Random::seeded(seed);
+            let mut hub = any_record(&mut random);
+            let fits = hub.fits();
+            fitting += u64::from(fits);
+            let call = CALLS[random.below(4) as usize];
+            let party = random.below(34) as u8;
+            let before = hub.clone();
+            let outcome = hub.call(call, party, true);
+            assert_eq!(outcome == Err(Refusal::Misfit), !fits);
+            if outcome.is_err() {
+                assert_eq!(hub, before);
+            }
+        }
+        assert!(fitting > 1_000);
+    }
+
+    /// A record made up at random, near enough to fitting to do so at times.
+    fn any_record(random: &mut Random) -> Hub {
+        let wild = random.one_in(4);
+        let mut hub = Hub::open(1 + random.below(32) as u8, 1 + random.below(32) as u8).unwrap();
+        hub.counter = random.below(65) as i32 - 32;
+        hub.begun = random.below(MAX_BEGUN + 1);
+        hub.oldest = random.below(MAX_BEGUN - 300);
+        hub.next_ticket = hub.oldest + random.below(SPAN + 1);
+        hub.next_resume = hub.oldest + random.below(SPAN + 1);
+        if wild {
+            match random.below(6) {
+                0 => hub.permits = random.below(256) as u8,
+                1 => hub.parties = random.below(256) as u8,
+                2 => hub.counter = random.below(u32::MAX) as i32,
+                3 => hub.oldest = random.below(u32::MAX),
+                4 => hub.next_ticket = random.below(u32::MAX),
+                _ => hub.next_resume = random.below(u32::MAX),
+            }
+        }
+        for _ in 0..random.below(6) {
+            let party = random.below(u32::from(hub.parties.min(32)).max(1));
+            let ticket = hub.oldest.wrapping_add(random.below(SPAN));
+            hub.phases[party as usize] = any_phase(random, ticket);
+            hub.set_place(ticket, any_place(random, party));
+        }
+        hub
+    }
+
+    fn any_phase(random: &mut Random, t: Ticket) -> Phase {
+        use Phase::*;
+        let phases = [
+            Free,
+            Holding,
+            Waiting(t),
+            Asked,
+            Unnumbered,
+            Numbered(t),
+            GivingUp(t),
+            Cancelling(t),
+            Refusing(t),
+            GivingBack,
+            Carrying,
+            Handing(t),
+        ];
+        phases[random.below(phases.len() as u32) as usize]
+    }
+
+    fn any_place(random: &mut Random, party: u32) -> Place {
+        match random.below(7) {
+            0 => Place::Empty,
+            1 => Place::Waiting(party),
+            2 => Place::Permit,
+            3 => Place::Cancelled,
+            4 => Place::Refused,
+            5 => Place::Done,
+            _ => Place::Waiting(random.below(u32::MAX)),
+        }
+    }
+
+    /// The same schedules as text: the program answers any of them alike with
+    /// the check and without, in any chunks, one line for each line.
+    #[test]
+    fn random_lines() {
+        for seed in 0..40 {
+            let mut random = Random::seeded(seed);
+            let mut input = b"010203\n".to_vec();
+            let mut lines = 2;
+            for _ in 0..2_000 {
+                let (code, party) = (0x10 + random.below(4), random.below(4));
+                let line = match random.below(40) {
+                    0 => format!("{code:02x}{party:02x}\r\n"),
+                    1 => format!("{code:x}\n"),
+                    2 => "\n".to_string(),
+                    3 => format!("{}\n", "1".repeat(random.below(200) as usize)),
+                    _ => format!("{code:02x}{party:02x}\n"),
+                };
+                input.extend(line.bytes());
+                lines += 1;
+            }
+            assert_eq!(answers(&input).lines().count(), lines);
+        }
+    }
+}
