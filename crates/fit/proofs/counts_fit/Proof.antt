@@ -14,7 +14,7 @@ up-to-32-requires c κs = search needs
 
 returns : tie.Need-returns
 unfolding countsFit
-returns c = simp (failed (c .before .up-to-32 .ensures) (c .if1 .taken), and-false)
+returns c = simp (failed (c .before .up-to-32 .ensures) (c .if1 .taken))
 
 up-to-32-requires-2 : tie.Need-up-to-32-requires-2
 up-to-32-requires-2 c κs = search needs
@@ -72,7 +72,7 @@ returns-10 : tie.Need-returns-10
 unfolding countsFit
 returns-10 c =
     let s = c .before .before .before .before .before .before in
-    simp (
+    rw (
       passed (s .before .before .before .before .before .up-to-32 .ensures)
           (s .before .before .before .before .if1 .left),
       passed (s .before .before .before .up-to-322 .ensures) (s .before .before .if2 .left),

@@ -2,7 +2,7 @@
 use Prim.Native.Nat.{ℕ}
 use borrow.Author.Needs.{needs}
 use mathlib.Core.Path.{_≡_}
-use mathlib.Core.Bool.{Bool, true, false}
+use mathlib.Core.Bool.{Bool, true}
 use mathlib.Core.List.{List, [], _∷_}
 use types.Run.{OneOf}
 use denote.Enum.Declared.{tagOf}
@@ -35,42 +35,42 @@ returns : tie.Need-returns
 unfolding listedAt step
 returns c =
     let s = c .before .before .before .args in
-    rows true (5 ∷ []) (0 ∷ 2 ∷ []) (s .phase) (s .place) (c .before .before .match .keys1)
+    rows _ (5 ∷ []) (0 ∷ 2 ∷ []) (s .phase) (s .place) (c .before .before .match .keys1)
     (c .match2 .keys1) (λ t q. search depth 13)
 
 returns-2 : tie.Need-returns-2
 unfolding listedAt step
 returns-2 c =
     let s = c .before .before .before .args in
-    rows false (5 ∷ []) (1 ∷ 3 ∷ 4 ∷ 5 ∷ []) (s .phase) (s .place)
+    rows _ (5 ∷ []) (1 ∷ 3 ∷ 4 ∷ 5 ∷ []) (s .phase) (s .place)
     (c .before .before .match .keys1) (c .match2 .keys2) (λ t q. search depth 13)
 
 returns-3 : tie.Need-returns-3
 unfolding listedAt step
 returns-3 c =
     let s = c .before .before .args in
-    rows true (7 ∷ 8 ∷ []) (1 ∷ 2 ∷ []) (s .phase) (s .place) (c .before .match .keys2)
+    rows _ (7 ∷ 8 ∷ []) (1 ∷ 2 ∷ []) (s .phase) (s .place) (c .before .match .keys2)
     (c .match3 .keys1) (λ t q. search depth 13)
 
 returns-4 : tie.Need-returns-4
 unfolding listedAt step
 returns-4 c =
     let s = c .before .before .args in
-    rows false (7 ∷ 8 ∷ []) (0 ∷ 3 ∷ 4 ∷ 5 ∷ []) (s .phase) (s .place) (c .before .match .keys2)
+    rows _ (7 ∷ 8 ∷ []) (0 ∷ 3 ∷ 4 ∷ 5 ∷ []) (s .phase) (s .place) (c .before .match .keys2)
     (c .match3 .keys2) (λ t q. search depth 13)
 
 returns-5 : tie.Need-returns-5
 unfolding listedAt step
 returns-5 c =
     let s = c .before .before .before .args in
-    rows false (11 ∷ []) (2 ∷ 5 ∷ []) (s .phase) (s .place) (c .before .before .match .keys3)
+    rows _ (11 ∷ []) (2 ∷ 5 ∷ []) (s .phase) (s .place) (c .before .before .match .keys3)
     (c .match4 .keys1) (λ t q. search depth 13)
 
 returns-6 : tie.Need-returns-6
 unfolding listedAt step
 returns-6 c =
     let s = c .before .before .before .args in
-    rows true (11 ∷ []) (0 ∷ 1 ∷ 3 ∷ 4 ∷ []) (s .phase) (s .place)
+    rows _ (11 ∷ []) (0 ∷ 1 ∷ 3 ∷ 4 ∷ []) (s .phase) (s .place)
     (c .before .before .match .keys3) (c .match4 .keys2) (λ t q. search depth 13)
 
 returns-7 : tie.Need-returns-7

@@ -5,7 +5,7 @@ use Rattle.fit.proofs.present.Statement.{statement}
 use Rattle.fit.proofs.present.Tie as tie
 
 returns : tie.Need-returns
-returns c = simp (lt-ltb _ _ (c .if1 .taken))
+returns c = simp (lt-ltb _ (c .before .args .parties) (c .if1 .taken))
 
 is-free-requires : tie.Need-is-free-requires
 is-free-requires c κs = search needs
