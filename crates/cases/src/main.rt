@@ -1,0 +1,235 @@
+// Every answer and every refusal, on records that an opening reaches and on some that none does.
+// Each run prints a line for its opening and one for each call: code, party, woken party, number.
+// The expected output, beside this program, was written by hand from the paper.
+
+use board::call_on_board;
+use hub::answers::Answer;
+use hub::moves::Op;
+use hub::record::Hub;
+use hub::record::Outcome;
+use hub::record::PartySlot;
+use hub::record::Phase;
+use hub::record::Place;
+use hub::record::PlaceSlot;
+use run::Ran;
+use run::print_of;
+use run::put;
+use run::run_calls;
+use step::calls::acquire;
+use step::calls::cancel;
+use step::calls::release;
+use step::calls::step;
+use step::counts::counts;
+
+// A hexadecimal digit, in capitals.
+fn digit(n: u8) -> u8 {
+    let d = n % 16;
+    if d < 10 {
+        return 48 + d;
+    }
+    55 + d
+}
+
+// The first answers of a buffer, seven bytes each, one to a line.
+fn print_lines(answers: &[u8], count: usize) {
+    let mut i: usize = 0;
+    while i < answers.len() {
+        if count <= i / 7 {
+            return;
+        }
+        let b = answers[i];
+        io::write_all(1, &[digit(b / 16), digit(b)]);
+        if i % 7 == 6 {
+            io::write_all(1, b"\n");
+        }
+        i += 1;
+    }
+}
+
+fn print_answer(party: u8, answer: Answer) {
+    let mut line = [0u8; 7];
+    put(&mut line, party, print_of(answer));
+    print_lines(&line, 1);
+}
+
+// Prints the answer to a call, and hands on the record that it left.
+fn told(party: u8, o: Outcome) -> Hub {
+    let answer = o.answer;
+    print_answer(party, answer);
+    o.hub
+}
+
+fn print_run(permits: u8, parties: u8, calls: &[u8]) {
+    let mut out = [0u8; 224];
+    let ran = run_calls(permits, parties, calls, &mut out);
+    match ran {
+        Ran::NotOpened(why) => {
+            print_answer(255, Answer::Refused(why));
+        }
+        Ran::Malformed => {
+            io::write_all(1, b"malformed\n");
+        }
+        Ran::NoRoom => {
+            io::write_all(1, b"no room\n");
+        }
+        Ran::Done => {
+            print_answer(255, Answer::Opened);
+            print_lines(&out, calls.len() / 2);
+        }
+    }
+    io::write_all(1, b"\n");
+}
+
+// Calls on records that no opening reaches.
+fn made_by_hand() {
+    // 1,000,000 asks begun, and one fewer
+    let mut h = Hub::open(1, 3);
+    h.begun = 1000000;
+    told(0, acquire(h, 0));
+    h.begun = 999999;
+    told(0, acquire(h, 0));
+    // all 256 tickets issued, and all but one
+    let mut h = Hub::open(1, 3);
+    h.issued = 256;
+    told(0, acquire(h, 0));
+    h.issued = 255;
+    told(0, acquire(h, 0));
+    // a counter of 33 does not fit, and one of 32 does
+    let mut h = Hub::open(32, 3);
+    h.counter = 33;
+    told(0, release(h, 0));
+    h.counter = 32;
+    told(0, release(h, 0));
+    // a waiting place of a party that is free does not fit
+    let mut h = Hub::open(1, 3);
+    h.places[200] = PlaceSlot {
+        place: Place::Waiting(2),
+    };
+    told(2, cancel(h, 2));
+    // nor does one of a party that there is not
+    h.places[200] = PlaceSlot {
+        place: Place::Waiting(4000000000),
+    };
+    told(2, cancel(h, 2));
+    // a party gives back at counter 32: the answer is the table's, and the next call is refused
+    let mut h = Hub::open(32, 3);
+    h.slots[0] = PartySlot {
+        phase: Phase::Releasing,
+    };
+    let next = told(0, step(h, 0));
+    told(1, acquire(next, 1));
+}
+
+// A call in place.
+fn on_board(hub: Hub, op: Op, party: u8) -> Hub {
+    let o = call_on_board(hub, op, party);
+    told(party, o)
+}
+
+// What a record shows: held, at the counter, on the way, waiting.
+fn print_counts(hub: Hub) {
+    let c = counts(hub);
+    io::print_decimal(1, c.held as u64);
+    io::write_all(1, b" held, ");
+    io::print_decimal(1, c.available as u64);
+    io::write_all(1, b" at the counter, ");
+    io::print_decimal(1, c.onway as u64);
+    io::write_all(1, b" on the way, ");
+    io::print_decimal(1, c.waiting as u64);
+    io::write_all(1, b" waiting\n");
+}
+
+// The four calls in place, and what the record shows between them.
+fn in_place() {
+    let h = Hub::open(2, 3);
+    print_counts(h);
+    let h = on_board(h, Op::Acquire, 0);
+    let h = on_board(h, Op::Step, 0);
+    let h = on_board(h, Op::Acquire, 1);
+    let h = on_board(h, Op::Step, 1);
+    let h = on_board(h, Op::Acquire, 2);
+    let h = on_board(h, Op::Step, 2);
+    let h = on_board(h, Op::Step, 2);
+    let h = on_board(h, Op::Step, 2);
+    print_counts(h);
+    let h = on_board(h, Op::Release, 0);
+    let h = on_board(h, Op::Step, 0);
+    print_counts(h);
+    let h = on_board(h, Op::Cancel, 2);
+    let h = on_board(h, Op::Cancel, 2);
+    let h = on_board(h, Op::Step, 2);
+    print_counts(h);
+    let h = on_board(h, Op::Step, 2);
+    print_counts(h);
+    let h = on_board(h, Op::Step, 0);
+    let h = on_board(h, Op::Step, 0);
+    print_counts(h);
+}
+
+fn main() {
+    // the run of the paper
+    print_run(
+        1,
+        3,
+        b"\x10\x00\x11\x00\x10\x01\x11\x01\x11\x01\x11\x01\x13\x00\x11\x00\x12\x01\x11\x01\x11\x00\x11\x00\x11\x01",
+    );
+    // given back with nobody waiting: 26
+    print_run(1, 3, b"\x10\x00\x11\x00\x13\x00\x11\x00");
+    // a waiter is woken: 2A
+    print_run(
+        1,
+        3,
+        b"\x10\x00\x11\x00\x10\x01\x11\x01\x11\x01\x11\x01\x13\x00\x11\x00\x11\x00\x11\x00",
+    );
+    // the permit is there before the waiter: 29, 25
+    print_run(
+        1,
+        3,
+        b"\x10\x00\x11\x00\x10\x01\x11\x01\x11\x01\x13\x00\x11\x00\x11\x00\x11\x00\x11\x01",
+    );
+    // given up in time: 2E, 30
+    print_run(
+        1,
+        3,
+        b"\x10\x00\x11\x00\x10\x01\x11\x01\x11\x01\x11\x01\x12\x01\x11\x01\x11\x01",
+    );
+    // the canceller finds a permit and hands it on: 31
+    print_run(
+        1,
+        3,
+        b"\x10\x00\x11\x00\x10\x01\x11\x01\x11\x01\x11\x01\x10\x02\x11\x02\x11\x02\x11\x02\x12\x01\x11\x01\x13\x00\x11\x00\x11\x00\x11\x00\x11\x01\x11\x01\x11\x01",
+    );
+    // a hand-over meets a cancelled place: 2C
+    print_run(
+        1,
+        3,
+        b"\x10\x00\x11\x00\x10\x01\x11\x01\x11\x01\x11\x01\x10\x02\x11\x02\x11\x02\x11\x02\x13\x00\x11\x00\x11\x00\x12\x01\x11\x01\x11\x01\x11\x00\x11\x00\x11\x00",
+    );
+    // a hand-over meets a refused place: 32, 2D
+    print_run(
+        1,
+        3,
+        b"\x10\x00\x11\x00\x10\x01\x11\x01\x11\x01\x11\x01\x13\x00\x11\x00\x12\x01\x11\x01\x11\x01\x11\x00\x11\x00",
+    );
+    // refusals 2 and 3, 2 first
+    print_run(33, 0, b"");
+    print_run(32, 33, b"");
+    // refusals 4, 8, 9, 11, 5
+    print_run(
+        1,
+        3,
+        b"\x10\x03\x11\xFF\x11\x00\x12\x00\x13\x00\x10\x00\x10\x00",
+    );
+    // refusal 10: the waits of party 30 stay
+    print_run(
+        1,
+        31,
+        b"\x10\x00\x11\x00\x10\x1E\x11\x1E\x11\x1E\x11\x1E\x12\x1E",
+    );
+    // what is no list of calls
+    print_run(1, 3, b"\x10");
+    print_run(1, 3, b"\x14\x00");
+    made_by_hand();
+    io::write_all(1, b"\n");
+    in_place();
+}

@@ -1,0 +1,74 @@
+-- How a run ends: each ending is what the definition says where its tests went that way.
+use Prim.Native.Nat.{ℕ, _/_, _≤_, _<_}
+use mathlib.Core.Path.{_≡_, refl, sym, ap, _∙_}
+use mathlib.Core.Bool.{Bool, true, false}
+use mathlib.Core.List.{List, [], _∷_}
+use borrow.Author.Tests.{le-leb, lt-leb}
+use native.Mathlib.Omega.{arith}
+use types.Run.{OneOf, miss}
+use denote.Enum.Declared.{tagOf}
+use lib.ListN.{length}
+use Rattle.hub.proofs.answers.Answer as answer
+use Rattle.hub.specs.declared.answers.Answer.{Answer}
+use Rattle.hub.specs.declared.answers.Refusal.{Refusal}
+use Rattle.hub.specs.declared.record.Hub.{Hub}
+use Rattle.hub.specs.declared.record.Outcome.{Outcome}
+use Rattle.hub.specs.Basics.{upTo32}
+use Rattle.hub.specs.Opening.{fresh, openingIf, opening}
+use Rattle.run.specs.Bytes.{wellFormed}
+use Rattle.run.specs.Run.{written, runIf, runOf}
+use Rattle.run.specs.declared.Ran.{Ran}
+
+-- The tags of all answers but a refusal.
+abbrev others : List ℕ
+others =
+    1 ∷ 2 ∷ 3 ∷ 4 ∷ 5 ∷ 6 ∷ 7 ∷ 8 ∷ 9 ∷ 10 ∷ 11 ∷ 12 ∷ 13 ∷ 14 ∷ 15 ∷ 16 ∷ 17 ∷ 18 ∷ 19 ∷ 20 ∷ 21
+    ∷ []
+
+abbrev NotRefused : Answer → Type 0
+NotRefused a = OneOf others (tagOf answer.the-type a)
+
+module _ (k n : ℕ) (calls out : List ℕ) where
+  abbrev Ends : Ran → List ℕ → Type 0
+  Ends r l = (r ≡ runOf k n calls out .ran) × (l ≡ runOf k n calls out .out)
+
+  pub refused : (o : Outcome) (r : Refusal) → o ≡ opening k n → o .answer ≡ Answer.Refused r
+      → Ends (Ran.NotOpened r) out
+  unfolding openingIf runIf
+  refused o r e f =
+      go (upTo32 k) (upTo32 n) _ _ (sym (ap (λ (o : Outcome). o .answer) e) ∙ f)
+    where
+      go : (a b w m : Bool) → openingIf a b k n .answer ≡ Answer.Refused r
+          → (Ran.NotOpened r ≡ runIf a b w m k n calls out .ran)
+          × (out ≡ runIf a b w m k n calls out .out)
+      go false b w m e = (cc, refl)
+      go true false w m e = (cc, refl)
+      go true true w m e = let z : _≡_ {A = ℕ} 0 1 = cc in absurd (omega arith)
+
+  module _ (o : Outcome) (e : o ≡ opening k n) (t : NotRefused (o .answer)) where
+    opened : (upTo32 k ≡ true) × (upTo32 n ≡ true) × (o .hub ≡ fresh k n)
+    unfolding openingIf
+    opened =
+        rw e (go (upTo32 k) (upTo32 n) (rw e at t))
+      where
+        go : (a b : Bool) → NotRefused (openingIf a b k n .answer)
+            → (a ≡ true) × (b ≡ true) × (openingIf a b k n .hub ≡ fresh k n)
+        go false b t = absurd (miss others 0 tt t)
+        go true false t = absurd (miss others 0 tt t)
+        go true true t = (refl, refl, refl)
+
+    pub malformed : wellFormed calls ≡ false → Ends Ran.Malformed out
+    unfolding runIf
+    malformed w = rw (opened .0, opened .1, w) (refl, refl)
+
+    pub no-room : wellFormed calls ≡ true → length out / 7 < length calls / 2
+        → Ends Ran.NoRoom out
+    unfolding runIf
+    no-room w l = rw (opened .0, opened .1, w, lt-leb _ _ l) (refl, refl)
+
+    pub done : (l : List ℕ) → wellFormed calls ≡ true → length calls / 2 ≤ length out / 7
+        → l ≡ written (o .hub) calls out → Ends Ran.Done l
+    unfolding runIf
+    done l w m f =
+        rw (opened .0, opened .1, w, le-leb _ _ m)
+        (refl, f ∙ ap (λ (h : Hub). written h calls out) (opened .2))

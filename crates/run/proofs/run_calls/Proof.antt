@@ -1,0 +1,69 @@
+-- `run_calls` meets its contract: its tests, in order, are those of the definition.
+use borrow.Author.Tests.{not-true, not-false}
+use mathlib.Core.Path.{sym, _∙_}
+use Rattle.run.proofs.Laws.Endings.{refused, malformed, no-room, done}
+use borrow.Author.Needs.{needs}
+use Rattle.run.proofs.run_calls.Statement.{statement}
+use Rattle.run.proofs.run_calls.Tie as tie
+
+open-hub-requires : tie.Need-open-hub-requires
+open-hub-requires c κs = search needs
+
+enum-known-answer : tie.Need-enum-known-answer
+enum-known-answer c = search needs
+
+returns : tie.Need-returns
+returns c =
+    let o = c .before .before .before in
+    let a = o .before .before .before .args in
+    refused (a .permits) (a .parties) (a .calls .now) _ _ _ (o .open-hub .ensures)
+    (c .before .answer .given .1)
+
+well-formed-requires : tie.Need-well-formed-requires
+well-formed-requires c κs = search needs
+
+returns-2 : tie.Need-returns-2
+returns-2 c =
+    let w = c .before in
+    let o = w .before .before in
+    let a = o .before .before .before .args in
+    malformed (a .permits) (a .parties) _ _ _ (o .open-hub .ensures) (w .before .match .keys2)
+    (sym (w .well-formed .ensures) ∙ not-true _ (c .if1 .taken))
+
+returns-3 : tie.Need-returns-3
+returns-3 c =
+    let w = c .before .before in
+    let o = w .before .before in
+    let a = o .before .before .before .args in
+    no-room (a .permits) (a .parties) _ _ _ (o .open-hub .ensures) (w .before .match .keys2)
+    (sym (w .well-formed .ensures) ∙ not-false _ (c .before .if1 .left)) (c .if2 .taken)
+
+run-all-requires : tie.Need-run-all-requires
+run-all-requires c κs = search needs
+
+same-length : tie.Need-same-length
+same-length c = search needs
+
+returns-4 : tie.Need-returns-4
+returns-4 c =
+    let e = c .before .before .before .before .before in
+    let w = e .before .before in
+    let o = w .before .before in
+    let a = o .before .before .before .args in
+    done (a .permits) (a .parties) _ _ _ (o .open-hub .ensures) (w .before .match .keys2) _
+    (sym (w .well-formed .ensures) ∙ not-false _ (e .before .if1 .left)) (e .if2 .left)
+    (c .before .before .run-all .ensures)
+
+pub run-calls-spec : {M : Type 1} → statement M
+run-calls-spec =
+    tie.close
+    (tie.spec
+    open-hub-requires
+    enum-known-answer
+    returns
+    well-formed-requires
+    returns-2
+    returns-3
+    run-all-requires
+    same-length
+    returns-4)

@@ -1,0 +1,35 @@
+-- How a run ends, and what it leaves in the buffer.
+use Prim.Native.Nat.{ℕ, _*_, _/_}
+use mathlib.Core.Bool.{Bool, true, false}
+use mathlib.Core.List.{List, _++_}
+use lib.Dec.{leb}
+use lib.ListN.{length, drop}
+use Rattle.hub.specs.declared.answers.Refusal.{Refusal}
+use Rattle.hub.specs.declared.record.Hub.{Hub}
+use Rattle.hub.specs.Basics.{upTo32}
+use Rattle.hub.specs.Opening.{fresh}
+use Rattle.run.specs.Bytes.{wellFormed, callsOf, linesOf}
+use Rattle.run.specs.declared.Ran.{Ran}
+
+pub record Ended : Type 0 where
+  pub ran : Ran
+  pub out : List ℕ
+
+-- The answers, from a record on, in front of what the buffer holds past them.
+abbrev pub written : Hub → List ℕ → List ℕ → List ℕ
+written h calls out = linesOf h (callsOf calls) ++ drop (7 * (length calls / 2)) out
+
+-- 2, 3, malformed, no room, in that order; a refused run leaves the buffer alone, and a run that
+-- is done writes seven bytes for each call and leaves the rest alone.
+unfoldable pub runIf : Bool → Bool → Bool → Bool → ℕ → ℕ → List ℕ → List ℕ → Ended
+runIf false b w m k n calls out = record { ran = Ran.NotOpened Refusal.BadPermits; out = out }
+runIf true false w m k n calls out = record { ran = Ran.NotOpened Refusal.BadParties; out = out }
+runIf true true false m k n calls out = record { ran = Ran.Malformed; out = out }
+runIf true true true false k n calls out = record { ran = Ran.NoRoom; out = out }
+runIf true true true true k n calls out =
+    record { ran = Ran.Done; out = written (fresh k n) calls out }
+
+abbrev pub runOf : ℕ → ℕ → List ℕ → List ℕ → Ended
+runOf k n calls out =
+    runIf (upTo32 k) (upTo32 n) (wellFormed calls) (leb (length calls / 2) (length out / 7)) k n
+    calls out
