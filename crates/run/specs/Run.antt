@@ -6,6 +6,7 @@ use lib.Dec.{leb}
 use lib.ListN.{length, drop}
 use Rattle.hub.specs.declared.answers.Refusal.{Refusal}
 use Rattle.hub.specs.declared.record.Hub.{Hub}
+use Rattle.hub.specs.Answers.{refusalCode}
 use Rattle.hub.specs.Basics.{upTo32}
 use Rattle.hub.specs.Opening.{fresh}
 use Rattle.run.specs.Bytes.{wellFormed, callsOf, linesOf}
@@ -33,3 +34,10 @@ abbrev pub runOf : ℕ → ℕ → List ℕ → List ℕ → Ended
 runOf k n calls out =
     runIf (upTo32 k) (upTo32 n) (wellFormed calls) (leb (length calls / 2) (length out / 7)) k n
     calls out
+
+-- The end of a run as a number, for callers in other languages.
+abbrev pub ranCode : Ran → ℕ
+ranCode (Ran.NotOpened why) = refusalCode why
+ranCode Ran.Malformed = 254
+ranCode Ran.NoRoom = 255
+ranCode Ran.Done = 0

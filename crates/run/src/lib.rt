@@ -16,7 +16,7 @@ ghost use lib.ListN.{length};
 ghost use Rattle.hub.specs.Answers.{plain, printed, refusalCode, withNumber};
 ghost use Rattle.hub.specs.Calls.{called};
 ghost use Rattle.run.specs.Bytes.{lineOf, opOf, paper, wellFormed};
-ghost use Rattle.run.specs.Run.{runOf, written};
+ghost use Rattle.run.specs.Run.{ranCode, runOf, written};
 
 // How a run ended. Only a run that is done writes to the buffer.
 pub enum Ran {
@@ -200,4 +200,26 @@ pub fn run_calls(permits: u8, parties: u8, calls: &[u8], out: &mut [u8]) -> Ran
     let hub = o.hub;
     run_all(hub, calls, out);
     Ran::Done
+}
+
+fn ran_code(ran: Ran) -> u8
+    ensures { λ r. ⌜ r ≡ ranCode ran ⌝ }
+{
+    match ran {
+        Ran::NotOpened(why) => refusal_code(why),
+        Ran::Malformed => 254,
+        Ran::NoRoom => 255,
+        Ran::Done => 0,
+    }
+}
+
+// The same for C and Rust, which see a number: 0 done, 2 or 3 not opened, 254 malformed, 255 no
+// room.
+#[no_mangle]
+pub extern "C" fn hub_run(permits: u8, parties: u8, calls: &[u8], out: &mut [u8]) -> u8
+    ensures { λ r. ⌜ (r ≡ ranCode (runOf permits parties (now (calls .entry)) (now (out .entry)) .ran))
+        × (now (out .exit) ≡ runOf permits parties (now (calls .entry)) (now (out .entry)) .out) ⌝ }
+{
+    let ran = run_calls(permits, parties, calls, out);
+    ran_code(ran)
 }

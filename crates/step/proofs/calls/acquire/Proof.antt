@@ -38,16 +38,21 @@ apply-requires c κs =
 
 returns : tie.Need-returns
 returns c =
-    not-admitted (c .before .before .before .before .args .hub) (c .before .before .before .before .args .party) _ Op.Acquire
-    (sym (c .before .before .before .see .ensures) ∙ c .before .seen .given .1)
+    let b = c .before .before .before in
+    not-admitted (b .before .args .hub) (b .before .args .party) _ Op.Acquire
+    (sym (b .see .ensures) ∙ c .before .seen .given .1)
 
 returns-2 : tie.Need-returns-2
 returns-2 c =
-    let a = admitted (c .before .before .before .before .before .before .before .args .hub) (c .before .before .before .before .before .before .before .args .party) _
-    (sym (c .before .before .before .before .before .before .see .ensures) ∙ c .before .before .before .before .seen2 .given .1) in
+    let s = c .before .before .before .before in
+    let b = s .before .before in
+    let a =
+    admitted (b .before .args .hub) (b .before .args .party) _
+    (sym (b .see .ensures) ∙ s .seen2 .given .1) in
+    let full = c .before .before .is-full .ensures in
     c .apply .ensures ∙ a .does Op.Acquire _
     (c .before .decide-acquire .ensures
-    ∙ ap (λ (b : Bool). decide Op.Acquire b (c .before .before .before .before .seen2 .given .0 .0)) (c .before .before .is-full .ensures))
+    ∙ ap (λ (f : Bool). decide Op.Acquire f (s .seen2 .given .0 .0)) full)
 
 pub acquire-spec : {M : Type 1} → statement M
 acquire-spec =

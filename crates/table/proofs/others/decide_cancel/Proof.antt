@@ -2,6 +2,7 @@
 use borrow.Author.Needs.{needs}
 use borrow.Author.Tests.{eq-eqb, ne-eqb}
 use mathlib.Core.Path.{refl, sym}
+use native.Mathlib.Omega.{arith}
 use Rattle.hub.specs.Phases.{isOneOf, isWaiting}
 use Rattle.hub.specs.Table.{cancel, decide}
 use Rattle.hub.proofs.Laws.Tags.{allBut, phase-arm}
@@ -20,8 +21,8 @@ returns c =
 returns-2 : tie.Need-returns-2
 unfolding decide cancel isOneOf
 returns-2 c =
-    let e = c .before .before .phase .given .1 in
-    rw (e, eq-eqb _ _ (c .if1 .taken))
+    let b = c .before .before in
+    rw (b .phase .given .1, eq-eqb (b .before .before .args .s .kind) 3 (omega arith))
 
 turned-requires : tie.Need-turned-requires
 turned-requires c κs = search needs
@@ -29,8 +30,9 @@ turned-requires c κs = search needs
 returns-3 : tie.Need-returns-3
 unfolding decide cancel isOneOf
 returns-3 c =
-    let e = c .before .before .before .phase .given .1 in
-    rw (e, ne-eqb _ _ (c .before .if1 .left)) (c .turned .ensures)
+    let b = c .before .before .before in
+    let kind = b .before .before .args .s .kind in
+    rw (b .phase .given .1, ne-eqb kind 3 (c .before .if1 .left)) (c .turned .ensures)
 
 pub decide-cancel-spec : {M : Type 1} → statement M
 decide-cancel-spec =

@@ -1,0 +1,23 @@
+-- `hub_run` meets its contract: it gives the number of the end of the run that it makes.
+use borrow.Author.Needs.{needs}
+use mathlib.Core.Path.{ap, _∙_}
+use Rattle.run.proofs.hub_run.Statement.{statement}
+use Rattle.run.proofs.hub_run.Tie as tie
+use Rattle.run.specs.Run.{ranCode}
+
+run-calls-requires : tie.Need-run-calls-requires
+run-calls-requires c κs = search needs
+
+ran-code-requires : tie.Need-ran-code-requires
+ran-code-requires c κs = search needs
+
+same-length : tie.Need-same-length
+same-length c = search needs
+
+returns : tie.Need-returns
+returns c =
+    let run = c .before .before .before .run-calls .ensures in
+    (c .ran-code .ensures ∙ ap ranCode (run .0), run .1)
+
+pub hub-run-spec : {M : Type 1} → statement M
+hub-run-spec = tie.close (tie.spec run-calls-requires ran-code-requires same-length returns)
