@@ -12,7 +12,8 @@ use Rattle.hub.specs.declared.record.Outcome.{Outcome}
 use Rattle.hub.specs.Answers.{printed}
 use Rattle.hub.specs.Calls.{called}
 use Rattle.hub.specs.Schedule.{entries}
-use Rattle.run.specs.Bytes.{opOf, callsOf, lineOf, lines, linesOf}
+use Rattle.line.specs.Frame.{opOf, frameOf}
+use Rattle.run.specs.Bytes.{callsOf, frames, framesOf}
 use Rattle.run.specs.Run.{written}
 use Rattle.run.proofs.Laws.Pairs.{pair}
 
@@ -35,18 +36,18 @@ start h calls out l =
 -- A call takes two bytes off the calls, and its answer seven off the buffer.
 one-more : (h : Hub) (c p : ℕ) (l out : List ℕ)
     → let o = called h (record { op = opOf c; party = p }) in
-    written h (c ∷ p ∷ l) out ≡ lineOf p (printed (o .answer)) ++ written (o .hub) l (drop 7 out)
-unfolding callsOf lines entries
+    written h (c ∷ p ∷ l) out ≡ frameOf p (printed (o .answer)) ++ written (o .hub) l (drop 7 out)
+unfolding callsOf frames entries
 one-more h c p l out =
     let o = called h (record { op = opOf c; party = p }) in
-    ap (λ (r : List ℕ). lineOf p (printed (o .answer)) ++ (linesOf (o .hub) (callsOf l) ++ r))
+    ap (λ (r : List ℕ). frameOf p (printed (o .answer)) ++ (framesOf (o .hub) (callsOf l) ++ r))
     (ap (λ (n : ℕ). drop n out) (count (length l)) ∙ sym (drop-drop (7 * (length l / 2)) 7 out))
   where
     count : (n : ℕ) → 7 * (suc (suc n) / 2) ≡ 7 + 7 * (n / 2)
     count n = omega arith
 
 no-more : (h : Hub) (l out : List ℕ) → length l ≤ 1 → written h l out ≡ out
-unfolding callsOf lines entries
+unfolding callsOf frames entries
 no-more h [] out e = refl
 no-more h (c ∷ []) out e = refl
 no-more h (c ∷ p ∷ l) out e = absurd (omega arith)
@@ -84,7 +85,7 @@ module _ (out line : List ℕ) (i : ℕ) (room : 7 * i + 7 ≤ length out) (seve
 module _ (h₀ : Hub) (calls out₀ : List ℕ) (h : Hub) (out : List ℕ) (i : ℕ)
     (u : Upto h₀ calls out₀ h out i) where
   pub turn : (line : List ℕ) (o : Outcome) → i < length calls / 2 → o ≡ called h (callAt calls i)
-      → line ≡ lineOf (getD calls (2 * i + 1) 0) (printed (o .answer))
+      → line ≡ frameOf (getD calls (2 * i + 1) 0) (printed (o .answer))
       → Upto h₀ calls out₀ (o .hub) (putMid (7 * i) (7 * i + 7 - 7 * i) out line) (i + 1)
   turn line o l e f =
       let seven : length line ≡ 7 = ap length f in
@@ -102,7 +103,7 @@ module _ (h₀ : Hub) (calls out₀ : List ℕ) (h : Hub) (out : List ℕ) (i : 
             (append-assoc (take (7 * i) out) line (written (o .hub) after rest)
             ∙ ap (λ (r : List ℕ). take (7 * i) out ++ r)
             (ap (λ (r : List ℕ). r ++ written (o .hub) after rest) f
-            ∙ ap (λ (o : Outcome). lineOf p (printed (o .answer)) ++ written (o .hub) after rest) e
+            ∙ ap (λ (o : Outcome). frameOf p (printed (o .answer)) ++ written (o .hub) after rest) e
             ∙ sym (one-more h (getD calls (2 * i) 0) p after (drop (7 * i) out))
             ∙ ap (λ (l : List ℕ). written h l (drop (7 * i) out)) (sym (pair calls i l)))
             ∙ u .same);

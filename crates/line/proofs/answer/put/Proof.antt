@@ -1,19 +1,10 @@
 -- `put` meets its contract: what it writes fills its part of the buffer.
 use borrow.Author.Needs.{needs}
-use mathlib.Core.Path.{_≡_, ap, _∙_}
-use mathlib.Core.List.{List, _++_, append-nil}
-use Prim.Native.Nat.{ℕ, _+_}
 use native.Mathlib.Omega.{arith}
-use lib.ListN.{length, length-set, drop-of-length-le}
-use lib.Seq.{sets, sets-eq}
-use Rattle.run.proofs.put.Statement.{statement}
-use Rattle.run.proofs.put.Tie as tie
-
-all-set : (l vs : List ℕ) → length l ≡ length vs → sets l 0 vs ≡ vs
-all-set l vs e =
-    sets-eq vs l 0 (omega arith)
-    ∙ ap (λ (r : List ℕ). vs ++ r) (drop-of-length-le l {i = 0 + length vs} (omega arith))
-    ∙ append-nil vs
+use lib.ListN.{length-set}
+use Rattle.line.proofs.Laws.Filled.{all-set}
+use Rattle.line.proofs.answer.put.Statement.{statement}
+use Rattle.line.proofs.answer.put.Tie as tie
 
 slice-write-out : tie.Need-slice-write-out
 slice-write-out c = search needs
