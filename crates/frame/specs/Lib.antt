@@ -1,0 +1,2 @@
+-- A whole input, read in pieces.
+pub mod Reading

@@ -1,0 +1,3 @@
+// A whole input to a whole output, in pieces of any size.
+
+pub mod reader; // lines out of pieces
