@@ -1,2 +1,4 @@
 -- What the proofs of this crate share.
 pub mod Pieces
+pub mod Lines
+pub mod Sessions

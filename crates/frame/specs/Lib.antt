@@ -1,2 +1,3 @@
 -- A whole input, read in pieces.
 pub mod Reading
+pub mod Session

@@ -33,9 +33,9 @@ pub fn read_piece(reader: Reader, piece: &[u8], requests: &mut [u8]) -> Read
     requires { ⌜ reader .len ≤ 65 ⌝ }
     requires { ⌜ 3 * length (now piece) ≤ length (now requests) ⌝ }
     ensures { λ r. ⌜ (r ≡ record {
-          reader = past reader (now (piece .entry));
-          count = length (asked reader (now (piece .entry)));
-        })
+      reader = past reader (now (piece .entry));
+      count = length (asked reader (now (piece .entry)));
+    })
         × (now (requests .exit) ≡ written (asked reader (now (piece .entry))) (now (requests .entry))) ⌝ }
 {
     let mut line = reader.line;

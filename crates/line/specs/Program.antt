@@ -1,5 +1,5 @@
 -- The schedule program: a line of output for each line of input, and the closing line.
-use Prim.Native.Nat.{ℕ, _/_, _%_}
+use Prim.Native.Nat.{ℕ}
 use mathlib.Core.Bool.{Bool, true, false, cond, _&&_}
 use mathlib.Core.List.{List, [], _∷_, _++_, map}
 use mir.Syntax.{w32}
@@ -67,23 +67,27 @@ unfoldable pub after : Hub → List Request → Hub
 after h [] = h
 after h (r ∷ rs) = after (turn h r .hub) rs
 
--- The lines of an input, of which l is what is read of the first. A line ends with 0A; nothing
--- after the last one is no line, and a last line without it counts.
+-- What follows the last end mark: a line left without its own counts, but nothing is no line.
+abbrev pub leftOver : List ℕ → List (List ℕ)
+leftOver [] = []
+leftOver (x ∷ l) = (x ∷ l) ∷ []
+
+-- The lines of an input, of which l is what is read of the first. A line ends with 0A.
 unfoldable pub linesFrom : List ℕ → List ℕ → List (List ℕ)
-linesFrom [] [] = []
-linesFrom (x ∷ l) [] = (x ∷ l) ∷ []
+linesFrom l [] = leftOver l
 linesFrom l (c ∷ cs) = cond (eqb c 0x0A) (l ∷ linesFrom [] cs) (linesFrom (l ++ (c ∷ [])) cs)
 
 abbrev pub linesOf : List ℕ → List (List ℕ)
 linesOf = linesFrom []
 
--- 7E, holders, parties in phase waiting, and the counter in two's complement.
+-- The closing line, laid out as an answer is: 7E, holders, parties in phase waiting, and the
+-- counter in two's complement.
 abbrev pub closing : Hub → List ℕ
 closing h =
-    let c = ofZ w32 (h .counter) in
+    let phases = phasesOf (h .slots) in
     textOf
-    (0x7E ∷ count holds (phasesOf (h .slots)) ∷ count isWaiting (phasesOf (h .slots))
-    ∷ c / 16777216 % 256 ∷ c / 65536 % 256 ∷ c / 256 % 256 ∷ c % 256 ∷ [])
+    (frameOf (count holds phases)
+    (record { code = 0x7E; woken = count isWaiting phases; number = ofZ w32 (h .counter) }))
 
 -- The whole output.
 unfoldable pub outputOf : List ℕ → List ℕ

@@ -110,7 +110,7 @@ module _ (r₀ : Reader) (piece out₀ : List ℕ) (r : Reader) (out : List ℕ)
       → Upto r₀ piece out₀ q out n (i + 1)
   onward f q s t e =
       let a : asked r (drop i piece) ≡ asked q cs =
-          ap (asked r) here ∙ asked-within r c cs (ne-eqb c 0x0A f) ∙ ap (λ (p : Reader). asked p cs) e in
+      ap (asked r) here ∙ asked-within r c cs (ne-eqb c 0x0A f) ∙ ap (λ (p : Reader). asked p cs) e in
       record {
         within = omega arith;
         few = omega (arith, u .few);
@@ -133,8 +133,8 @@ module _ (r₀ : Reader) (piece out₀ : List ℕ) (r : Reader) (out : List ℕ)
   line-end f q e part g =
       let rs = asked (emptied r) cs in
       let a : asked r (drop i piece) ≡ q ∷ rs =
-          ap (asked r) here ∙ asked-end r c cs (eq-eqb c 0x0A f)
-          ∙ (λ j. sym e j ∷ asked (ended r c f j) cs) in
+      ap (asked r) here ∙ asked-end r c cs (eq-eqb c 0x0A f)
+      ∙ (λ j. sym e j ∷ asked (ended r c f j) cs) in
       let size : length part ≡ 3 = ap length g in
       let room : 3 * n + 3 ≤ length out = omega (arith, u .room, u .few, u .within) in
       record {
@@ -165,7 +165,6 @@ module _ (r₀ : Reader) (piece out₀ : List ℕ) (r : Reader) (out : List ℕ)
       assoc : (a b : ℕ) → a + 1 + b ≡ a + suc b
       assoc a b = omega arith
 
-
 module _ (r₀ : Reader) (piece out₀ : List ℕ) (r : Reader) (out : List ℕ) (n i : ℕ)
     (u : Upto r₀ piece out₀ r out n i) (no-more : length piece ≤ i) where
   nothing : drop i piece ≡ []
@@ -175,16 +174,17 @@ module _ (r₀ : Reader) (piece out₀ : List ℕ) (r : Reader) (out : List ℕ)
       (record { reader = past r₀ piece; count = length (asked r₀ piece) }))
       × (out ≡ written (asked r₀ piece) out₀)
   unfolding past asked bytesOf
-  end =
-      ((λ j. record {
-        reader = (sym (ap (past r) nothing) ∙ u .reader) j;
-        count =
-            (zero n ∙ sym (ap (λ (l : List ℕ). n + length (asked r l)) nothing) ∙ u .count) j;
-      }),
-      sym (take-append-drop (3 * n) out)
-      ∙ sym
-      (ap (λ (l : List ℕ). take (3 * n) out ++ written (asked r l) (drop (3 * n) out)) nothing)
-      ∙ u .same)
+  end = (
+    (λ j. record {
+      reader = (sym (ap (past r) nothing) ∙ u .reader) j;
+      count =
+          (zero n ∙ sym (ap (λ (l : List ℕ). n + length (asked r l)) nothing) ∙ u .count) j;
+    }),
+    sym (take-append-drop (3 * n) out)
+        ∙ sym
+        (ap (λ (l : List ℕ). take (3 * n) out ++ written (asked r l) (drop (3 * n) out)) nothing)
+        ∙ u .same,
+  )
     where
       zero : (m : ℕ) → m ≡ m + 0
       zero m = omega arith
