@@ -2,3 +2,4 @@
 pub mod Pieces
 pub mod Lines
 pub mod Sessions
+pub mod Closing
