@@ -3,3 +3,4 @@ pub mod Pieces
 pub mod Lines
 pub mod Sessions
 pub mod Closing
+pub mod Written

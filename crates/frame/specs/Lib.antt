@@ -1,3 +1,5 @@
 -- A whole input, read in pieces.
 pub mod Reading
 pub mod Session
+pub mod Schedule
+pub mod Run
