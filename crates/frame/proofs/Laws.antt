@@ -4,3 +4,4 @@ pub mod Lines
 pub mod Sessions
 pub mod Closing
 pub mod Written
+pub mod Schedules
