@@ -5,3 +5,4 @@ pub mod Sessions
 pub mod Closing
 pub mod Written
 pub mod Schedules
+pub mod Sizes

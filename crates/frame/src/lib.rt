@@ -3,3 +3,4 @@
 pub mod reader; // lines out of pieces
 mod closing; // the closing line
 pub mod session; // a run over pieces
+pub mod whole; // a run over a whole input
