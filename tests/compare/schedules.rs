@@ -1,8 +1,5 @@
 //! Seeded random schedules, for the comparisons and for the bench.
 
-// Each user takes its part.
-#![allow(dead_code)]
-
 pub const ASK: u8 = 0x10;
 pub const STEP: u8 = 0x11;
 pub const GIVE_UP: u8 = 0x12;
