@@ -6,3 +6,5 @@ pub mod Closing
 pub mod Written
 pub mod Schedules
 pub mod Sizes
+pub mod Feeding
+pub mod Whole

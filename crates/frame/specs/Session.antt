@@ -1,13 +1,14 @@
 -- A run over an input that comes in pieces, and what makes the pieces one.
-use Prim.Native.Nat.{ℕ}
+use Prim.Native.Nat.{ℕ, _≤_}
 use mathlib.Core.Path.{_≡_}
 use mathlib.Core.Bool.{cond}
 use mathlib.Core.List.{List, [], _∷_, _++_}
 use lib.Dec.{eqb}
-use lib.ListN.{replicate}
+use lib.ListN.{length, replicate}
 use Rattle.line.specs.declared.request.Request.{Request}
 use Rattle.line.specs.Program.{unopened, replies, after, closing, outputOf}
 use Rattle.line.specs.Requests.{requestOf}
+use Rattle.live.specs.Live.{Reached}
 use Rattle.frame.specs.declared.reader.Reader.{Reader}
 use Rattle.frame.specs.declared.session.Session.{Session}
 use Rattle.frame.specs.Reading.{lineIn, past, asked}
@@ -45,3 +46,9 @@ joined (p ∷ ps) = p ++ joined ps
 -- However an input is cut, the output is that of the whole.
 unfoldable pub InPieces : Type 0
 InPieces = (pieces : List (List ℕ)) → toldAll begun pieces ≡ outputOf (joined pieces)
+
+-- A session that an input can lead to: its record needs no check, and its line is kept.
+pub record Sound (s : Session) : Type 0 where
+  pub reached : Reached (s .hub)
+  pub size : length (s .reader .line) ≡ 65
+  pub short : s .reader .len ≤ 65

@@ -53,7 +53,7 @@ asked-append (c ∷ a) b r = go (eqb c 0x0A) (asked-append a b (next r c))
     go false f = f
 
 -- What is printed from a session on for an input that comes whole.
-abbrev wholly : Session → List ℕ → List ℕ
+abbrev pub wholly : Session → List ℕ → List ℕ
 wholly s input = told s input ++ finished (fed s input)
 
 fed-append : (s : Session) (a b : List ℕ) → fed s (a ++ b) ≡ fed (fed s a) b
@@ -72,21 +72,24 @@ told-append s a b =
     ap (replies (s .hub)) (asked-append a b (s .reader))
     ∙ replies-append (asked (s .reader) a) (asked (past (s .reader) a) b) (s .hub)
 
-one-piece : (s : Session) → finished s ≡ wholly s []
+pub one-piece : (s : Session) → finished s ≡ wholly s []
 unfolding told fed replies asked past after
 one-piece s = refl
+
+pub wholly-append : (s : Session) (a b : List ℕ) → wholly s (a ++ b) ≡ told s a ++ wholly (fed s a) b
+wholly-append s a b =
+    (λ i. told-append s a b i ++ finished (fed-append s a b i))
+    ∙ append-assoc (told s a) (told (fed s a) b) (finished (fed (fed s a) b))
 
 in-pieces-from : (ps : List (List ℕ)) (s : Session) → toldAll s ps ≡ wholly s (joined ps)
 unfolding toldAll joined
 in-pieces-from [] s = one-piece s
 in-pieces-from (p ∷ ps) s =
-    let q = joined ps in
     ap (λ (l : List ℕ). told s p ++ l) (in-pieces-from ps (fed s p))
-    ∙ sym (append-assoc (told s p) (told (fed s p) q) (finished (fed (fed s p) q)))
-    ∙ (λ i. sym (told-append s p q) i ++ finished (sym (fed-append s p q) i))
+    ∙ sym (wholly-append s p (joined ps))
 
 -- An input that comes whole.
-in-one : (input : List ℕ) → wholly begun input ≡ outputOf input
+pub in-one : (input : List ℕ) → wholly begun input ≡ outputOf input
 unfolding told fed finished outputOf
 in-one input =
     let r = begun .reader in

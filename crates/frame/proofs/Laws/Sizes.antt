@@ -6,7 +6,8 @@ use mathlib.Core.List.{List, [], _∷_, _++_, map}
 use native.Mathlib.Omega.{arith}
 use borrow.Author.Tests.{eq-eqb, ne-eqb}
 use lib.Dec.{eqb}
-use lib.ListN.{length, getD, drop, length-append, length-map, drop-of-length-le}
+use lib.ListN.{length, getD, take, drop, length-append, length-map, drop-of-length-le}
+use lib.ListN.{take-append-drop}
 use lib.Seq.{drop-cons}
 use Rattle.hub.specs.declared.record.Hub.{Hub}
 use Rattle.hub.proofs.Laws.Bools.{if-true, if-false}
@@ -136,3 +137,7 @@ module _ (input : List ℕ) (n cut i : ℕ) (k : Counted input n cut i) where
       last zero l = refl
       last (suc zero) l = refl
       last (suc (suc b)) l = absurd (omega arith)
+
+-- The first characters of a piece are no more than the piece has.
+pub take-few : (n : ℕ) (l : List ℕ) → length (take n l) ≤ length l
+take-few n l = omega (arith, ap length (take-append-drop n l), length-append (take n l) (drop n l))

@@ -11,7 +11,7 @@ module _ (out part : List ℕ) (at w : ℕ) (room : at + w ≤ length out) (size
   abbrev put : List ℕ
   put = putMid at (at + w - at) out part
 
-  parts : put ≡ (take at out ++ part) ++ drop (at + w) out
+  pub parts : put ≡ (take at out ++ part) ++ drop (at + w) out
   parts =
       ap (λ (r : List ℕ). take at out ++ (part ++ r)) (post-is at (at + w) out (omega arith))
       ∙ sym (append-assoc (take at out) part (drop (at + w) out))

@@ -1,0 +1,688 @@
+-- `answer_requests` meets its contract: the record made of the locals is that of the requests so
+-- far, and what is written with what is still to come is the whole.
+use borrow.Author.Needs.{needs}
+use borrow.Author.Tests.{not-true, not-false}
+use mathlib.Core.Path.{_≡_, refl, sym, ap, subst, _∙_}
+use mathlib.Core.Bool.{Bool}
+use mathlib.Core.List.{List, map}
+use mathlib.Core.Logic.{⊎-elim}
+use native.Mathlib.Omega.{arith}
+use Prim.Native.Nat.{ℕ, _+_, _-_, _*_, _≤_, _<_}
+use lib.ListN.{length, getD, length-map}
+use mir.Facts.{toZ-ofZ}
+use mir.Syntax.{w32}
+use mir.Val.{SFits}
+use Rattle.hub.specs.declared.moves.Move.{Move}
+use Rattle.hub.specs.declared.moves.Sight.{Sight}
+use Rattle.hub.specs.declared.record.Hub.{Hub}
+use Rattle.hub.specs.declared.record.PartySlot.{PartySlot}
+use Rattle.hub.specs.declared.record.Phase.{Phase}
+use Rattle.hub.specs.Answers.{Printed, printed}
+use Rattle.hub.specs.Calls.{answerOf, apply, isFull}
+use Rattle.hub.specs.Fits.{look}
+use Rattle.hub.specs.Reclaim.{canSkip, skip, canRetire, retire}
+use Rattle.hub.specs.Record.{readPhase, writePhase, readPlace, writePlace}
+use Rattle.hub.specs.Table.{decide}
+use Rattle.line.specs.Frame.{opOf, frameOf, paper}
+use Rattle.line.specs.Hex.{textOf}
+use Rattle.line.specs.Program.{after, turn}
+use Rattle.step.proofs.Laws.Admitted.{Admitted}
+use Rattle.live.specs.declared.effect.Effect.{Effect}
+use Rattle.live.specs.Live.{Reached, requestsIn, replied}
+use Rattle.live.proofs.Laws.Answered.{Passed, passed, door-turn, let-in, call-turn}
+use Rattle.live.proofs.Laws.Hubs.{hubOf, counting}
+use Rattle.live.proofs.Laws.Looked.{waits, nobody-waits, not-full}
+use Rattle.live.proofs.Laws.Loops.{Skipping, skipping, can-skip, in-window, skipping-on}
+use Rattle.live.proofs.Laws.Loops.{skipping-stop, skipping-end}
+use Rattle.live.proofs.Laws.Loops.{Retiring, retiring, retiring-on, retiring-stop}
+use Rattle.live.proofs.Laws.Loops.{retiring-end}
+use Rattle.live.proofs.Laws.Reached.{same-counter}
+use Rattle.live.proofs.Laws.Stored.{nobody, still, keeps-oldest, few-turns}
+use Rattle.live.proofs.Laws.Tabled.{Read, small-sight, left, said}
+use Rattle.live.proofs.Laws.Turns.{Upto, theRequest, start, turned, ended}
+use Rattle.live.proofs.answer_requests.Statement.{statement}
+use Rattle.live.proofs.answer_requests.Tie as tie
+
+abbrev Inv-loop2 : tie.InvT-loop2
+Inv-loop2 l k out figures₀ places₀ slots i c x y a b p t w f turns q limit n₀ figures places n =
+    Skipping turns (hubOf figures₀ places₀ slots) (hubOf figures places slots) n
+    × (limit ≡ figures₀ .oldest + 256) × (figures₀ .oldest ≤ 1000000)
+
+abbrev μ-loop2 : tie.MeasureT-loop2
+μ-loop2 l k out figures₀ places₀ slots i c x y a b p t w f turns q limit n₀ figures places n =
+    turns - n
+
+abbrev Inv-loop3 : tie.InvT-loop3
+Inv-loop3 l k out figures₀ places₀ slots i c x y a b p t w f turns q limit n m₀ figures places m =
+    Retiring turns (hubOf figures₀ places₀ slots) (hubOf figures places slots) m
+    × (figures₀ .oldest + turns ≤ 1000256)
+
+abbrev μ-loop3 : tie.MeasureT-loop3
+μ-loop3 l k out figures₀ places₀ slots i c x y a b p t w f turns q limit n m₀ figures places m =
+    turns - m
+
+abbrev Inv-loop : tie.InvT-loop
+Inv-loop requests count out₀ figures₀ places₀ slots₀ i₀ out figures places slots i =
+    Upto (hubOf figures₀ places₀ slots₀) count requests out₀ (hubOf figures places slots) out i
+    × (length slots ≡ 32)
+
+abbrev μ-loop : tie.MeasureT-loop
+μ-loop requests count out₀ figures₀ places₀ slots₀ i₀ out figures places slots i = count - i
+
+-- The contexts that the facts below speak of.
+abbrev Head : Type 0
+Head = tie.At-loop Inv-loop2 μ-loop2 Inv-loop3 μ-loop3 Inv-loop μ-loop
+
+abbrev Entered : Type 0
+Entered = tie.Else1 Inv-loop2 μ-loop2 Inv-loop3 μ-loop3 Inv-loop μ-loop
+
+abbrev Joined : Type 0
+Joined = tie.Joined3 Inv-loop2 μ-loop2 Inv-loop3 μ-loop3 Inv-loop μ-loop
+
+abbrev Called : Type 0
+Called = tie.After-called Inv-loop2 μ-loop2 Inv-loop3 μ-loop3 Inv-loop μ-loop
+
+abbrev Tidying : Type 0
+Tidying = tie.At-loop2 Inv-loop2 μ-loop2 Inv-loop3 μ-loop3 Inv-loop μ-loop
+
+abbrev head : Entered → Head
+head c = c .before .before .before .before .before .before .before
+
+abbrev entered : Joined → Entered
+entered c = c .before .before .before .before .before .before .before .before
+
+abbrev called : Tidying → Called
+called c = c .before .before .before .before .before .before .before .before .before .before
+
+-- The record at the head of a turn, and the bytes of the request.
+abbrev hub : Head → Hub
+hub c = hubOf (c .loop .figures) (c .loop .places) (c .loop .slots)
+
+abbrev bytes : Head → List ℕ
+bytes c = c .before .before .before .before .before .before .args .requests .now
+
+abbrev code : Head → ℕ
+code c = getD (bytes c) (3 * c .loop .i) 0
+
+abbrev party : Head → ℕ
+party c = getD (bytes c) (3 * c .loop .i + 1) 0
+
+abbrev many : Head → ℕ
+many c = c .before .before .before .before .before .before .args .count
+
+taken : (c : Entered) → head c .loop .i < many (head c)
+taken c = c .before .before .before .before .before .before .loop-test .taken
+
+-- The door let the call in.
+pass : (c : Entered) → Passed (code (head c)) (party (head c)) (head c .loop .figures)
+pass c = passed _ _ _ _ _ (c .before .before .at-door .ensures) (not-false _ (c .if1 .left))
+
+admitted : (c : Entered)
+    → Admitted (hub (head c)) (party (head c)) (look (hub (head c)) (party (head c)))
+admitted c = let-in _ _ _ _ _ 0 (head c .loop .inv .0 .reached) (pass c)
+
+-- What the code read for it.
+abbrev number : Joined → ℕ
+number c = c .before .before .before .before .before .before .ticket .result
+
+abbrev Reading : Joined → Type 0
+Reading c =
+    let h = head (entered c) in
+    Read (h .loop .figures) (h .loop .places) (h .loop .slots) (party h)
+    (number c) (c .before .before .before .before .by-ticket .result) (c .before .before .if2 .waiter)
+
+reading : (c : Joined) → Reading c
+unfolding readPhase readPlace
+reading c =
+    let l = head (entered c) .loop .slots in
+    let size = head (entered c) .loop .inv .1 in
+    let a = c .before .before .before .before .by-ticket .result in
+    let q = c .before .before .before .waiter-at .ensures in
+    record {
+      ticket = c .before .before .before .before .before .before .ticket .ensures;
+      place = c .before .before .before .before .by-ticket .ensures;
+      waiter =
+          ⊎-elim
+          (λ w. waits l size a _ _ q (w .0 .taken) (w .2))
+          (λ w. nobody-waits l size a _ _ q (w .0 .left) (w .1))
+          (c .before .before .if2 .came);
+    }
+
+fullness : (c : Joined) (s : Sight)
+    → let h = head (entered c) in
+    decide (opOf (code h)) (c .if3 .full) s ≡ decide (opOf (code h)) (isFull (hub h)) s
+fullness c s =
+    let h = head (entered c) in
+    ⊎-elim (λ w. ap (λ (b : Bool). decide (opOf (code h)) b s) (w .2 ∙ w .1 .ensures))
+    (λ w. ap (λ (b : Bool). decide (opOf (code h)) b s) (w .1)
+    ∙ not-full (h .loop .slots) (h .loop .inv .1) (code h) (h .loop .figures .oldest)
+    (h .loop .figures .issued) s (sym (c .before .near-full .ensures) ∙ w .0 .left))
+    (c .if3 .came)
+
+long-unmapped : (X Y : Type 0) (f : X → Y) (l : List X) (n : ℕ) → length (map f l) ≡ n
+    → length l ≡ n
+long-unmapped X Y f l n e = sym (length-map l f) ∙ e
+
+full-house : (s : tie.Start Inv-loop2 μ-loop2 Inv-loop3 μ-loop3 Inv-loop μ-loop)
+    → length (s .args .house .slots) ≡ 32
+full-house s = search (needs, long-unmapped)
+
+-- The move of the call, and its turn.
+abbrev move : Head → Move
+move h = decide (opOf (code h)) (isFull (hub h)) (look (hub h) (party h))
+
+answered : (c : Entered)
+    → let h = head c in
+    turn (hub h) (theRequest (bytes h) (h .loop .i))
+    ≡ record {
+      party = party h;
+      answer = printed (answerOf (move h));
+      hub = apply (hub h) (look (hub h) (party h)) (move h);
+    }
+answered c = call-turn _ _ _ _ _ _ (head c .loop .inv .0 .reached) (pass c) _ refl
+
+low : (c : Called) → c .called .result .figures .oldest ≤ 1000000
+low c =
+    omega (
+      arith,
+      admitted (entered (c .before)) .oldest,
+      keeps-oldest _ _ _ _ (c .called .result) (c .called .ensures),
+    )
+
+-- The record that the tidying starts from, and the one between its loops.
+abbrev effect : Tidying → Effect
+effect t = called t .called .result
+
+abbrev slots : Tidying → List PartySlot
+slots t =
+    writePhase (t .before .before .if4 .slots) (party (head (entered (called t .before))))
+    (effect t .phase)
+
+abbrev untidied : Tidying → Hub
+untidied t =
+    let j = called t .before in
+    hubOf (effect t .figures)
+    (writePlace (head (entered j) .loop .places) (number j) (t .before .before .before .by-ticket2 .result))
+    (slots t)
+
+abbrev between : Tidying → Hub
+between t = hubOf (t .loop2 .figures) (t .loop2 .places) (slots t)
+
+skipped-all : (c : tie.Left-loop2 Inv-loop2 μ-loop2 Inv-loop3 μ-loop3 Inv-loop μ-loop)
+    → let t = c .before in
+    between t ≡ skip (effect t .turns) (canSkip (untidied t)) (untidied t)
+unfolding readPlace writePlace writePhase
+skipped-all c =
+    let s = c .before .loop2 .inv in
+    ⊎-elim (λ w. skipping-end _ _ _ _ (s .0) (w .left))
+    (λ w. skipping-stop _ _ _ _ (s .0)
+    (can-skip _ _ _ _ (s .0) _ _ (s .1) (w .2 .ensures) ∙ not-true _ (w .3 .taken)))
+    (c .loop2-test .came)
+
+woken-slots : (t : Tidying)
+    → t .before .before .if4 .slots
+    ≡ writePhase (head (entered (called t .before)) .loop .slots) (effect t .woken) Phase.Holding
+unfolding writePhase
+woken-slots t =
+    let h = head (entered (called t .before)) in
+    ⊎-elim (λ w. w .1)
+    (λ w. w .1
+    ∙ nobody (h .loop .slots) (effect t .woken) Phase.Holding
+    (omega (arith, h .loop .inv .1, w .0 .left)))
+    (t .before .before .if4 .came)
+
+-- What the tidying leaves is what the call leaves, and the line says what it answers.
+done : (c : tie.At-loop3 Inv-loop2 μ-loop2 Inv-loop3 μ-loop3 Inv-loop μ-loop) (g : Hub)
+    → let t = c .before .before in
+    let h = head (entered (called t .before)) in
+    g ≡ retire (effect t .turns) (canRetire (between t)) (between t)
+    → g ≡ apply (hub h) (look (hub h) (party h)) (move h)
+unfolding readPhase readPlace
+done c g e =
+    let t = c .before .before in
+    let j = called t .before in
+    left _ _ _ _ _ _ _ (reading j) (code (head (entered j))) (j .if3 .full) (effect t) (fullness j _)
+    (called t .called .ensures) _ _ (head (entered j) .loop .inv .1) (t .before .before .before .by-ticket2 .ensures)
+    (woken-slots t) (between t) g (skipped-all (c .before)) e
+
+abbrev print : Tidying → tie.After-print-of Inv-loop2 μ-loop2 Inv-loop3 μ-loop3 Inv-loop μ-loop
+print t = t .before .before .before .before .before .before .before .before
+
+worded : (t : Tidying)
+    → paper (print t .print-of .result)
+    ≡ printed (answerOf (move (head (entered (called t .before)))))
+unfolding readPhase
+worded t =
+    let j = called t .before in
+    said _ _ _ _ _ _ _ (reading j) (code (head (entered j))) (j .if3 .full) (effect t) (fullness j _)
+    (called t .called .ensures) (print t .print-of .ensures)
+
+loop-holds : tie.Need-loop-holds Inv-loop2 μ-loop2 Inv-loop3 μ-loop3 Inv-loop μ-loop
+loop-holds c =
+    let a = c .before .before .before .before .before in
+    let f : SFits w32 (a .args .house .counter) = search needs in
+    let same = ap (counting (a .args .house)) (sym (toZ-ofZ f)) in (
+      start _ _ _ _ (subst Reached same (a .pre .0)) (omega (arith, a .pre))
+          (omega (arith, a .pre)),
+      full-house a,
+    )
+
+mul-code : tie.Need-mul-code Inv-loop2 μ-loop2 Inv-loop3 μ-loop3 Inv-loop μ-loop
+mul-code c = search needs
+
+shared-slice-read-code :
+    tie.Need-shared-slice-read-code Inv-loop2 μ-loop2 Inv-loop3 μ-loop3 Inv-loop μ-loop
+shared-slice-read-code c = search needs
+
+mul-first : tie.Need-mul-first Inv-loop2 μ-loop2 Inv-loop3 μ-loop3 Inv-loop μ-loop
+mul-first c = search needs
+
+add-first : tie.Need-add-first Inv-loop2 μ-loop2 Inv-loop3 μ-loop3 Inv-loop μ-loop
+add-first c = search needs
+
+shared-slice-read-first :
+    tie.Need-shared-slice-read-first Inv-loop2 μ-loop2 Inv-loop3 μ-loop3 Inv-loop μ-loop
+shared-slice-read-first c = search needs
+
+mul-second : tie.Need-mul-second Inv-loop2 μ-loop2 Inv-loop3 μ-loop3 Inv-loop μ-loop
+mul-second c = search needs
+
+add-second : tie.Need-add-second Inv-loop2 μ-loop2 Inv-loop3 μ-loop3 Inv-loop μ-loop
+add-second c = search needs
+
+shared-slice-read-second :
+    tie.Need-shared-slice-read-second Inv-loop2 μ-loop2 Inv-loop3 μ-loop3 Inv-loop μ-loop
+shared-slice-read-second c = search needs
+
+mul-at : tie.Need-mul-at Inv-loop2 μ-loop2 Inv-loop3 μ-loop3 Inv-loop μ-loop
+mul-at c = search needs
+
+add-end : tie.Need-add-end Inv-loop2 μ-loop2 Inv-loop3 μ-loop3 Inv-loop μ-loop
+add-end c = search needs
+
+add-i : tie.Need-add-i Inv-loop2 μ-loop2 Inv-loop3 μ-loop3 Inv-loop μ-loop
+add-i c = search needs
+
+at-door-requires : tie.Need-at-door-requires Inv-loop2 μ-loop2 Inv-loop3 μ-loop3 Inv-loop μ-loop
+at-door-requires c κs = search needs
+
+sub-put-line : tie.Need-sub-put-line Inv-loop2 μ-loop2 Inv-loop3 μ-loop3 Inv-loop μ-loop
+sub-put-line c = search needs
+
+part-put-line-start :
+    tie.Need-part-put-line-start Inv-loop2 μ-loop2 Inv-loop3 μ-loop3 Inv-loop μ-loop
+part-put-line-start c = search needs
+
+part-put-line-end : tie.Need-part-put-line-end Inv-loop2 μ-loop2 Inv-loop3 μ-loop3 Inv-loop μ-loop
+part-put-line-end c = search needs
+
+put-line-requires : tie.Need-put-line-requires Inv-loop2 μ-loop2 Inv-loop3 μ-loop3 Inv-loop μ-loop
+put-line-requires c κs = search needs
+
+loop-less : tie.Need-loop-less Inv-loop2 μ-loop2 Inv-loop3 μ-loop3 Inv-loop μ-loop
+loop-less c = search needs
+
+loop-again : tie.Need-loop-again Inv-loop2 μ-loop2 Inv-loop3 μ-loop3 Inv-loop μ-loop
+loop-again c =
+    let p = c .before .before .before .before .before in
+    let d = p .before .before in
+    let h = d .before .before .before .before .before in
+    let u = h .loop .inv .0 in (
+      turned _ _ _ _ _ _ _ u _ _ _ (d .before .before .before .before .loop-test .taken)
+          (door-turn _ _ _ _ _ _ (u .reached) _ (d .at-door .ensures) (not-true _ (p .if1 .taken)))
+          (c .before .before .before .put-line .ensures) refl,
+      h .loop .inv .1,
+    )
+
+cast-party : tie.Need-cast-party Inv-loop2 μ-loop2 Inv-loop3 μ-loop3 Inv-loop μ-loop
+cast-party c = omega (arith, admitted c .party)
+
+mul-slot : tie.Need-mul-slot Inv-loop2 μ-loop2 Inv-loop3 μ-loop3 Inv-loop μ-loop
+mul-slot c = omega (arith, admitted c .party)
+
+array-copy-out-slot :
+    tie.Need-array-copy-out-slot Inv-loop2 μ-loop2 Inv-loop3 μ-loop3 Inv-loop μ-loop
+array-copy-out-slot c = omega (arith, admitted c .party)
+
+ticket-requires : tie.Need-ticket-requires Inv-loop2 μ-loop2 Inv-loop3 μ-loop3 Inv-loop μ-loop
+ticket-requires c κs = search needs
+
+cast-t : tie.Need-cast-t Inv-loop2 μ-loop2 Inv-loop3 μ-loop3 Inv-loop μ-loop
+cast-t c = search needs
+
+mul-seat : tie.Need-mul-seat Inv-loop2 μ-loop2 Inv-loop3 μ-loop3 Inv-loop μ-loop
+mul-seat c = search needs
+
+array-copy-out-seat :
+    tie.Need-array-copy-out-seat Inv-loop2 μ-loop2 Inv-loop3 μ-loop3 Inv-loop μ-loop
+array-copy-out-seat c = search needs
+
+by-ticket-requires :
+    tie.Need-by-ticket-requires Inv-loop2 μ-loop2 Inv-loop3 μ-loop3 Inv-loop μ-loop
+by-ticket-requires c κs = search needs
+
+waiter-at-requires :
+    tie.Need-waiter-at-requires Inv-loop2 μ-loop2 Inv-loop3 μ-loop3 Inv-loop μ-loop
+waiter-at-requires c κs = search needs
+
+cast-seen : tie.Need-cast-seen Inv-loop2 μ-loop2 Inv-loop3 μ-loop3 Inv-loop μ-loop
+cast-seen c = search needs
+
+mul-seen : tie.Need-mul-seen Inv-loop2 μ-loop2 Inv-loop3 μ-loop3 Inv-loop μ-loop
+mul-seen c = search needs
+
+array-copy-out-seen :
+    tie.Need-array-copy-out-seen Inv-loop2 μ-loop2 Inv-loop3 μ-loop3 Inv-loop μ-loop
+array-copy-out-seen c = search needs
+
+near-full-requires :
+    tie.Need-near-full-requires Inv-loop2 μ-loop2 Inv-loop3 μ-loop3 Inv-loop μ-loop
+near-full-requires c κs =
+    let a = admitted (c .before .before .before .before .before .before) in
+    (a .oldest, a .issued)
+
+is-full-requires : tie.Need-is-full-requires Inv-loop2 μ-loop2 Inv-loop3 μ-loop3 Inv-loop μ-loop
+is-full-requires c κs =
+    let a = admitted (c .before .before .before .before .before .before .before .before) in
+    (a .oldest, a .issued)
+
+called-requires : tie.Need-called-requires Inv-loop2 μ-loop2 Inv-loop3 μ-loop3 Inv-loop μ-loop
+unfolding readPhase
+called-requires c κs = small-sight _ _ _ _ _ _ _ (reading c) (admitted (entered c))
+
+sub-put-line-2 : tie.Need-sub-put-line-2 Inv-loop2 μ-loop2 Inv-loop3 μ-loop3 Inv-loop μ-loop
+sub-put-line-2 c = search needs
+
+part-put-line-start-2 :
+    tie.Need-part-put-line-start-2 Inv-loop2 μ-loop2 Inv-loop3 μ-loop3 Inv-loop μ-loop
+part-put-line-start-2 c = search needs
+
+part-put-line-end-2 :
+    tie.Need-part-put-line-end-2 Inv-loop2 μ-loop2 Inv-loop3 μ-loop3 Inv-loop μ-loop
+part-put-line-end-2 c =
+    let e = entered (c .before) in
+    omega (arith, head e .loop .inv .0 .room, taken e)
+
+print-of-requires : tie.Need-print-of-requires Inv-loop2 μ-loop2 Inv-loop3 μ-loop3 Inv-loop μ-loop
+print-of-requires c κs = search needs
+
+put-line-requires-2 :
+    tie.Need-put-line-requires-2 Inv-loop2 μ-loop2 Inv-loop3 μ-loop3 Inv-loop μ-loop
+put-line-requires-2 c κs = search needs
+
+by-ticket-requires-2 :
+    tie.Need-by-ticket-requires-2 Inv-loop2 μ-loop2 Inv-loop3 μ-loop3 Inv-loop μ-loop
+by-ticket-requires-2 c κs = search needs
+
+mul-places : tie.Need-mul-places Inv-loop2 μ-loop2 Inv-loop3 μ-loop3 Inv-loop μ-loop
+mul-places c = search needs
+
+array-set-from-places :
+    tie.Need-array-set-from-places Inv-loop2 μ-loop2 Inv-loop3 μ-loop3 Inv-loop μ-loop
+array-set-from-places c = search needs
+
+cast-slots : tie.Need-cast-slots Inv-loop2 μ-loop2 Inv-loop3 μ-loop3 Inv-loop μ-loop
+cast-slots c = search needs
+
+mul-slots : tie.Need-mul-slots Inv-loop2 μ-loop2 Inv-loop3 μ-loop3 Inv-loop μ-loop
+mul-slots c = search needs
+
+array-set-from-slots :
+    tie.Need-array-set-from-slots Inv-loop2 μ-loop2 Inv-loop3 μ-loop3 Inv-loop μ-loop
+array-set-from-slots c = search needs
+
+mul-slots-2 : tie.Need-mul-slots-2 Inv-loop2 μ-loop2 Inv-loop3 μ-loop3 Inv-loop μ-loop
+mul-slots-2 c =
+    let j = c .before .before .before .before .before .before .before .before .before in
+    omega (arith, admitted (entered j) .party)
+
+array-set-from-slots-2 :
+    tie.Need-array-set-from-slots-2 Inv-loop2 μ-loop2 Inv-loop3 μ-loop3 Inv-loop μ-loop
+array-set-from-slots-2 c =
+    let j = c .before .before .before .before .before .before .before .before .before in
+    omega (arith, admitted (entered j) .party)
+
+add-limit : tie.Need-add-limit Inv-loop2 μ-loop2 Inv-loop3 μ-loop3 Inv-loop μ-loop
+add-limit c =
+    let d = c .before .before .before .before .before .before .before .before .before in
+    omega (arith, low d)
+
+loop2-holds : tie.Need-loop2-holds Inv-loop2 μ-loop2 Inv-loop3 μ-loop3 Inv-loop μ-loop
+loop2-holds c =
+    let d = c .before .before .before .before .before .before .before .before .before in
+    (skipping _ _, refl, low d)
+
+cast-a : tie.Need-cast-a Inv-loop2 μ-loop2 Inv-loop3 μ-loop3 Inv-loop μ-loop
+cast-a c = search needs
+
+mul-head : tie.Need-mul-head Inv-loop2 μ-loop2 Inv-loop3 μ-loop3 Inv-loop μ-loop
+mul-head c = search needs
+
+array-copy-out-head :
+    tie.Need-array-copy-out-head Inv-loop2 μ-loop2 Inv-loop3 μ-loop3 Inv-loop μ-loop
+array-copy-out-head c = search needs
+
+can-skip-requires : tie.Need-can-skip-requires Inv-loop2 μ-loop2 Inv-loop3 μ-loop3 Inv-loop μ-loop
+can-skip-requires c κs = search needs
+
+mul-places-2 : tie.Need-mul-places-2 Inv-loop2 μ-loop2 Inv-loop3 μ-loop3 Inv-loop μ-loop
+mul-places-2 c = search needs
+
+array-set-from-places-2 :
+    tie.Need-array-set-from-places-2 Inv-loop2 μ-loop2 Inv-loop3 μ-loop3 Inv-loop μ-loop
+array-set-from-places-2 c = search needs
+
+add-figures : tie.Need-add-figures Inv-loop2 μ-loop2 Inv-loop3 μ-loop3 Inv-loop μ-loop
+unfolding readPlace
+add-figures c =
+    let l = c .before .before .before .before in
+    let s = l .loop2 .inv in
+    let e = can-skip _ _ _ _ (s .0) _ _ (s .1) (c .before .can-skip .ensures) in
+    omega (arith, in-window _ _ _ _ (s .0) (e ∙ not-false _ (c .if5 .left)), s .2)
+
+add-n : tie.Need-add-n Inv-loop2 μ-loop2 Inv-loop3 μ-loop3 Inv-loop μ-loop
+add-n c = search needs
+
+loop2-less : tie.Need-loop2-less Inv-loop2 μ-loop2 Inv-loop3 μ-loop3 Inv-loop μ-loop
+loop2-less c = omega (arith, c .before .before .before .loop2-test .taken)
+
+loop2-again : tie.Need-loop2-again Inv-loop2 μ-loop2 Inv-loop3 μ-loop3 Inv-loop μ-loop
+unfolding readPlace writePlace
+loop2-again c =
+    let s = c .before .before .before .before .loop2 .inv in
+    let e = can-skip _ _ _ _ (s .0) _ _ (s .1) (c .before .can-skip .ensures) in
+    let on = skipping-on _ _ _ _ (s .0) (c .before .before .before .loop2-test .taken) in
+    (on (e ∙ not-false _ (c .if5 .left)), s .1, s .2)
+
+loop3-holds : tie.Need-loop3-holds Inv-loop2 μ-loop2 Inv-loop3 μ-loop3 Inv-loop μ-loop
+loop3-holds c =
+    let s = c .before .loop2 .inv in
+    let d = called (c .before) in (
+      retiring _ _,
+      omega (arith, s .0 .low, s .2, few-turns _ _ _ _ (d .called .result) (d .called .ensures)),
+    )
+
+loop-less-2 : tie.Need-loop-less-2 Inv-loop2 μ-loop2 Inv-loop3 μ-loop3 Inv-loop μ-loop
+loop-less-2 c = omega (arith, taken (entered (called (c .before .before .before) .before)))
+
+loop-again-2 : tie.Need-loop-again-2 Inv-loop2 μ-loop2 Inv-loop3 μ-loop3 Inv-loop μ-loop
+unfolding readPlace writePlace writePhase
+loop-again-2 c =
+    let t = c .before .before .before in
+    let e = entered (called t .before) in
+    let h = head e in
+    let line =
+    t .before .before .before .before .before .before .before .put-line2 .ensures
+    ∙ ap (λ (q : Printed). textOf (frameOf (party h) q)) (worded t) in
+    let long = still (h .loop .slots) _ (effect t .woken) _ Phase.Holding _ (woken-slots t) in
+    let last = retiring-end _ _ _ _ (c .before .loop3 .inv .0) (c .loop3-test .left) in (
+      turned _ _ _ _ _ _ _ (h .loop .inv .0) _ _ _ (taken e) (answered e) line (done (c .before) _ last),
+      long ∙ h .loop .inv .1,
+    )
+
+cast-a-2 : tie.Need-cast-a-2 Inv-loop2 μ-loop2 Inv-loop3 μ-loop3 Inv-loop μ-loop
+cast-a-2 c = search needs
+
+mul-head-2 : tie.Need-mul-head-2 Inv-loop2 μ-loop2 Inv-loop3 μ-loop3 Inv-loop μ-loop
+mul-head-2 c = search needs
+
+array-copy-out-head-2 :
+    tie.Need-array-copy-out-head-2 Inv-loop2 μ-loop2 Inv-loop3 μ-loop3 Inv-loop μ-loop
+array-copy-out-head-2 c = search needs
+
+can-retire-requires :
+    tie.Need-can-retire-requires Inv-loop2 μ-loop2 Inv-loop3 μ-loop3 Inv-loop μ-loop
+can-retire-requires c κs = search needs
+
+loop-less-3 : tie.Need-loop-less-3 Inv-loop2 μ-loop2 Inv-loop3 μ-loop3 Inv-loop μ-loop
+loop-less-3 c =
+    let t = c .before .before .before .before .before .before in
+    omega (arith, taken (entered (called t .before)))
+
+loop-again-3 : tie.Need-loop-again-3 Inv-loop2 μ-loop2 Inv-loop3 μ-loop3 Inv-loop μ-loop
+unfolding readPlace writePlace writePhase
+loop-again-3 c =
+    let l = c .before .before .before .before in
+    let t = c .before .before .before .before .before .before in
+    let e = entered (called t .before) in
+    let h = head e in
+    let line =
+    t .before .before .before .before .before .before .before .put-line2 .ensures
+    ∙ ap (λ (q : Printed). textOf (frameOf (party h) q)) (worded t) in
+    let long = still (h .loop .slots) _ (effect t .woken) _ Phase.Holding _ (woken-slots t) in
+    let last =
+    retiring-stop _ _ _ _ (l .loop3 .inv .0)
+    (sym (c .before .can-retire .ensures) ∙ not-true _ (c .if6 .taken)) in (
+      turned _ _ _ _ _ _ _ (h .loop .inv .0) _ _ _ (taken e) (answered e) line (done l _ last),
+      long ∙ h .loop .inv .1,
+    )
+
+mul-places-3 : tie.Need-mul-places-3 Inv-loop2 μ-loop2 Inv-loop3 μ-loop3 Inv-loop μ-loop
+mul-places-3 c = search needs
+
+array-set-from-places-3 :
+    tie.Need-array-set-from-places-3 Inv-loop2 μ-loop2 Inv-loop3 μ-loop3 Inv-loop μ-loop
+array-set-from-places-3 c = search needs
+
+add-figures-2 : tie.Need-add-figures-2 Inv-loop2 μ-loop2 Inv-loop3 μ-loop3 Inv-loop μ-loop
+add-figures-2 c =
+    let s = c .before .before .before .before .loop3 .inv in
+    omega (arith, s .0 .low, s .1, c .before .before .before .loop3-test .taken)
+
+add-m : tie.Need-add-m Inv-loop2 μ-loop2 Inv-loop3 μ-loop3 Inv-loop μ-loop
+add-m c = search needs
+
+loop3-less : tie.Need-loop3-less Inv-loop2 μ-loop2 Inv-loop3 μ-loop3 Inv-loop μ-loop
+loop3-less c = omega (arith, c .before .before .before .loop3-test .taken)
+
+loop3-again : tie.Need-loop3-again Inv-loop2 μ-loop2 Inv-loop3 μ-loop3 Inv-loop μ-loop
+unfolding readPlace writePlace
+loop3-again c =
+    let s = c .before .before .before .before .loop3 .inv in (
+      retiring-on _ _ _ _ (s .0) (c .before .before .before .loop3-test .taken)
+          (sym (c .before .can-retire .ensures) ∙ not-false _ (c .if6 .left)),
+      s .1,
+    )
+
+same-length : tie.Need-same-length Inv-loop2 μ-loop2 Inv-loop3 μ-loop3 Inv-loop μ-loop
+same-length c = search needs
+
+returns : tie.Need-returns Inv-loop2 μ-loop2 Inv-loop3 μ-loop3 Inv-loop μ-loop
+returns c =
+    let l = c .before .before in
+    let a = l .before .before .before .before .before .before .args in
+    let u = l .loop .inv .0 in
+    let e = ended _ _ _ _ _ _ _ u (c .before .loop-test .left) in
+    let f : SFits w32 (a .house .counter) = search needs in
+    let same = ap (counting (a .house)) (toZ-ofZ f) in (
+      ap (counting (hub l)) (same-counter (hub l) (u .reached)) ∙ e .0
+          ∙ ap (λ (h : Hub). after h (requestsIn (a .count) (a .requests .now))) same,
+      e .1 ∙ ap (λ (h : Hub). replied h (a .count) (a .requests .now) (a .out .now)) same,
+    )
+
+pub answer-requests-spec : {M : Type 1} → statement M
+answer-requests-spec =
+    tie.close
+    (tie.spec
+    Inv-loop2
+    μ-loop2
+    Inv-loop3
+    μ-loop3
+    Inv-loop
+    μ-loop
+    loop-holds
+    mul-code
+    shared-slice-read-code
+    mul-first
+    add-first
+    shared-slice-read-first
+    mul-second
+    add-second
+    shared-slice-read-second
+    mul-at
+    add-end
+    add-i
+    at-door-requires
+    sub-put-line
+    part-put-line-start
+    part-put-line-end
+    put-line-requires
+    loop-less
+    loop-again
+    cast-party
+    mul-slot
+    array-copy-out-slot
+    ticket-requires
+    cast-t
+    mul-seat
+    array-copy-out-seat
+    by-ticket-requires
+    waiter-at-requires
+    cast-seen
+    mul-seen
+    array-copy-out-seen
+    near-full-requires
+    is-full-requires
+    called-requires
+    sub-put-line-2
+    part-put-line-start-2
+    part-put-line-end-2
+    print-of-requires
+    put-line-requires-2
+    by-ticket-requires-2
+    mul-places
+    array-set-from-places
+    cast-slots
+    mul-slots
+    array-set-from-slots
+    mul-slots-2
+    array-set-from-slots-2
+    add-limit
+    loop2-holds
+    cast-a
+    mul-head
+    array-copy-out-head
+    can-skip-requires
+    mul-places-2
+    array-set-from-places-2
+    add-figures
+    add-n
+    loop2-less
+    loop2-again
+    loop3-holds
+    loop-less-2
+    loop-again-2
+    cast-a-2
+    mul-head-2
+    array-copy-out-head-2
+    can-retire-requires
+    loop-less-3
+    loop-again-3
+    mul-places-3
+    array-set-from-places-3
+    add-figures-2
+    add-m
+    loop3-less
+    loop3-again
+    same-length
+    returns)

@@ -1,0 +1,151 @@
+// Requests answered on one record, altered in place. A record that an input can lead to fits, and
+// that is proved: so there is no check of the whole record here.
+
+mod figures; // a record but for its arrays
+mod door; // what is answered before the table is asked
+mod sight; // what a call looks at
+mod effect; // what the table decides
+mod room; // refusal 7
+mod tidy; // the tests of the tidying
+
+use door::at_door;
+use effect::called;
+use figures::Figures;
+use hub::phases::ticket;
+use hub::record::Hub;
+use hub::record::PartySlot;
+use hub::record::Phase;
+use hub::record::Place;
+use hub::record::PlaceSlot;
+use line::answer::Print;
+use line::answer::print_of;
+use line::text::put_line;
+use room::is_full;
+use room::near_full;
+use sight::by_ticket;
+use sight::waiter_at;
+use tidy::can_retire;
+use tidy::can_skip;
+ghost use mathlib.Core.Path.{_≡_};
+ghost use Prim.Native.Nat.{_*_, _≤_};
+ghost use lib.ListN.{length};
+ghost use Rattle.line.specs.Program.{after};
+ghost use Rattle.live.specs.Live.{Reached, replied, requestsIn};
+
+// Answers the first `count` requests, three bytes each, by a line of fifteen characters each.
+pub fn answer_requests(house: Hub, requests: &[u8], count: usize, out: &mut [u8]) -> Hub
+    requires { ⌜ Reached house ⌝ }
+    requires { ⌜ 3 * count ≤ length (now requests) ⌝ }
+    requires { ⌜ 15 * count ≤ length (now out) ⌝ }
+    ensures { λ r. ⌜ (r ≡ after house (requestsIn count (now (requests .entry))))
+        × (now (out .exit) ≡ replied house count (now (requests .entry)) (now (out .entry))) ⌝ }
+{
+    let mut figures = Figures {
+        permits: house.permits,
+        parties: house.parties,
+        counter: house.counter,
+        issued: house.issued,
+        resumed: house.resumed,
+        begun: house.begun,
+        oldest: house.oldest,
+    };
+    let mut places = house.places;
+    let mut slots = house.slots;
+    let mut i: usize = 0;
+    while i < count {
+        let code = requests[3 * i];
+        let first = requests[3 * i + 1];
+        let second = requests[3 * i + 2];
+        let at = 15 * i;
+        let end = at + 15;
+        i += 1;
+        let d = at_door(code, first, second, figures);
+        if !d.admitted {
+            let p = Print {
+                code: d.code,
+                woken: 0xFF,
+                number: 0xFFFFFFFF,
+            };
+            put_line(&mut out[at..end], d.party, p);
+            let next = d.figures;
+            figures = next;
+            continue;
+        }
+        let party = first as usize;
+        let slot = slots[party];
+        let phase = slot.phase;
+        let t = (ticket(phase) % Hub::PLACES) as usize;
+        let seat = places[t];
+        let there = seat.place;
+        let place = by_ticket(phase, there, Place::Empty);
+        let w = waiter_at(place);
+        let waiter = if w < 32 {
+            let seen = slots[w as usize];
+            seen.phase
+        } else {
+            Phase::Free
+        };
+        let full = if near_full(code, figures) {
+            is_full(figures, slots)
+        } else {
+            false
+        };
+        let e = called(code, full, first, phase, place, waiter, figures);
+        let answer = e.answer;
+        put_line(&mut out[at..end], first, print_of(answer));
+        let turns = e.turns;
+        let next = e.figures;
+        figures = next;
+        let into = e.place;
+        let put = by_ticket(phase, into, there);
+        places[t] = PlaceSlot { place: put };
+        let woken = e.woken;
+        if woken < 32 {
+            slots[woken as usize] = PartySlot {
+                phase: Phase::Holding,
+            };
+        }
+        let becomes = e.phase;
+        slots[party] = PartySlot { phase: becomes };
+        let limit = figures.oldest + Hub::PLACES;
+        let mut n: u32 = 0;
+        while n < turns {
+            let r = figures.resumed;
+            let a = (r % Hub::PLACES) as usize;
+            let head = places[a];
+            let first_place = head.place;
+            if !can_skip(first_place, r, limit) {
+                break;
+            }
+            places[a] = PlaceSlot { place: Place::Done };
+            figures.resumed = r + 1;
+            n += 1;
+        }
+        let mut m: u32 = 0;
+        while m < turns {
+            let o = figures.oldest;
+            let a = (o % Hub::PLACES) as usize;
+            let head = places[a];
+            let first_place = head.place;
+            if !can_retire(first_place) {
+                break;
+            }
+            places[a] = PlaceSlot {
+                place: Place::Empty,
+            };
+            figures.oldest = o + 1;
+            m += 1;
+        }
+    }
+    Hub {
+        permits: figures.permits,
+        parties: figures.parties,
+        counter: figures.counter,
+        issued: figures.issued,
+        resumed: figures.resumed,
+        begun: figures.begun,
+        oldest: figures.oldest,
+        places,
+        slots,
+    }
+}

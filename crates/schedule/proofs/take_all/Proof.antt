@@ -1,0 +1,52 @@
+-- `take_all` hands on a session that is sound from its beginning, and counts its turns down.
+use borrow.Author.Needs.{needs}
+use mathlib.Core.Path.{sym, subst}
+use Rattle.frame.specs.Session.{Sound}
+use Rattle.frame.proofs.Laws.Feeding.{begun-sound}
+use Rattle.schedule.proofs.take_all.Statement.{statement}
+use Rattle.schedule.proofs.take_all.Tie as tie
+
+abbrev Inv-loop : tie.InvT-loop
+Inv-loop session₀ turns₀ session turns = Sound session
+
+abbrev μ-loop : tie.MeasureT-loop
+μ-loop session₀ turns₀ session turns = turns
+
+begin-requires : tie.Need-begin-requires Inv-loop μ-loop
+begin-requires c κs = search needs
+
+loop-holds : tie.Need-loop-holds Inv-loop μ-loop
+loop-holds c = subst Sound (sym (c .begin .ensures)) begun-sound
+
+take-piece-requires : tie.Need-take-piece-requires Inv-loop μ-loop
+take-piece-requires c κs = search needs
+
+returns : tie.Need-returns Inv-loop μ-loop
+returns c = search needs
+
+sub-turns : tie.Need-sub-turns Inv-loop μ-loop
+sub-turns c = search needs
+
+loop-less : tie.Need-loop-less Inv-loop μ-loop
+loop-less c = search needs
+
+loop-again : tie.Need-loop-again Inv-loop μ-loop
+loop-again c = search needs
+
+returns-2 : tie.Need-returns-2 Inv-loop μ-loop
+returns-2 c = search needs
+
+pub take-all-spec : {M : Type 1} → statement M
+take-all-spec =
+    tie.close
+    (tie.spec
+    Inv-loop
+    μ-loop
+    begin-requires
+    loop-holds
+    take-piece-requires
+    returns
+    sub-turns
+    loop-less
+    loop-again
+    returns-2)

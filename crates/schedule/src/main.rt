@@ -1,0 +1,100 @@
+// The schedule program: standard input to standard output, in constant memory.
+
+use frame::session::Session;
+use frame::session::begin;
+use frame::session::feed;
+use frame::session::finish;
+use libc::STDIN_FILENO;
+use libc::STDOUT_FILENO;
+ghost use Rattle.frame.specs.Session.{Sound};
+
+// The session past a piece. Without more there is nothing to read; a run is whole as long as
+// every piece was read and every answer written.
+pub struct Taken {
+    pub session: Session,
+    pub more: bool,
+    pub whole: bool,
+}
+
+// Writes the lines that stand at the start of a buffer, of fifteen characters each.
+fn print(out: &[u8], lines: usize) -> bool {
+    if out.len() / 15 < lines {
+        return false;
+    }
+    let end = 15 * lines;
+    io::write_all(STDOUT_FILENO, &out[0..end])
+}
+
+// Reads once, answers the lines that end in what came, and writes the answers.
+fn take_piece(session: Session) -> Taken
+    requires { ⌜ Sound session ⌝ }
+    ensures { λ r. ⌜ Sound (r .session) ⌝ }
+{
+    let mut piece = [0u8; 4096];
+    let mut out = [0u8; 61440];
+    let got = libc::read(STDIN_FILENO, &mut piece);
+    if got < 0 {
+        return Taken {
+            session,
+            more: false,
+            whole: false,
+        };
+    }
+    if got == 0 {
+        return Taken {
+            session,
+            more: false,
+            whole: true,
+        };
+    }
+    let n = io::count(got, &piece);
+    let fed = feed(session, &piece[0..n], &mut out);
+    let past = fed.session;
+    let written = print(&out, fed.lines);
+    Taken {
+        session: past,
+        more: written,
+        whole: written,
+    }
+}
+
+// Answers a last line without its end mark, and closes.
+fn close(session: Session)
+    requires { ⌜ Sound session ⌝ }
+{
+    let mut out = [0u8; 30];
+    let lines = finish(session, &mut out);
+    print(&out, lines);
+}
+
+// Piece after piece. A proved loop has to end, so they are counted down from a number that no
+// input uses up.
+fn take_all() -> Taken
+    ensures { λ r. ⌜ Sound (r .session) ⌝ }
+{
+    let mut session = begin();
+    let mut turns = u64::MAX;
+    while 0 < turns {
+        let taken = take_piece(session);
+        if !taken.more {
+            return taken;
+        }
+        let past = taken.session;
+        session = past;
+        turns -= 1;
+    }
+    Taken {
+        session,
+        more: true,
+        whole: false,
+    }
+}
+
+// Where reading or writing fails the closing line is left out: what was printed is not whole.
+fn main() {
+    let taken = take_all();
+    if taken.whole {
+        let session = taken.session;
+        close(session);
+    }
+}
