@@ -10,7 +10,7 @@ ghost use mathlib.Core.Path.{_≡_};
 ghost use mathlib.Core.List.{_++_};
 ghost use Prim.Native.Nat.{suc, _*_, _≤_};
 ghost use lib.ListN.{length, drop};
-ghost use Rattle.frame.specs.Reading.{asked};
+ghost use Rattle.frame.specs.Reading.{asked, written};
 ghost use Rattle.frame.specs.Session.{Sound, begun, fed, finished, rest, told};
 
 // The record, and the line that is being read.
@@ -38,24 +38,25 @@ pub fn begin() -> Session
     }
 }
 
-// Answers the lines that end in a piece.
-pub fn feed(session: Session, piece: &[u8], out: &mut [u8]) -> Fed
+// Answers the lines that end in a piece. What they ask is left in `requests`, three bytes each.
+pub fn feed(session: Session, piece: &[u8], requests: &mut [u8], out: &mut [u8]) -> Fed
     requires { ⌜ Sound session ⌝ }
-    requires { ⌜ length (now piece) ≤ 4096 ⌝ }
+    requires { ⌜ 3 * length (now piece) ≤ length (now requests) ⌝ }
     requires { ⌜ 15 * length (asked (session .reader) (now piece)) ≤ length (now out) ⌝ }
     ensures { λ r. ⌜ (r ≡ record {
-      session = fed session (now (piece .entry));
-      lines = length (asked (session .reader) (now (piece .entry)));
-    })
+          session = fed session (now (piece .entry));
+          lines = length (asked (session .reader) (now (piece .entry)));
+        })
+        × (now (requests .exit)
+        ≡ written (asked (session .reader) (now (piece .entry))) (now (requests .entry)))
         × (now (out .exit) ≡ told session (now (piece .entry))
         ++ drop (15 * length (asked (session .reader) (now (piece .entry)))) (now (out .entry))) ⌝ }
 {
-    let mut requests = [0u8; 12288];
     let reader = session.reader;
-    let read = read_piece(reader, piece, &mut requests);
+    let read = read_piece(reader, piece, requests);
     let lines = read.count;
     let house = session.hub;
-    let hub = answer_requests(house, &requests, lines, out);
+    let hub = answer_requests(house, requests, lines, out);
     let past = read.reader;
     Fed {
         session: Session { hub, reader: past },

@@ -43,7 +43,9 @@ fn piece_end(from: usize, len: usize) -> usize
     from + 4096
 }
 
-fn write_output(input: &[u8], out: &mut [u8])
+// What the lines of a piece ask goes to `requests`, which nobody reads afterwards.
+fn write_output(input: &[u8], requests: &mut [u8], out: &mut [u8])
+    requires { ⌜ 12288 ≤ length (now requests) ⌝ }
     requires { ⌜ length (outputOf (now input)) ≤ length (now out) ⌝ }
     ensures { λ r. ⌜ now (out .exit)
         ≡ outputOf (now (input .entry)) ++ drop (length (outputOf (now (input .entry)))) (now (out .entry)) ⌝ }
@@ -55,7 +57,12 @@ fn write_output(input: &[u8], out: &mut [u8])
     while from < input.len() {
         let to = piece_end(from, input.len());
         let at = 15 * lines;
-        let fed = feed(session, &input[from..to], &mut out[at..end]);
+        let fed = feed(
+            session,
+            &input[from..to],
+            requests,
+            &mut out[at..end],
+        );
         let next = fed.session;
         session = next;
         lines += fed.lines;
@@ -75,7 +82,8 @@ pub fn answer_input(input: &[u8], out: &mut [u8]) -> usize
     if out.len() / 15 <= lines {
         return 0;
     }
-    write_output(input, out);
+    let mut requests = [0u8; 12288];
+    write_output(input, &mut requests, out);
     15 * (lines + 1)
 }
 

@@ -6,6 +6,8 @@ use frame::session::feed;
 use frame::session::finish;
 use libc::STDIN_FILENO;
 use libc::STDOUT_FILENO;
+ghost use Prim.Native.Nat.{_*_, _≤_};
+ghost use lib.ListN.{length};
 ghost use Rattle.frame.specs.Session.{Sound};
 
 // The session past a piece. Without more there is nothing to read; a run is whole as long as
@@ -26,13 +28,13 @@ fn print(out: &[u8], lines: usize) -> bool {
 }
 
 // Reads once, answers the lines that end in what came, and writes the answers.
-fn take_piece(session: Session) -> Taken
+fn take_piece(session: Session, piece: &mut [u8], requests: &mut [u8], out: &mut [u8]) -> Taken
     requires { ⌜ Sound session ⌝ }
+    requires { ⌜ 3 * length (now piece) ≤ length (now requests) ⌝ }
+    requires { ⌜ 15 * length (now piece) ≤ length (now out) ⌝ }
     ensures { λ r. ⌜ Sound (r .session) ⌝ }
 {
-    let mut piece = [0u8; 4096];
-    let mut out = [0u8; 61440];
-    let got = libc::read(STDIN_FILENO, &mut piece);
+    let got = libc::read(STDIN_FILENO, piece);
     if got < 0 {
         return Taken {
             session,
@@ -47,10 +49,10 @@ fn take_piece(session: Session) -> Taken
             whole: true,
         };
     }
-    let n = io::count(got, &piece);
-    let fed = feed(session, &piece[0..n], &mut out);
+    let n = io::count(got, piece);
+    let fed = feed(session, &piece[0..n], requests, out);
     let past = fed.session;
-    let written = print(&out, fed.lines);
+    let written = print(out, fed.lines);
     Taken {
         session: past,
         more: written,
@@ -69,13 +71,15 @@ fn close(session: Session)
 
 // Piece after piece. A proved loop has to end, so they are counted down from a number that no
 // input uses up.
-fn take_all() -> Taken
+fn take_all(piece: &mut [u8], requests: &mut [u8], out: &mut [u8]) -> Taken
+    requires { ⌜ 3 * length (now piece) ≤ length (now requests) ⌝ }
+    requires { ⌜ 15 * length (now piece) ≤ length (now out) ⌝ }
     ensures { λ r. ⌜ Sound (r .session) ⌝ }
 {
     let mut session = begin();
     let mut turns = u64::MAX;
     while 0 < turns {
-        let taken = take_piece(session);
+        let taken = take_piece(session, piece, requests, out);
         if !taken.more {
             return taken;
         }
@@ -92,7 +96,10 @@ fn take_all() -> Taken
 
 // Where reading or writing fails the closing line is left out: what was printed is not whole.
 fn main() {
-    let taken = take_all();
+    let mut piece = [0u8; 4096];
+    let mut requests = [0u8; 12288];
+    let mut out = [0u8; 61440];
+    let taken = take_all(&mut piece, &mut requests, &mut out);
     if taken.whole {
         let session = taken.session;
         close(session);

@@ -20,7 +20,7 @@ use Rattle.frame.specs.Whole.{hasRoom, size, filled}
 use Rattle.hub.proofs.Laws.Bools.{if-true, if-false}
 use Rattle.frame.proofs.Laws.Feeding.{begun-sound, fed-sound}
 use Rattle.frame.proofs.Laws.Sessions.{wholly, in-one, wholly-append, one-piece}
-use Rattle.frame.proofs.Laws.Sizes.{replies-size, output-size}
+use Rattle.frame.proofs.Laws.Sizes.{replies-size, output-size, asked-few}
 
 told-size : (s : Session) (piece : List ℕ) → length (told s piece) ≡ 15 * length (asked (s .reader) piece)
 unfolding told
@@ -96,12 +96,17 @@ module _ (input out₀ : List ℕ) (s : Session) (out : List ℕ) (n from : ℕ)
     abbrev k : ℕ
     k = length (asked (s .reader) piece)
 
-    pub piece-short : to - from ≤ 4096 → length piece ≤ 4096
-    piece-short m =
-        omega (
-          arith,
-          length-take-le (to - from) (drop from input) (simp length-drop (omega arith)),
-        )
+    -- A piece is short, so that what it asks has room.
+    module _ (m : ℕ) (short : to - from ≤ 4096) (l : 12288 ≤ m) where
+      pub piece-fits : 3 * length piece ≤ m
+      piece-fits =
+          omega (
+            arith,
+            length-take-le (to - from) (drop from input) (simp length-drop (omega arith)),
+          )
+
+      pub asked-fits : 3 * k ≤ m
+      asked-fits = omega (arith, piece-fits, asked-few piece (s .reader))
 
     cut : wholly s (drop from input) ≡ told s piece ++ wholly (fed s piece) (drop to input)
     cut =

@@ -1,25 +1,37 @@
 -- `take_all` hands on a session that is sound from its beginning, and counts its turns down.
 use borrow.Author.Needs.{needs}
-use mathlib.Core.Path.{sym, subst}
+use mathlib.Core.Path.{_≡_, refl, sym, subst}
+use lib.ListN.{length}
 use Rattle.frame.specs.Session.{Sound}
 use Rattle.frame.proofs.Laws.Feeding.{begun-sound}
 use Rattle.schedule.proofs.take_all.Statement.{statement}
 use Rattle.schedule.proofs.take_all.Tie as tie
 
 abbrev Inv-loop : tie.InvT-loop
-Inv-loop session₀ turns₀ session turns = Sound session
+Inv-loop piece₀ requests₀ out₀ session₀ turns₀ piece requests out session turns =
+    Sound session × (length piece ≡ length piece₀) × (length requests ≡ length requests₀)
+    × (length out ≡ length out₀)
 
 abbrev μ-loop : tie.MeasureT-loop
-μ-loop session₀ turns₀ session turns = turns
+μ-loop piece₀ requests₀ out₀ session₀ turns₀ piece requests out session turns = turns
 
 begin-requires : tie.Need-begin-requires Inv-loop μ-loop
 begin-requires c κs = search needs
 
 loop-holds : tie.Need-loop-holds Inv-loop μ-loop
-loop-holds c = subst Sound (sym (c .begin .ensures)) begun-sound
+loop-holds c = (subst Sound (sym (c .begin .ensures)) begun-sound, refl, refl, refl)
 
 take-piece-requires : tie.Need-take-piece-requires Inv-loop μ-loop
 take-piece-requires c κs = search needs
+
+same-length : tie.Need-same-length Inv-loop μ-loop
+same-length c = search needs
+
+same-length-2 : tie.Need-same-length-2 Inv-loop μ-loop
+same-length-2 c = search needs
+
+same-length-3 : tie.Need-same-length-3 Inv-loop μ-loop
+same-length-3 c = search needs
 
 returns : tie.Need-returns Inv-loop μ-loop
 returns c = search needs
@@ -33,6 +45,15 @@ loop-less c = search needs
 loop-again : tie.Need-loop-again Inv-loop μ-loop
 loop-again c = search needs
 
+same-length-4 : tie.Need-same-length-4 Inv-loop μ-loop
+same-length-4 c = search needs
+
+same-length-5 : tie.Need-same-length-5 Inv-loop μ-loop
+same-length-5 c = search needs
+
+same-length-6 : tie.Need-same-length-6 Inv-loop μ-loop
+same-length-6 c = search needs
+
 returns-2 : tie.Need-returns-2 Inv-loop μ-loop
 returns-2 c = search needs
 
@@ -45,8 +66,14 @@ take-all-spec =
     begin-requires
     loop-holds
     take-piece-requires
+    same-length
+    same-length-2
+    same-length-3
     returns
     sub-turns
     loop-less
     loop-again
+    same-length-4
+    same-length-5
+    same-length-6
     returns-2)

@@ -11,20 +11,20 @@ use Rattle.frame.proofs.Laws.Sizes.{asked-few, take-few}
 use Rattle.schedule.proofs.take_piece.Statement.{statement}
 use Rattle.schedule.proofs.take_piece.Tie as tie
 
-slice-aggregate-read : tie.Need-slice-aggregate-read
-slice-aggregate-read c = search needs
-
 read-requires : tie.Need-read-requires
 read-requires c κs = search needs
+
+same-length : tie.Need-same-length
+same-length c = search needs
 
 returns : tie.Need-returns
 returns c = search needs
 
+same-length-2 : tie.Need-same-length-2
+same-length-2 c = search needs
+
 returns-2 : tie.Need-returns-2
 returns-2 c = search needs
-
-slice-aggregate-count : tie.Need-slice-aggregate-count
-slice-aggregate-count c = search needs
 
 count-requires : tie.Need-count-requires
 count-requires c κs = search needs
@@ -38,45 +38,50 @@ part-feed-start c = search needs
 part-feed-end : tie.Need-part-feed-end
 part-feed-end c = search needs
 
-slice-aggregate-feed : tie.Need-slice-aggregate-feed
-slice-aggregate-feed c = search needs
-
 feed-requires : tie.Need-feed-requires
 feed-requires c κs =
-    let s = c .before .before .before .before .before .before .before .before .before .before in
-    let read = c .before .before .before .before .before .before .before .before .read .last .1 .0 in
-    let n = c .before .before .before .count .result - 0 in
-    let size : length read ≡ 4096 = search needs in
-    let short : length (take n read) ≤ 4096 = omega (arith, size, take-few n read) in
-    (s .pre, (short, omega (arith, short, asked-few (take n read) (s .args .session .reader))))
-
-slice-aggregate-print : tie.Need-slice-aggregate-print
-slice-aggregate-print c = search needs
+    let r = c .before .before .before .before .before .before .before .before .before .before in
+    let s = r .before .before .before .before .before in
+    let read = r .read .last .1 .0 in
+    let n = c .before .before .before .before .count .result - 0 in
+    let size : length read ≡ length (s .args .piece .now) = search needs in
+    let short : length (take n read) ≤ length (s .args .piece .now) = omega (arith, size, take-few n read) in
+    (s .pre .0, (omega (arith, short, s .pre), omega (arith, short, asked-few (take n read) (s .args .session .reader), s .pre)))
 
 print-requires : tie.Need-print-requires
 print-requires c κs = search needs
 
+same-length-3 : tie.Need-same-length-3
+same-length-3 c = search needs
+
+same-length-4 : tie.Need-same-length-4
+same-length-4 c = search needs
+
+same-length-5 : tie.Need-same-length-5
+same-length-5 c = search needs
+
 returns-3 : tie.Need-returns-3
 returns-3 c =
-    let f = c .before .before .before .before in
-    let s = f .before .before .before .before .before .before .before .before .before .before .before in
-    subst (λ (r : Fed). Sound (r .session)) (sym (f .feed .ensures .0)) (fed-sound (s .args .session) _ (s .pre))
+    let f = c .before .before .before .before .before .before .before in
+    let s = f .before .before .before .before .before .before .before .before .before .before .before .before .before .before .before .before in
+    subst (λ (r : Fed). Sound (r .session)) (sym (f .feed .ensures .0)) (fed-sound (s .args .session) _ (s .pre .0))
 
 pub take-piece-spec : {M : Type 1} → statement M
 take-piece-spec =
     tie.close
     (tie.spec
-    slice-aggregate-read
     read-requires
+    same-length
     returns
+    same-length-2
     returns-2
-    slice-aggregate-count
     count-requires
     sub-feed
     part-feed-start
     part-feed-end
-    slice-aggregate-feed
     feed-requires
-    slice-aggregate-print
     print-requires
+    same-length-3
+    same-length-4
+    same-length-5
     returns-3)

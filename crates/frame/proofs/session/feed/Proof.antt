@@ -9,19 +9,13 @@ use Rattle.frame.proofs.Laws.Sizes.{asked-few}
 use Rattle.frame.proofs.session.feed.Statement.{statement}
 use Rattle.frame.proofs.session.feed.Tie as tie
 
-slice-aggregate-read-piece : tie.Need-slice-aggregate-read-piece
-slice-aggregate-read-piece c = search needs
-
 read-piece-requires : tie.Need-read-piece-requires
 read-piece-requires c κs = search needs
 
-slice-aggregate-answer-requests : tie.Need-slice-aggregate-answer-requests
-slice-aggregate-answer-requests c = search needs
-
 answer-requests-requires : tie.Need-answer-requests-requires
 answer-requests-requires c κs =
-    let r = c .before .before .before .before in
-    let s = r .before .before .before .before .before in
+    let r = c .before .before .before .before .before in
+    let s = r .before .before .before .before .before .before in
     let a = s .args in
     let few = asked-few (a .piece .now) (a .session .reader) in
     let count = ap (λ (x : Read). x .count) (r .read-piece .ensures .0) in
@@ -31,23 +25,20 @@ answer-requests-requires c κs =
 same-length : tie.Need-same-length
 same-length c = search needs
 
+same-length-2 : tie.Need-same-length-2
+same-length-2 c = search needs
+
 returns : tie.Need-returns
 returns c =
     let w = c .before .before .before in
-    let r = w .before .before .before .before .before in
-    let s = r .before .before .before .before .before .args .session in
-    let e = r .read-piece .ensures in (
-      feed-gives s _ _ _ _ (e .0) (e .1) _ (w .answer-requests .ensures .0),
-      w .answer-requests .ensures .1 ∙ feed-prints s _ _ _ _ (e .0) (e .1) _,
-    )
+    let r = w .before .before .before .before .before .before in
+    let s = r .before .before .before .before .before .before .args .session in
+    let e = r .read-piece .ensures in
+    (feed-gives s _ _ _ _ (e .0) (e .1) _ (w .answer-requests .ensures .0),
+    e .1,
+    w .answer-requests .ensures .1 ∙ feed-prints s _ _ _ _ (e .0) (e .1) _)
 
 pub feed-spec : {M : Type 1} → statement M
 feed-spec =
     tie.close
-    (tie.spec
-    slice-aggregate-read-piece
-    read-piece-requires
-    slice-aggregate-answer-requests
-    answer-requests-requires
-    same-length
-    returns)
+    (tie.spec read-piece-requires answer-requests-requires same-length same-length-2 returns)

@@ -1,5 +1,6 @@
 -- `answer_input` meets its contract: there is room for fifteen characters a line, or there is not.
 use borrow.Author.Needs.{needs}
+use native.Mathlib.Omega.{arith}
 use Rattle.frame.proofs.Laws.Whole.{none-written, enough, all-written}
 use Rattle.frame.proofs.whole.answer_input.Statement.{statement}
 use Rattle.frame.proofs.whole.answer_input.Tie as tie
@@ -13,12 +14,16 @@ returns c =
     let a = n .before .before .before .args in
     none-written (a .input .now) (a .out .now) (n .count-lines .result) (n .count-lines .ensures) (c .if1 .taken)
 
+slice-aggregate-write-output : tie.Need-slice-aggregate-write-output
+slice-aggregate-write-output c = search needs
+
 write-output-requires : tie.Need-write-output-requires
 write-output-requires c κs =
-    let e = c .before in
+    let e = c .before .before in
     let n = e .before in
     let a = n .before .before .before .args in
-    enough (a .input .now) (a .out .now) (n .count-lines .result) (n .count-lines .ensures) (e .if1 .left)
+    (omega arith,
+    enough (a .input .now) (a .out .now) (n .count-lines .result) (n .count-lines .ensures) (e .if1 .left))
 
 add-result : tie.Need-add-result
 add-result c = search needs
@@ -31,8 +36,8 @@ same-length c = search needs
 
 returns-2 : tie.Need-returns-2
 returns-2 c =
-    let w = c .before .before in
-    let e = w .before .before in
+    let w = c .before .before .before in
+    let e = w .before .before .before in
     let n = e .before in
     let a = n .before .before .before .args in
     all-written (a .input .now) (a .out .now) (n .count-lines .result) (n .count-lines .ensures) (e .if1 .left) _ (w .write-output .ensures)
@@ -43,6 +48,7 @@ answer-input-spec =
     (tie.spec
     count-lines-requires
     returns
+    slice-aggregate-write-output
     write-output-requires
     add-result
     mul-result

@@ -3,30 +3,32 @@ use borrow.Author.Needs.{needs}
 use Prim.Native.Nat.{_-_, _≤_}
 use native.Mathlib.Omega.{arith}
 use lib.ListN.{length}
-use mathlib.Core.Path.{sym, subst}
+use mathlib.Core.Path.{_≡_, refl, sym, ap, _∙_, subst}
 use Rattle.frame.specs.declared.session.Session.{Session}
+use Rattle.frame.proofs.Laws.Feeding.{written-size}
 use Rattle.frame.proofs.Laws.Whole.{Printing, nothing-printed, before-end, piece-room}
-use Rattle.frame.proofs.Laws.Whole.{piece-short, printed-on, few-lines, end-room}
+use Rattle.frame.proofs.Laws.Whole.{piece-fits, asked-fits, printed-on, few-lines, end-room}
 use Rattle.frame.proofs.Laws.Whole.{all-printed}
 use Rattle.frame.proofs.whole.write_output.Statement.{statement}
 use Rattle.frame.proofs.whole.write_output.Tie as tie
 
 abbrev Inv-loop : tie.InvT-loop
-Inv-loop input out₀ end session₀ lines₀ from₀ out session lines from =
-    Printing input out₀ session out lines from
+Inv-loop input requests₀ out₀ end session₀ lines₀ from₀ requests out session lines from =
+    Printing input out₀ session out lines from × (length requests ≡ length requests₀)
 
 abbrev μ-loop : tie.MeasureT-loop
-μ-loop input out₀ end session₀ lines₀ from₀ out session lines from = length input - from
+μ-loop input requests₀ out₀ end session₀ lines₀ from₀ requests out session lines from =
+    length input - from
 
 begin-requires : tie.Need-begin-requires Inv-loop μ-loop
 begin-requires c κs = search needs
 
 loop-holds : tie.Need-loop-holds Inv-loop μ-loop
 loop-holds c =
-    let a = c .before .before .before in
+    let a = c .before .before .before .before in
     let out = a .args .out .now in
-    subst (λ (s : Session). Printing (a .args .input .now) out s out 0 0) (sym (c .begin .ensures))
-    (nothing-printed _ _ (a .pre))
+    (subst (λ (s : Session). Printing (a .args .input .now) out s out 0 0) (sym (c .begin .ensures))
+    (nothing-printed _ _ (a .pre .1)), refl)
 
 piece-end-requires : tie.Need-piece-end-requires Inv-loop μ-loop
 piece-end-requires c κs = search needs
@@ -54,39 +56,47 @@ part-feed-end-2 c = search needs
 
 feed-requires : tie.Need-feed-requires Inv-loop μ-loop
 feed-requires c κs =
-    let p = c .before .before in
+    let p = c .before .before .before in
     let l = p .before .before in
     let e = p .piece-end .ensures in
-    let after : l .loop .from ≤ p .piece-end .result = omega (arith, e .0) in (
-      l .loop .inv .sound,
-      (
-        piece-short _ _ _ _ _ _ (l .loop .inv) (p .piece-end .result) after (e .1 .0) (e .1 .1),
-        piece-room _ _ _ _ _ _ (l .loop .inv) (p .piece-end .result) after (e .1 .0),
-      ),
-    )
+    let i = l .loop .inv in
+    let after : l .loop .from ≤ p .piece-end .result = omega (arith, e .0) in
+    let spare : 12288 ≤ length (l .loop .requests) =
+        omega (arith, i .1, l .before .before .before .before .before .pre .0) in
+    (i .0 .sound,
+    (piece-fits _ _ _ _ _ _ (i .0) (p .piece-end .result) after (e .1 .0) _ (e .1 .1) spare,
+    piece-room _ _ _ _ _ _ (i .0) (p .piece-end .result) after (e .1 .0)))
 
 add-lines : tie.Need-add-lines Inv-loop μ-loop
 add-lines c =
-    let f = c .before .before .before .before in
-    let p = f .before .before .before in
+    let f = c .before .before .before .before .before .before in
+    let p = f .before .before .before .before in
     let l = p .before .before in
     let e = p .piece-end .ensures in
     let few =
-    few-lines _ _ _ _ _ _ (l .loop .inv) (p .piece-end .result) (omega (arith, e .0)) (e .1 .0) _
-    (f .feed .ensures .1) (f .feed .result) (f .feed .ensures .0) in
-    omega (arith, few, l .before .before .before .before .good)
+    few-lines _ _ _ _ _ _ (l .loop .inv .0) (p .piece-end .result) (omega (arith, e .0)) (e .1 .0) _
+    (f .feed .ensures .2) (f .feed .result) (f .feed .ensures .0) in
+    omega (arith, few, l .before .before .before .before .before .good)
 
 loop-less : tie.Need-loop-less Inv-loop μ-loop
 loop-less c = search needs
 
 loop-again : tie.Need-loop-again Inv-loop μ-loop
 loop-again c =
-    let f = c .before .before .before .before in
-    let p = f .before .before .before in
+    let f = c .before .before .before .before .before .before in
+    let p = f .before .before .before .before in
     let l = p .before .before in
     let e = p .piece-end .ensures in
-    printed-on _ _ _ _ _ _ (l .loop .inv) (p .piece-end .result) (omega (arith, e .0)) (e .1 .0) _
-    (f .feed .ensures .1) (f .feed .result) (f .feed .ensures .0)
+    let i = l .loop .inv in
+    let after : l .loop .from ≤ p .piece-end .result = omega (arith, e .0) in
+    let spare : 12288 ≤ length (l .loop .requests) =
+        omega (arith, i .1, l .before .before .before .before .before .pre .0) in
+    (printed-on _ _ _ _ _ _ (i .0) (p .piece-end .result) after (e .1 .0) _ (f .feed .ensures .2)
+    (f .feed .result) (f .feed .ensures .0),
+    ap length (f .feed .ensures .1)
+    ∙ written-size _ _
+    (asked-fits _ _ _ _ _ _ (i .0) (p .piece-end .result) after (e .1 .0) _ (e .1 .1) spare)
+    ∙ i .1)
 
 mul-at-2 : tie.Need-mul-at-2 Inv-loop μ-loop
 mul-at-2 c = search needs
@@ -103,15 +113,18 @@ part-finish-end c = search needs
 finish-requires : tie.Need-finish-requires Inv-loop μ-loop
 finish-requires c κs =
     let l = c .before .before in
-    (l .loop .inv .sound, end-room _ _ _ _ _ _ (l .loop .inv) (c .before .loop-test .left))
+    (l .loop .inv .0 .sound, end-room _ _ _ _ _ _ (l .loop .inv .0) (c .before .loop-test .left))
 
 same-length : tie.Need-same-length Inv-loop μ-loop
 same-length c = search needs
 
+same-length-2 : tie.Need-same-length-2 Inv-loop μ-loop
+same-length-2 c = search needs
+
 returns : tie.Need-returns Inv-loop μ-loop
 returns c =
     let l = c .before .before .before .before .before in
-    all-printed _ _ _ _ _ _ (l .loop .inv) (c .before .before .before .before .loop-test .left) _ (c .before .before .finish .ensures .1)
+    all-printed _ _ _ _ _ _ (l .loop .inv .0) (c .before .before .before .before .loop-test .left) _ (c .before .before .finish .ensures .1)
 
 pub write-output-spec : {M : Type 1} → statement M
 write-output-spec =
@@ -139,4 +152,5 @@ write-output-spec =
     part-finish-end
     finish-requires
     same-length
+    same-length-2
     returns)
