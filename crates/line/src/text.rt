@@ -30,26 +30,27 @@ pub fn put_line(out: &mut [u8], party: u8, p: Print)
     requires { ⌜ length (now out) ≡ 15 ⌝ }
     ensures { λ r. ⌜ now (out .exit) ≡ textOf (frameOf party (paper p)) ⌝ }
 {
+    let digits = DIGITS; // one copy of the table, not one for each character
     let code = p.code;
-    out[0] = DIGITS[(code / 16 % 16) as usize];
-    out[1] = DIGITS[(code % 16) as usize];
-    out[2] = DIGITS[(party / 16 % 16) as usize];
-    out[3] = DIGITS[(party % 16) as usize];
+    out[0] = digits[(code / 16 % 16) as usize];
+    out[1] = digits[(code % 16) as usize];
+    out[2] = digits[(party / 16 % 16) as usize];
+    out[3] = digits[(party % 16) as usize];
     let woken = (p.woken % 256) as u8;
-    out[4] = DIGITS[(woken / 16 % 16) as usize];
-    out[5] = DIGITS[(woken % 16) as usize];
+    out[4] = digits[(woken / 16 % 16) as usize];
+    out[5] = digits[(woken % 16) as usize];
     let number = p.number;
     let first = (number / 16777216 % 256) as u8;
-    out[6] = DIGITS[(first / 16 % 16) as usize];
-    out[7] = DIGITS[(first % 16) as usize];
+    out[6] = digits[(first / 16 % 16) as usize];
+    out[7] = digits[(first % 16) as usize];
     let second = (number / 65536 % 256) as u8;
-    out[8] = DIGITS[(second / 16 % 16) as usize];
-    out[9] = DIGITS[(second % 16) as usize];
+    out[8] = digits[(second / 16 % 16) as usize];
+    out[9] = digits[(second % 16) as usize];
     let third = (number / 256 % 256) as u8;
-    out[10] = DIGITS[(third / 16 % 16) as usize];
-    out[11] = DIGITS[(third % 16) as usize];
+    out[10] = digits[(third / 16 % 16) as usize];
+    out[11] = digits[(third % 16) as usize];
     let fourth = (number % 256) as u8;
-    out[12] = DIGITS[(fourth / 16 % 16) as usize];
-    out[13] = DIGITS[(fourth % 16) as usize];
+    out[12] = digits[(fourth / 16 % 16) as usize];
+    out[13] = digits[(fourth % 16) as usize];
     out[14] = 0x0A;
 }
