@@ -68,7 +68,7 @@ fn wake(mut slots: [PartySlot; 32], q: u32) -> [PartySlot; 32]
     slots
 }
 
-pub fn apply(hub: Hub, s: Sight, m: Move) -> Outcome
+pub(crate) fn apply(hub: Hub, s: Sight, m: Move) -> Outcome
     requires { ⌜ (s .party < 32) × (hub .oldest ≤ 1000000) ⌝ }
     ensures { λ r. ⌜ r ≡ record { answer = answerOf m; hub = Rattle.hub.specs.Calls.apply hub s m } ⌝ }
 {

@@ -74,7 +74,7 @@ fn retire_done(mut hub: Hub) -> Hub
     hub
 }
 
-pub fn reclaim(hub: Hub) -> Hub
+pub(crate) fn reclaim(hub: Hub) -> Hub
     requires { ⌜ hub .oldest ≤ 1000000 ⌝ }
     ensures { λ r. ⌜ r ≡ reclaimed hub ⌝ }
 {

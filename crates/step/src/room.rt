@@ -6,7 +6,7 @@ ghost use mathlib.Core.Path.{_≡_};
 ghost use Prim.Native.Nat.{_≤_};
 ghost use Rattle.hub.specs.Calls.{isFull};
 
-pub fn is_full(hub: Hub) -> bool
+pub(crate) fn is_full(hub: Hub) -> bool
     requires { ⌜ (hub .oldest ≤ 1000000) × (hub .issued ≤ 1000000) ⌝ }
     ensures { λ r. ⌜ r ≡ isFull hub ⌝ }
 {

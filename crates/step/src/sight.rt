@@ -49,7 +49,7 @@ fn waiter_of(place: Place, slots: [PartySlot; 32]) -> Phase
     }
 }
 
-pub fn look(hub: Hub, party: u8) -> Sight
+pub(crate) fn look(hub: Hub, party: u8) -> Sight
     ensures { λ r. ⌜ r ≡ Fits.look hub party ⌝ }
 {
     let slots = hub.slots;
