@@ -5,8 +5,8 @@ use Rattle.hub.proofs.Laws.Tags.{phase-arm}
 use mathlib.Core.Bool.{true, false}
 use Rattle.hub.specs.Phases.{byTicket}
 use borrow.Author.Needs.{needs}
-use Rattle.step.proofs.apply.has_ticket.Statement.{statement}
-use Rattle.step.proofs.apply.has_ticket.Tie as tie
+use Rattle.step.proofs.moves.has_ticket.Statement.{statement}
+use Rattle.step.proofs.moves.has_ticket.Tie as tie
 
 enum-told : tie.Need-enum-told
 enum-told c = search needs
