@@ -145,8 +145,7 @@ use Rattle.hub.proofs.record.Hub as T
 use Rattle.hub.proofs.record.Hub.Laws as T′
 use Rattle.hub.proofs.record.Outcome as R
 use Rattle.hub.proofs.record.Outcome.Laws as R′
-use Rattle.hub.specs.Calls.{called}
-use Rattle.board.proofs.Shell.{answerVal, hubVal, outcomeVal, parts, Shell}
+use Rattle.board.proofs.Shell.{answerVal, by-op, hubVal, outcomeVal, parts, Shell}
 use Rattle.board.proofs.Lent.{to-shell, loan, lends, comes-back}
 use Rattle.board.proofs.acquire.Symbol as acquire
 use Rattle.board.proofs.acquire.Met as acquire-thm
@@ -433,9 +432,6 @@ module _ {M : Type 1} (𝓤 : URA M) (H : Heap 𝓤) (A : Atoms 𝓤) (W : Given
   meets 𝓣 known =
       walk-meets 𝓤 H A on.ended stayed W goes (clauses 𝓤 D) (WpFn 𝓤 H (𝓣 .C) (𝓣 .Λ) function)
       (WpFn-mono 𝓤 H (W .laws) 𝓣 function) (walks (𝓣 .C) (𝓣 .Λ) (fmOf 𝓤 H (W .laws) 𝓣) known)
-
-abbrev by-op : Hub → Op → ℕ → Outcome
-by-op h o p = called h (record { op = o; party = p })
 
 module _ {M : Type 1} (𝓤 : URA M) (H : Heap 𝓤) (𝓜 : Model 𝓤 H) (𝓖 : GhostRules 𝓤 H)
     (𝓡 : Running 𝓤 H 𝓜) where

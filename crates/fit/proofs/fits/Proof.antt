@@ -1,5 +1,5 @@
 -- `fits` meets its contract: its tests are the clauses of the definition.
-use Prim.Native.Nat.{ℕ, _+_, _-_, _*_, _≤_, _<_, _%_}
+use Prim.Native.Nat.{ℕ, _+_, _-_, _*_, _≤_}
 use borrow.Author.Needs.{needs}
 use mathlib.Core.Path.{_≡_, refl, sym, ap, subst, _∙_}
 use mathlib.Core.Bool.{and-false}
@@ -15,13 +15,17 @@ use Rattle.hub.specs.Fits.{countsFit, fits, partyFits, placeFits, standsAt}
 use Rattle.hub.specs.Record.{readPhase, readPlace}
 use Rattle.fit.specs.Parts.{ticketAt}
 use Rattle.fit.proofs.Laws.Bools.{failed, passed}
-use Rattle.fit.proofs.Laws.Parts.{oldest-small, party-test, free-fits, waited-at, not-waited-at, past-slots, mapped-size}
-use Rattle.fit.proofs.Laws.Ranges.{all-pass, one-fails, one-passes, by-index, index-of}
+use Rattle.fit.proofs.Laws.Parts.{oldest-small, party-test, free-fits, waited-at, not-waited-at}
+use Rattle.fit.proofs.Laws.Parts.{past-slots, mapped-size}
+use Rattle.fit.proofs.Laws.Ranges.{all-pass, one-fails, one-passes, by-index}
 use Rattle.fit.proofs.fits.Statement.{statement}
 use Rattle.fit.proofs.fits.Tie as tie
 
+-- From index i on, what is left to test says the same as all 256 places.
 abbrev Left : Hub → ℕ → Type 0
-Left h i = allFrom (λ n. placeFits h (ticketAt (h .oldest) n)) i (256 - i) ≡ allFrom (placeFits h) (h .oldest) 256
+Left h i =
+    allFrom (λ n. placeFits h (ticketAt (h .oldest) n)) i (256 - i)
+    ≡ allFrom (placeFits h) (h .oldest) 256
 
 moved : (h : Hub) {i j : ℕ} → Left h i → i ≡ j → Left h j
 moved h l e = subst (Left h) e l
@@ -52,7 +56,8 @@ counted c =
     let f : SFits w32 (c .before .before .args .t1 .counter) = search needs in
     rw (toZ-ofZ f) at (c .counts-fit .ensures)
 
-oldest : (c : tie.Else1 Inv-loop μ-loop Inv-loop3 μ-loop3 Inv-loop2 μ-loop2) → c .before .before .before .args .t1 .oldest ≤ 1000000
+oldest : (c : tie.Else1 Inv-loop μ-loop Inv-loop3 μ-loop3 Inv-loop2 μ-loop2)
+    → c .before .before .before .args .t1 .oldest ≤ 1000000
 oldest c = oldest-small _ (passed (counted (c .before)) (c .if1 .left))
 
 -- The record, in the first loop and in the other two.
@@ -73,8 +78,10 @@ told c =
     ∙ party-test (hub (c .before .before .before .before .before .before .before)) _ _
     (c .before .before .ticket .ensures)
 
--- The place's test is the definition's.
-abbrev turn : tie.After-stands-at Inv-loop μ-loop Inv-loop3 μ-loop3 Inv-loop2 μ-loop2 → tie.At-loop3 Inv-loop μ-loop Inv-loop3 μ-loop3 Inv-loop2 μ-loop2
+-- The turn of the inner loop; the place's test is the definition's.
+abbrev turn :
+    tie.After-stands-at Inv-loop μ-loop Inv-loop3 μ-loop3 Inv-loop2 μ-loop2
+    → tie.At-loop3 Inv-loop μ-loop Inv-loop3 μ-loop3 Inv-loop2 μ-loop2
 turn c = c .before .before .before .before .before .before .before .before .before
 
 stood : (c : tie.After-stands-at Inv-loop μ-loop Inv-loop3 μ-loop3 Inv-loop2 μ-loop2)
@@ -215,7 +222,9 @@ element-copy-out-slot-2 c = search needs
 
 ticket-at-requires :
     tie.Need-ticket-at-requires Inv-loop μ-loop Inv-loop3 μ-loop3 Inv-loop2 μ-loop2
-ticket-at-requires c κs = (oldest (c .before .before .before .before .before .before .before .before .before .before .before .before), omega arith)
+ticket-at-requires c κs =
+    let k = c .before .before .before .before .before .before .before in
+    (oldest (k .before .before .before .before .before), omega arith)
 
 stands-at-requires :
     tie.Need-stands-at-requires Inv-loop μ-loop Inv-loop3 μ-loop3 Inv-loop2 μ-loop2

@@ -1,9 +1,9 @@
 -- What a call does once it is known whether it is admitted.
-use Prim.Native.Nat.{ℕ, _+_, _≤_, _<_}
-use mathlib.Core.Path.{_≡_, refl, sym, ap, ap₂, _∙_}
+use Prim.Native.Nat.{ℕ, _+_, _≤_}
+use mathlib.Core.Path.{_≡_, sym, ap, ap₂, _∙_}
 use mathlib.Core.Bool.{Bool, true, false, _&&_}
 use native.Mathlib.Omega.{arith}
-use borrow.Author.Tests.{leb-true, ltb-true}
+use borrow.Author.Tests.{leb-true}
 use lib.Dec.{leb, ltb}
 use Rattle.hub.specs.declared.answers.Answer.{Answer}
 use Rattle.hub.specs.declared.answers.Refusal.{Refusal}
@@ -12,9 +12,8 @@ use Rattle.hub.specs.declared.moves.Move.{Move}
 use Rattle.hub.specs.declared.moves.Op.{Op}
 use Rattle.hub.specs.declared.moves.Sight.{Sight}
 use Rattle.hub.specs.declared.record.Hub.{Hub}
-use Rattle.hub.specs.declared.record.Outcome.{Outcome}
 use Rattle.hub.specs.Basics.{allFrom, upTo32}
-use Rattle.hub.specs.Calls.{called, checked, isFull, answerOf, apply}
+use Rattle.hub.specs.Calls.{called, checked, isFull, apply}
 use Rattle.hub.specs.Fits.{fits, look, countsFit, counterFits, partyFits, placeFits}
 use Rattle.hub.specs.Record.{PLACES, PARTIES, MAX-BEGUN}
 use Rattle.hub.specs.Table.{decide}

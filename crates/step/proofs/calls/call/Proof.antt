@@ -6,7 +6,7 @@ use mathlib.Core.Bool.{true, false}
 use mathlib.Core.List.{List}
 use mathlib.Core.Logic.{⊎-elim}
 use native.Mathlib.Omega.{arith}
-use Prim.Native.Nat.{ℕ, _<_, _%_}
+use Prim.Native.Nat.{ℕ, _<_}
 use lib.Dec.{ltb}
 use lib.ListN.{length}
 use mir.Facts.{toZ-ofZ}
@@ -15,6 +15,7 @@ use mir.Val.{SFits, ofZ, toZ}
 use Rattle.hub.specs.declared.moves.Change.{Change}
 use Rattle.hub.specs.declared.moves.Sight.{Sight}
 use Rattle.hub.specs.declared.record.Hub.{Hub}
+use Rattle.hub.specs.declared.record.Outcome.{Outcome}
 use Rattle.hub.specs.declared.record.PartySlot.{PartySlot}
 use Rattle.hub.specs.declared.record.PlaceSlot.{PlaceSlot}
 use Rattle.hub.specs.Calls.{called, changed, isFull}
@@ -32,15 +33,41 @@ use Rattle.step.proofs.Laws.Sights.{looked}
 use Rattle.step.proofs.calls.call.Statement.{statement}
 use Rattle.step.proofs.calls.call.Tie as tie
 
--- The record and the party of the call.
+-- The record and the party of the call, what the party sees, and what the call is to answer.
 abbrev hub : tie.Start → Hub
 hub c = c .args .t1
 
 abbrev party : tie.Start → ℕ
 party c = c .args .party
 
+abbrev view : tie.Start → Sight
+view c = look (hub c) (party c)
+
+abbrev answer : tie.Start → Outcome
+answer c = called (hub c) (asks (c .args .op) (party c))
+
 size : (c : tie.Start) → length (hub c .slots) ≡ 32
 size c = search mapped-size
+
+-- The way back along the code: to the test of the party, to the start, to what was seen, to what
+-- was decided, to the party that is woken.
+abbrev tested : tie.After-kind → tie.Else2
+tested c = c .before .before .before .before .before .before .before .before
+
+abbrev start : tie.After-kind → tie.Start
+start c = tested c .before .before .before
+
+abbrev seeing : tie.After-decide → tie.After-kind
+seeing c = c .before .before .before
+
+abbrev deciding : tie.After-woken → tie.After-decide
+deciding c = c .before .before .before
+
+abbrev begin : tie.After-woken → tie.Start
+begin c = start (seeing (deciding c))
+
+abbrev waking : tie.Joined4 → tie.After-woken
+waking c = c .before .before .before
 
 -- What is known once the record fits, and once the party is one of its own.
 fitting : (c : tie.Else1) → fits (hub (c .before .before)) ≡ true
@@ -52,10 +79,7 @@ counts c = counted _ (fitting c)
 within-slots : (c : tie.Else2) → party (c .before .before .before) < 32
 within-slots c = omega (arith, c .if2 .left, counts (c .before) .parties)
 
--- What the party sees.
-abbrev start : tie.After-kind → tie.Start
-start c = c .before .before .before .before .before .before .before .before .before .before .before
-
+-- What the code has read is what the party sees.
 abbrev seen : tie.After-kind → Sight
 seen c =
     record {
@@ -70,7 +94,7 @@ seen c =
       begun = hub (start c) .begun;
     }
 
-sight : (c : tie.After-kind) → seen c ≡ look (hub (start c)) (party (start c))
+sight : (c : tie.After-kind) → seen c ≡ view (start c)
 unfolding readPhase readPlace
 sight c =
     let f : SFits w32 (hub (start c) .counter) = search needs in
@@ -79,31 +103,18 @@ sight c =
     (c .before .before .before .before .place-for .ensures)
     (c .before .before .before .waiter-at .ensures) (c .before .phase-within .ensures) (toZ-ofZ f)
 
-decided : (c : tie.After-decide)
-    → c .decide .result
-    ≡ decide (start (c .before .before .before) .args .op) (isFull (hub (start (c .before .before .before))))
-    (look (hub (start (c .before .before .before))) (party (start (c .before .before .before))))
-unfolding readPhase
-decided c =
-    let k = c .before .before .before in
-    c .decide .ensures
-    ∙ ap (decide (start k .args .op) (isFull (hub (start k)))) (sight k)
-
 -- The call does what the move does that was decided.
 does : (c : tie.After-decide)
-    → made (hub (start (c .before .before .before)))
-    (look (hub (start (c .before .before .before))) (party (start (c .before .before .before))))
-    (c .decide .result)
-    ≡ called (hub (start (c .before .before .before)))
-    (asks (start (c .before .before .before) .args .op) (party (start (c .before .before .before))))
+    → made (hub (start (seeing c))) (view (start (seeing c))) (c .decide .result)
+    ≡ answer (start (seeing c))
+unfolding readPhase
 does c =
-    let e = c .before .before .before .before .before .before .before .before .before .before .before in
-    admitted _ _ _ _ _ (fitting (e .before)) (lt-ltb _ _ (e .if2 .left)) refl (decided c)
+    let k = seeing c in
+    let e = tested k in
+    admitted _ _ _ _ _ (fitting (e .before)) (lt-ltb _ _ (e .if2 .left)) refl
+    (c .decide .ensures ∙ ap (decide (start k .args .op) (isFull (hub (start k)))) (sight k))
 
 -- Any woken party's slot is set.
-abbrev begin : tie.After-woken → tie.Start
-begin c = start (c .before .before .before .before .before .before)
-
 abbrev woken : tie.After-woken → List PartySlot
 woken c = slotsAfter (hub (begin c) .slots) (c .woken .result)
 
@@ -120,61 +131,57 @@ slots-set c =
 abbrev change : tie.After-woken → Change
 change c = c .before .change-of .result
 
+abbrev places : tie.After-woken → List PlaceSlot
+places c =
+    placed (hub (begin c) .places) (change c .place) (readPhase (hub (begin c) .slots) (party (begin c)))
+
 places-set : (c : tie.Joined4)
-    → c .if4 .hub
-    ≡ with (hub (begin (c .before .before .before)))
-    (placed (hub (begin (c .before .before .before)) .places) (change (c .before .before .before) .place)
-    (readPhase (hub (begin (c .before .before .before)) .slots) (party (begin (c .before .before .before)))))
-    (woken (c .before .before .before))
+    → c .if4 .hub ≡ with (hub (begin (waking c))) (places (waking c)) (woken (waking c))
 unfolding writePlace readPhase
 places-set c =
-    let w = c .before .before .before in
+    let w = waking c in
     let h = hub (begin w) in
+    let a = change w .place in
     let f = readPhase (h .slots) (party (begin w)) in
-    let k = w .before .before .before .before .before .before in
+    let u = seeing (deciding w) .before .before .before .before .before .before .ticket in
     ⊎-elim
     (λ y. y .1
-    ∙ ap (λ (x : Hub). with x (writePlace (x .places) (k .before .before .before .before .before .before .ticket .result) (change w .place)) (x .slots)) (slots-set (c .before .before))
-    ∙ ap (λ (a : List PlaceSlot). with h a (woken w))
-    (ap (λ (t : ℕ). writePlace (h .places) t (change w .place)) (k .before .before .before .before .before .before .ticket .ensures)
-    ∙ placed-yes (h .places) (change w .place) f (sym (c .before .has-ticket .ensures) ∙ y .0 .taken)))
+    ∙ ap (λ (x : Hub). with x (writePlace (x .places) (u .result) a) (x .slots))
+    (slots-set (c .before .before))
+    ∙ ap (λ (l : List PlaceSlot). with h l (woken w))
+    (ap (λ (t : ℕ). writePlace (h .places) t a) (u .ensures)
+    ∙ placed-yes (h .places) a f (sym (c .before .has-ticket .ensures) ∙ y .0 .taken)))
     (λ y. y .1 ∙ slots-set (c .before .before)
-    ∙ ap (λ (a : List PlaceSlot). with h a (woken w))
-    (placed-no (h .places) (change w .place) f (sym (c .before .has-ticket .ensures) ∙ y .0 .left)))
+    ∙ ap (λ (l : List PlaceSlot). with h l (woken w))
+    (placed-no (h .places) a f (sym (c .before .has-ticket .ensures) ∙ y .0 .left)))
     (c .if4 .came)
 
 -- The change is made.
 abbrev after : tie.Joined4 → Hub
 after c =
-    let w = c .before .before .before in
-    finished (c .if4 .hub) (look (hub (begin w)) (party (begin w))) (change w)
-    (toZ w32 (ofZ w32 (change w .counter)))
+    let w = waking c in
+    finished (c .if4 .hub) (view (begin w)) (change w) (toZ w32 (ofZ w32 (change w .counter)))
 
 stored : (c : tie.Joined4)
     → after c
-    ≡ changed (hub (begin (c .before .before .before))) (woken (c .before .before .before))
-    (look (hub (begin (c .before .before .before))) (party (begin (c .before .before .before))))
-    (change (c .before .before .before))
+    ≡ changed (hub (begin (waking c))) (woken (waking c)) (view (begin (waking c))) (change (waking c))
 unfolding look
 stored c =
-    let w = c .before .before .before in
+    let w = waking c in
     let f : SFits w32 (change w .counter) = search needs in
-    changed-by (hub (begin w)) _ _ (look (hub (begin w)) (party (begin w))) (change w) _ (toZ-ofZ f)
-    (places-set c)
+    changed-by (hub (begin w)) _ _ (view (begin w)) (change w) _ (toZ-ofZ f) (places-set c)
 
 -- A record that is the tidied one is the one that the call leaves.
 leaves : (c : tie.Joined4) (g : Hub) → g ≡ reclaimed (after c)
-    → record { answer = change (c .before .before .before) .answer; hub = g }
-    ≡ called (hub (begin (c .before .before .before)))
-    (asks (begin (c .before .before .before) .args .op) (party (begin (c .before .before .before))))
+    → record { answer = change (waking c) .answer; hub = g } ≡ answer (begin (waking c))
 unfolding readPhase
 leaves c g e =
-    let w = c .before .before .before in
-    let d = w .before .before .before in
-    acted (hub (begin w)) g (look (hub (begin w)) (party (begin w))) (d .decide .result) (change w)
-    (w .woken .result) (size (begin w)) (w .before .before .match .keys2)
+    let w = waking c in
+    let d = deciding w in
+    acted (hub (begin w)) g (view (begin w)) (d .decide .result) (change w) (w .woken .result)
+    (size (begin w)) (w .before .before .match .keys2)
     (w .before .change-of .ensures
-    ∙ ap (λ (v : Sight). changeOf v (d .decide .result)) (sight (d .before .before .before)))
+    ∙ ap (λ (v : Sight). changeOf v (d .decide .result)) (sight (seeing d)))
     (w .woken .ensures) (e ∙ ap reclaimed (stored c))
     ∙ does d
 
@@ -231,7 +238,7 @@ decide-requires : tie.Need-decide-requires
 unfolding readPhase
 decide-requires c κs =
     let k = c .before .before in
-    let n = counts (k .before .before .before .before .before .before .before .before .before) in
+    let n = counts (tested k .before) in
     (small _ _ (seen k) n (sight k), n .oldest)
 
 enum-known-m : tie.Need-enum-known-m
@@ -268,9 +275,7 @@ mul-t44 : tie.Need-mul-t44
 mul-t44 c = search needs
 
 element-set-from-hub-3 : tie.Need-element-set-from-hub-3
-element-set-from-hub-3 c =
-    let k = c .before .before .before .before .before .before .before .before .before in
-    within-slots (k .before .before .before .before .before .before .before .before)
+element-set-from-hub-3 c = within-slots (tested (seeing (deciding (waking c))))
 
 cast-r : tie.Need-cast-r
 cast-r c = search needs
@@ -302,9 +307,8 @@ returns-4 c =
 reclaim-requires : tie.Need-reclaim-requires
 reclaim-requires c κs =
     let j = c .before .before .before .before .before in
-    let k = j .before .before .before .before .before .before .before .before .before in
-    let e = k .before .before .before .before .before .before .before .before .before in
-    omega (arith, ap (λ (h : Hub). h .oldest) (stored j), counts e .oldest)
+    let e = tested (seeing (deciding (waking j))) in
+    omega (arith, ap (λ (h : Hub). h .oldest) (stored j), counts (e .before) .oldest)
 
 returns-5 : tie.Need-returns-5
 unfolding look writePhase

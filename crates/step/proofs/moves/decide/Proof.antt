@@ -1,7 +1,7 @@
 -- `decide` meets its contract: each arm is that of its call.
 use borrow.Author.Needs.{needs}
 use mathlib.Core.Path.{ap, _∙_}
-use mathlib.Core.Bool.{Bool, false}
+use mathlib.Core.Bool.{Bool}
 use Rattle.hub.specs.declared.moves.Op.{Op}
 use Rattle.hub.specs.Table as table
 use Rattle.step.proofs.Laws.Moves.{by-op}
