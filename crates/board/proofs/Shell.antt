@@ -481,18 +481,19 @@ module _ {M : Type 1} (𝓤 : URA M) (H : Heap 𝓤) (A : Atoms 𝓤) (W : Given
       (WpFn 𝓤 H (𝓣 .C) (𝓣 .Λ) (shellFn key k)) (WpFn-mono 𝓤 H (W .laws) 𝓣 (shellFn key k))
       (shell-walks key (𝓣 .C) (𝓣 .Λ) (fmOf 𝓤 H (W .laws) 𝓣) known)
 
--- a shell's own routine, from what is known of the function over the fields
+-- a shell's own routine, from what is known of the function over the fields: the tag that the shell
+-- hands over is read off its code, and must be the operation's
 pub shell-spec :
     {M : Type 1} (𝓤 : URA M) (H : Heap 𝓤) (𝓜 : Model 𝓤 H) (𝓖 : GhostRules 𝓤 H) (𝓡 : Running 𝓤 H 𝓜)
-    (D : Hub → Op → ℕ → Outcome) (a : Op) (k : ℕ) → Is O.the-row a (tagVal k ∷ []) → Holds (ltb k (2 ^ 8))
-    → (env : Env) (own key : Name) (routine : Routine) → env key ≡ routine
+    (D : Hub → Op → ℕ → Outcome) (a : Op) (env : Env) (own key : Name) (routine : Routine) {k : ℕ}
     → Closed 𝓤 H (tables 𝓤 H 𝓜 𝓡 env .C) (tables 𝓤 H 𝓜 𝓡 env .Λ) own (shellFn key k)
+    → Is O.the-row a (tagVal k ∷ []) → Holds (ltb k (2 ^ 8)) → env key ≡ routine
     → Meets 𝓤 H (𝓖 .A) core.signature (𝓡 .run routine)
     (closing 𝓤 H (𝓖 .A) core.ended (coreClauses 𝓤 D))
     → Meets 𝓤 H (𝓖 .A) shell.signature (𝓡 .run (env own))
     (closing 𝓤 H (𝓖 .A) shell.ended (shellClauses 𝓤 (λ h p. D h a p)))
 unfolding tablesOf
-shell-spec 𝓤 H 𝓜 𝓖 𝓡 D a k is-op small env own key routine calls closed met =
+shell-spec 𝓤 H 𝓜 𝓖 𝓡 D a env own key routine {k} closed is-op small calls met =
     entered 𝓤 H (Shell 𝓤 H (𝓖 .A) (λ h p. D h a p)) (tables 𝓤 H 𝓜 𝓡 env .C) (tables 𝓤 H 𝓜 𝓡 env .Λ) own
     (shellFn key k) closed
     (shell-meets 𝓤 H (𝓖 .A) (givenOf 𝓤 H 𝓜 𝓖) D a k is-op small key (tablesOf 𝓤 H 𝓜 (tables 𝓤 H 𝓜 𝓡 env))

@@ -13,5 +13,6 @@ use Rattle.board.proofs.acquire.Code as code
 pub acquire-spec : {M : Type 1} → statement M
 unfolding code.routine
 acquire-spec 𝓤 H 𝓜 𝓖 𝓡 =
-    shell-spec 𝓤 H 𝓜 𝓖 𝓡 by-op Op.Acquire 0 (EL.owes O.the-type O′.the-laws Op.Acquire tt) tt
-    code.env name core.name core.routine code.calls-board·call-fields (code.unfolded 𝓤 H 𝓜 𝓡) (met 𝓤 H 𝓜 𝓖 𝓡)
+    shell-spec 𝓤 H 𝓜 𝓖 𝓡 by-op Op.Acquire code.env name core.name core.routine
+    (code.unfolded 𝓤 H 𝓜 𝓡) (EL.owes O.the-type O′.the-laws Op.Acquire tt) tt
+    code.calls-board·call-fields (met 𝓤 H 𝓜 𝓖 𝓡)

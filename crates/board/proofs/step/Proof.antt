@@ -13,5 +13,6 @@ use Rattle.board.proofs.step.Code as code
 pub step-spec : {M : Type 1} → statement M
 unfolding code.routine
 step-spec 𝓤 H 𝓜 𝓖 𝓡 =
-    shell-spec 𝓤 H 𝓜 𝓖 𝓡 by-op Op.Step 1 (EL.owes O.the-type O′.the-laws Op.Step tt) tt
-    code.env name core.name core.routine code.calls-board·call-fields (code.unfolded 𝓤 H 𝓜 𝓡) (met 𝓤 H 𝓜 𝓖 𝓡)
+    shell-spec 𝓤 H 𝓜 𝓖 𝓡 by-op Op.Step code.env name core.name core.routine
+    (code.unfolded 𝓤 H 𝓜 𝓡) (EL.owes O.the-type O′.the-laws Op.Step tt) tt
+    code.calls-board·call-fields (met 𝓤 H 𝓜 𝓖 𝓡)
