@@ -281,9 +281,21 @@ module _ {M : Type 1} (𝓤 : URA M) (H : Heap 𝓤) (A : Atoms 𝓤) (D : Hub �
 abbrev pub by-op : Hub → Op → ℕ → Outcome
 by-op h a p = called h (record { op = a; party = p })
 
--- the machine's value of the call whose tag is k
+-- the machine's value of the call whose tag is k, and the tag of each call
 abbrev pub tagVal : ℕ → Val
 tagVal k = vstruct (ofList (vint w8 k ∷ []))
+
+abbrev pub tag : Op → ℕ
+tag Op.Acquire = 0
+tag Op.Step = 1
+tag Op.Cancel = 2
+tag Op.Release = 3
+
+pub tagged : (a : Op) → Is O.the-row a (tagVal (tag a) ∷ [])
+tagged Op.Acquire = EL.owes O.the-type O′.the-laws Op.Acquire tt
+tagged Op.Step = EL.owes O.the-type O′.the-laws Op.Step tt
+tagged Op.Cancel = EL.owes O.the-type O′.the-laws Op.Cancel tt
+tagged Op.Release = EL.owes O.the-type O′.the-laws Op.Release tt
 
 module _ {M : Type 1} (𝓤 : URA M) (H : Heap 𝓤) (A : Atoms 𝓤) (W : Given 𝓤 H A)
     (D : Hub → Op → ℕ → Outcome) (a : Op) (k : ℕ) (is-op : Is O.the-row a (tagVal k ∷ []))
