@@ -7,7 +7,7 @@ use hub::answers::Answer;
 use hub::moves::Op;
 use hub::record::Hub;
 use hub::record::Outcome;
-use run::print_of;
+use line::answer::print_of;
 use step::calls::acquire;
 use step::calls::cancel;
 use step::calls::release;

@@ -9,7 +9,7 @@ use Rattle.hub.specs.declared.record.Hub.{Hub}
 use Rattle.hub.specs.Answers.{refusalCode}
 use Rattle.hub.specs.Basics.{upTo32}
 use Rattle.hub.specs.Opening.{fresh}
-use Rattle.run.specs.Bytes.{wellFormed, callsOf, linesOf}
+use Rattle.run.specs.Bytes.{wellFormed, callsOf, framesOf}
 use Rattle.run.specs.declared.Ran.{Ran}
 
 pub record Ended : Type 0 where
@@ -18,7 +18,7 @@ pub record Ended : Type 0 where
 
 -- The answers, from a record on, in front of what the buffer holds past them.
 abbrev pub written : Hub → List ℕ → List ℕ → List ℕ
-written h calls out = linesOf h (callsOf calls) ++ drop (7 * (length calls / 2)) out
+written h calls out = framesOf h (callsOf calls) ++ drop (7 * (length calls / 2)) out
 
 -- 2, 3, malformed, no room, in that order; a refused run leaves the buffer alone, and a run that
 -- is done writes seven bytes for each call and leaves the rest alone.

@@ -104,6 +104,7 @@ fn at_counter(counter: i32) -> u32
 
 pub fn counts(hub: Hub) -> Counts
     ensures { λ r. ⌜ r ≡ countsOf hub ⌝ }
+    ensures few { λ r. ⌜ r .held ≤ 32 ⌝ }
 {
     let slots = hub.slots;
     let places = hub.places;

@@ -1,42 +1,13 @@
 -- The bytes of the calls, read two by two.
-use Prim.Native.Nat.{ℕ, zero, suc, _+_, _-_, _*_, _/_, _%_, _≤_, _<_}
+use Prim.Native.Nat.{ℕ, suc, _+_, _*_, _/_, _%_, _≤_, _<_}
 use mathlib.Core.Path.{_≡_, refl, sym, ap, _∙_}
 use mathlib.Core.Bool.{Bool, true, false, _&&_}
 use mathlib.Core.List.{List, [], _∷_}
 use native.Mathlib.Omega.{arith}
-use borrow.Author.Tests.{ne-eqb}
 use lib.ListN.{length, getD, drop, drop-of-length-le}
 use lib.Seq.{drop-cons}
-use Rattle.run.specs.Bytes.{isCall, wellFormed}
-
--- The codes of the four calls are 16 to 19.
-no-code : (c : ℕ) → ((k : ℕ) → 16 ≤ k → k ≤ 19 → c ≡ k → ⊥) → isCall c ≡ false
-no-code c f =
-    rw (
-      ne-eqb c 16 (f 16 (omega arith) (omega arith)),
-      ne-eqb c 17 (f 17 (omega arith) (omega arith)),
-      ne-eqb c 18 (f 18 (omega arith) (omega arith)),
-      ne-eqb c 19 (f 19 (omega arith) (omega arith)),
-    )
-
-pub under : (c : ℕ) → c < 16 → isCall c ≡ false
-under c l = no-code c (λ k a b e. omega arith)
-
-pub over : (c : ℕ) → 19 < c → isCall c ≡ false
-over c l = no-code c (λ k a b e. omega arith)
-
-pub a-code : (c : ℕ) → 16 ≤ c → c ≤ 19 → isCall c ≡ true
-a-code c a b = ap isCall (apart c a) ∙ go (c - 16) (omega arith)
-  where
-    apart : (c : ℕ) → 16 ≤ c → c ≡ 16 + (c - 16)
-    apart c a = omega arith
-
-    go : (d : ℕ) → d ≤ 3 → isCall (16 + d) ≡ true
-    go zero l = refl
-    go (suc zero) l = refl
-    go (suc (suc zero)) l = refl
-    go (suc (suc (suc zero))) l = refl
-    go (suc (suc (suc (suc d)))) l = absurd (omega arith)
+use Rattle.line.specs.Frame.{isCall}
+use Rattle.run.specs.Bytes.{wellFormed}
 
 -- The i-th pair, in front of the pairs past it.
 pub pair : (l : List ℕ) (i : ℕ) → i < length l / 2

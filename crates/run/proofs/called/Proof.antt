@@ -7,7 +7,7 @@ use Rattle.hub.specs.declared.moves.Op.{Op}
 use Rattle.hub.specs.declared.record.Hub.{Hub}
 use Rattle.hub.specs.declared.record.Outcome.{Outcome}
 use Rattle.hub.specs.Calls.{called}
-use Rattle.run.specs.Bytes.{opOf}
+use Rattle.line.specs.Frame.{opOf}
 use Rattle.run.proofs.called.Statement.{statement}
 use Rattle.run.proofs.called.Tie as tie
 

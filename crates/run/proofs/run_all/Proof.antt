@@ -3,7 +3,7 @@ use borrow.Author.Needs.{needs}
 use mathlib.Core.Path.{ap, _∙_}
 use Prim.Native.Nat.{_-_, _/_}
 use lib.ListN.{length}
-use Rattle.run.specs.Bytes.{lineOf}
+use Rattle.line.specs.Frame.{frameOf}
 use Rattle.run.proofs.Laws.Turns.{Upto, start, turn, end}
 use Rattle.run.proofs.run_all.Statement.{statement}
 use Rattle.run.proofs.run_all.Tie as tie
@@ -68,7 +68,7 @@ loop-again c =
     let t = b .before .before .before .before in
     turn _ _ _ _ _ _ (t .before .loop .inv) _ (b .before .called .result) (t .loop-test .taken)
     (b .before .called .ensures)
-    (c .before .before .before .put .ensures ∙ ap (lineOf _) (b .print-of .ensures))
+    (c .before .before .before .put .ensures ∙ ap (frameOf _) (b .print-of .ensures))
 
 same-length : tie.Need-same-length Inv-loop μ-loop
 same-length c = c .before .loop .inv .length

@@ -4,7 +4,8 @@ use native.Mathlib.Omega.{arith}
 use Prim.Native.Nat.{_-_, _/_}
 use lib.ListN.{length}
 use mathlib.Core.Path.{refl}
-use Rattle.run.proofs.Laws.Pairs.{Checked, under, over, a-code, odd, bad, good, all}
+use Rattle.line.proofs.Laws.Codes.{under, over, a-code}
+use Rattle.run.proofs.Laws.Pairs.{Checked, odd, bad, good, all}
 use Rattle.run.proofs.well_formed.Statement.{statement}
 use Rattle.run.proofs.well_formed.Tie as tie
 

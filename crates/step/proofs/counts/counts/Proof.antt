@@ -40,28 +40,32 @@ at-counter-requires c κs = search needs
 returns : tie.Need-returns
 returns c =
     let h = c .before .before .before .before .before .before .before .before .before .before .before .args .hub in
-    let f : SFits w32 (h .counter) = search needs in
-    shown h _ _ _ _ _ _ _ _
-    (c .before .before .before .before .before .before .before .before .count-phases .ensures .0)
-    (c .before .before .before .before .before .before .before .count-places .ensures .0)
-    (c .before .before .before .before .before .before .count-phases2 .ensures .0)
-    (c .before .before .before .before .before .count-places2 .ensures .0)
-    (c .before .before .before .before .count-phases3 .ensures .0)
-    (c .before .at-counter .ensures ∙ ap atCounter (toZ-ofZ f))
-    (c .before .before .before .count-phases4 .ensures .0) refl
+    let f : SFits w32 (h .counter) = search needs in (
+      shown h _ _ _ _ _ _ _ _
+          (c .before .before .before .before .before .before .before .before .count-phases .ensures .0)
+          (c .before .before .before .before .before .before .before .count-places .ensures .0)
+          (c .before .before .before .before .before .before .count-phases2 .ensures .0)
+          (c .before .before .before .before .before .count-places2 .ensures .0)
+          (c .before .before .before .before .count-phases3 .ensures .0)
+          (c .before .at-counter .ensures ∙ ap atCounter (toZ-ofZ f))
+          (c .before .before .before .count-phases4 .ensures .0) refl,
+      omega (arith, c .before .before .before .before .count-phases3 .ensures .1),
+    )
 
 returns-2 : tie.Need-returns-2
 returns-2 c =
     let h = c .before .before .before .before .before .before .before .before .before .before .before .args .hub in
-    let f : SFits w32 (h .counter) = search needs in
-    shown h _ _ _ _ _ _ _ _
-    (c .before .before .before .before .before .before .before .before .count-phases .ensures .0)
-    (c .before .before .before .before .before .before .before .count-places .ensures .0)
-    (c .before .before .before .before .before .before .count-phases2 .ensures .0)
-    (c .before .before .before .before .before .count-places2 .ensures .0)
-    (c .before .before .before .before .count-phases3 .ensures .0)
-    (c .before .at-counter .ensures ∙ ap atCounter (toZ-ofZ f))
-    (c .before .before .before .count-phases4 .ensures .0) (omega (arith, c .if1 .left))
+    let f : SFits w32 (h .counter) = search needs in (
+      shown h _ _ _ _ _ _ _ _
+          (c .before .before .before .before .before .before .before .before .count-phases .ensures .0)
+          (c .before .before .before .before .before .before .before .count-places .ensures .0)
+          (c .before .before .before .before .before .before .count-phases2 .ensures .0)
+          (c .before .before .before .before .before .count-places2 .ensures .0)
+          (c .before .before .before .before .count-phases3 .ensures .0)
+          (c .before .at-counter .ensures ∙ ap atCounter (toZ-ofZ f))
+          (c .before .before .before .count-phases4 .ensures .0) (omega (arith, c .if1 .left)),
+      omega (arith, c .before .before .before .before .count-phases3 .ensures .1),
+    )
 
 pub counts-spec : {M : Type 1} → statement M
 counts-spec =

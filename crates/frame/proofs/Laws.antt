@@ -1,0 +1,8 @@
+-- What the proofs of this crate share.
+pub mod Pieces
+pub mod Lines
+pub mod Sessions
+pub mod Closing
+pub mod Written
+pub mod Schedules
+pub mod Sizes

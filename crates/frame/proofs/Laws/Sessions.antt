@@ -1,0 +1,105 @@
+-- Pieces one after the other are the whole input.
+use Prim.Native.Nat.{ℕ}
+use mathlib.Core.Path.{_≡_, refl, sym, ap, _∙_}
+use mathlib.Core.Bool.{Bool, true, false, cond}
+use mathlib.Core.List.{List, [], _∷_, _++_, map, append-assoc}
+use native.Mathlib.Omega.{arith}
+use lib.Dec.{eqb}
+use lib.ListN.{length-replicate}
+use Rattle.hub.specs.declared.record.Hub.{Hub}
+use Rattle.line.specs.declared.request.Request.{Request}
+use Rattle.line.specs.Frame.{frameOf}
+use Rattle.line.specs.Hex.{textOf}
+use Rattle.line.specs.Program.{turn, replies, after, closing, linesOf, outputOf}
+use Rattle.line.specs.Requests.{requestOf}
+use Rattle.frame.specs.declared.reader.Reader.{Reader}
+use Rattle.frame.specs.declared.session.Session.{Session}
+use Rattle.frame.specs.Reading.{lineIn, next, past, asked}
+use Rattle.frame.specs.Session.{begun, fed, told, rest, finished, toldAll, joined, InPieces}
+use Rattle.frame.proofs.Laws.Lines.{lines-read}
+
+-- Requests in two parts.
+pub replies-append : (rs qs : List Request) (h : Hub)
+    → replies h (rs ++ qs) ≡ replies h rs ++ replies (after h rs) qs
+unfolding replies after
+replies-append [] qs h = refl
+replies-append (r ∷ rs) qs h =
+    let t = turn h r in
+    let text = textOf (frameOf (t .party) (t .answer)) in
+    ap (λ (l : List ℕ). text ++ l) (replies-append rs qs (t .hub))
+    ∙ sym (append-assoc text (replies (t .hub) rs) (replies (after (t .hub) rs) qs))
+
+pub after-append : (rs qs : List Request) (h : Hub) → after h (rs ++ qs) ≡ after (after h rs) qs
+unfolding after
+after-append [] qs h = refl
+after-append (r ∷ rs) qs h = after-append rs qs (turn h r .hub)
+
+-- An input in two parts.
+past-append : (a b : List ℕ) (r : Reader) → past r (a ++ b) ≡ past (past r a) b
+unfolding past
+past-append [] b r = refl
+past-append (c ∷ a) b r = past-append a b (next r c)
+
+asked-append : (a b : List ℕ) (r : Reader) → asked r (a ++ b) ≡ asked r a ++ asked (past r a) b
+unfolding past asked
+asked-append [] b r = refl
+asked-append (c ∷ a) b r = go (eqb c 0x0A) (asked-append a b (next r c))
+  where
+    go : (e : Bool) → asked (next r c) (a ++ b) ≡ asked (next r c) a ++ asked (past (next r c) a) b
+        → cond e (requestOf (lineIn r) ∷ asked (next r c) (a ++ b)) (asked (next r c) (a ++ b))
+        ≡ cond e (requestOf (lineIn r) ∷ asked (next r c) a) (asked (next r c) a)
+        ++ asked (past (next r c) a) b
+    go true f = ap (λ (l : List Request). requestOf (lineIn r) ∷ l) f
+    go false f = f
+
+-- What is printed from a session on for an input that comes whole.
+abbrev wholly : Session → List ℕ → List ℕ
+wholly s input = told s input ++ finished (fed s input)
+
+fed-append : (s : Session) (a b : List ℕ) → fed s (a ++ b) ≡ fed (fed s a) b
+unfolding fed
+fed-append s a b =
+    (λ i. record {
+      hub =
+          (ap (after (s .hub)) (asked-append a b (s .reader))
+          ∙ after-append (asked (s .reader) a) (asked (past (s .reader) a) b) (s .hub)) i;
+      reader = past-append a b (s .reader) i;
+    })
+
+told-append : (s : Session) (a b : List ℕ) → told s (a ++ b) ≡ told s a ++ told (fed s a) b
+unfolding told fed
+told-append s a b =
+    ap (replies (s .hub)) (asked-append a b (s .reader))
+    ∙ replies-append (asked (s .reader) a) (asked (past (s .reader) a) b) (s .hub)
+
+one-piece : (s : Session) → finished s ≡ wholly s []
+unfolding told fed replies asked past after
+one-piece s = refl
+
+in-pieces-from : (ps : List (List ℕ)) (s : Session) → toldAll s ps ≡ wholly s (joined ps)
+unfolding toldAll joined
+in-pieces-from [] s = one-piece s
+in-pieces-from (p ∷ ps) s =
+    let q = joined ps in
+    ap (λ (l : List ℕ). told s p ++ l) (in-pieces-from ps (fed s p))
+    ∙ sym (append-assoc (told s p) (told (fed s p) q) (finished (fed (fed s p) q)))
+    ∙ (λ i. sym (told-append s p q) i ++ finished (sym (fed-append s p q) i))
+
+-- An input that comes whole.
+in-one : (input : List ℕ) → wholly begun input ≡ outputOf input
+unfolding told fed finished outputOf
+in-one input =
+    let r = begun .reader in
+    let h = begun .hub in
+    let rs = asked r input in
+    let qs = rest (past r input) in
+    let e : rs ++ qs ≡ map requestOf (linesOf input) =
+    lines-read input r []
+    (record { size = length-replicate {A = ℕ} 65 0; short = omega arith; same = refl }) in
+    sym (append-assoc (replies h rs) (replies (after h rs) qs) (closing (after (after h rs) qs)))
+    ∙ (λ i. sym (replies-append rs qs h) i ++ closing (sym (after-append rs qs h) i))
+    ∙ ap (λ (l : List Request). replies h l ++ closing (after h l)) e
+
+pub in-pieces : InPieces
+unfolding InPieces
+in-pieces ps = in-pieces-from ps begun ∙ in-one (joined ps)

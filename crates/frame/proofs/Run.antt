@@ -1,0 +1,23 @@
+-- The paper's run holds: both sides compute to the same characters.
+use mathlib.Core.Path.{refl}
+use Rattle.hub.specs.Basics.{weight, allFrom}
+use Rattle.hub.specs.Kinds.{kindOf}
+use Rattle.hub.specs.Record.{readPhase, writePhase, readPlace, writePlace}
+use Rattle.hub.specs.Phases.{isOneOf, isPlace}
+use Rattle.hub.specs.Table.{step, acquire, cancel, release, decide}
+use Rattle.hub.specs.Reclaim.{skip, retire, reclaimed}
+use Rattle.hub.specs.Fits.{look, counterFits, countsFit, ticketFits, partyFits, placeFits, fits}
+use Rattle.hub.specs.Opening.{fresh, openingIf}
+use Rattle.hub.specs.Calls.{checked, apply}
+use Rattle.line.specs.Hex.{digitOf}
+use Rattle.line.specs.Requests.{allDigits, bytesOf, requested, requestOf}
+use Rattle.line.specs.Program.{opens, calls, turn, replies, after, linesFrom, outputOf}
+use Rattle.frame.specs.Run.{inDigits, inputs, outputs, RunHolds}
+
+pub run-holds : RunHolds
+unfolding RunHolds inDigits inputs outputs digitOf allDigits bytesOf requested requestOf
+    opens calls turn replies after linesFrom outputOf checked apply fresh openingIf
+    look counterFits countsFit ticketFits partyFits placeFits fits skip retire reclaimed
+    step acquire cancel release decide isOneOf isPlace readPhase writePhase readPlace writePlace
+    kindOf weight allFrom
+run-holds = refl

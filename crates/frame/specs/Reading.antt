@@ -1,0 +1,47 @@
+-- An input read character by character, as it comes in pieces.
+use Prim.Native.Nat.{ℕ, _+_, _*_}
+use mathlib.Core.Bool.{Bool, true, false, cond}
+use mathlib.Core.List.{List, [], _∷_, _++_}
+use lib.Dec.{eqb, ltb}
+use lib.ListN.{length, take, drop, set}
+use Rattle.line.specs.declared.request.Request.{Request}
+use Rattle.line.specs.Requests.{requestOf}
+use Rattle.frame.specs.declared.reader.Reader.{Reader}
+
+-- What is read of the line so far. 65 characters are too many, and no more are kept.
+abbrev pub lineIn : Reader → List ℕ
+lineIn r = take (r .len) (r .line)
+
+abbrev pub pushed : Reader → ℕ → Reader
+pushed r c =
+    cond (ltb (r .len) 65) (record { line = set (r .line) (r .len) c; len = r .len + 1 }) r
+
+abbrev pub emptied : Reader → Reader
+emptied r = record { line = r .line; len = 0 }
+
+-- The reader past a character.
+abbrev pub next : Reader → ℕ → Reader
+next r c = cond (eqb c 0x0A) (emptied r) (pushed r c)
+
+-- The reader past a piece, and what the lines that end in the piece ask.
+unfoldable pub past : Reader → List ℕ → Reader
+past r [] = r
+past r (c ∷ cs) = past (next r c) cs
+
+unfoldable pub asked : Reader → List ℕ → List Request
+asked r [] = []
+asked r (c ∷ cs) =
+    let rs = asked (next r c) cs in
+    cond (eqb c 0x0A) (requestOf (lineIn r) ∷ rs) rs
+
+-- A request as bytes.
+abbrev pub threeOf : Request → List ℕ
+threeOf r = r .code ∷ r .first ∷ r .second ∷ []
+
+unfoldable pub bytesOf : List Request → List ℕ
+bytesOf [] = []
+bytesOf (r ∷ rs) = threeOf r ++ bytesOf rs
+
+-- Requests, in front of what the buffer holds past them.
+abbrev pub written : List Request → List ℕ → List ℕ
+written rs out = bytesOf rs ++ drop (3 * length rs) out

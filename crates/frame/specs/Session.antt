@@ -1,0 +1,47 @@
+-- A run over an input that comes in pieces, and what makes the pieces one.
+use Prim.Native.Nat.{ℕ}
+use mathlib.Core.Path.{_≡_}
+use mathlib.Core.Bool.{cond}
+use mathlib.Core.List.{List, [], _∷_, _++_}
+use lib.Dec.{eqb}
+use lib.ListN.{replicate}
+use Rattle.line.specs.declared.request.Request.{Request}
+use Rattle.line.specs.Program.{unopened, replies, after, closing, outputOf}
+use Rattle.line.specs.Requests.{requestOf}
+use Rattle.frame.specs.declared.reader.Reader.{Reader}
+use Rattle.frame.specs.declared.session.Session.{Session}
+use Rattle.frame.specs.Reading.{lineIn, past, asked}
+
+-- Before the first piece.
+abbrev pub begun : Session
+begun = record { hub = unopened; reader = record { line = replicate 65 0; len = 0 } }
+
+-- Past a piece, and what is printed for it.
+unfoldable pub fed : Session → List ℕ → Session
+fed s piece =
+    record { hub = after (s .hub) (asked (s .reader) piece); reader = past (s .reader) piece }
+
+unfoldable pub told : Session → List ℕ → List ℕ
+told s piece = replies (s .hub) (asked (s .reader) piece)
+
+-- At the end of the input a line left without its end mark counts.
+abbrev pub rest : Reader → List Request
+rest r = cond (eqb (r .len) 0) [] (requestOf (lineIn r) ∷ [])
+
+-- What is printed then: the answer to that line, and the closing line.
+unfoldable pub finished : Session → List ℕ
+finished s =
+    replies (s .hub) (rest (s .reader)) ++ closing (after (s .hub) (rest (s .reader)))
+
+-- All that is printed for some pieces, and the input that they make.
+unfoldable pub toldAll : Session → List (List ℕ) → List ℕ
+toldAll s [] = finished s
+toldAll s (p ∷ ps) = told s p ++ toldAll (fed s p) ps
+
+unfoldable pub joined : List (List ℕ) → List ℕ
+joined [] = []
+joined (p ∷ ps) = p ++ joined ps
+
+-- However an input is cut, the output is that of the whole.
+unfoldable pub InPieces : Type 0
+InPieces = (pieces : List (List ℕ)) → toldAll begun pieces ≡ outputOf (joined pieces)

@@ -1,0 +1,6 @@
+// A whole input to a whole output, in pieces of any size.
+
+pub mod reader; // lines out of pieces
+mod closing; // the closing line
+pub mod session; // a run over pieces
+pub mod whole; // a run over a whole input

@@ -1,0 +1,6 @@
+-- What the proofs of this crate share.
+pub mod Filled
+pub mod Parts
+pub mod Codes
+pub mod Digits
+pub mod Lines

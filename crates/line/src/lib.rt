@@ -1,0 +1,7 @@
+// One line of a schedule: what it asks, and how an answer is written.
+
+pub mod answer; // an answer as bytes
+pub mod hex; // hexadecimal digits
+pub mod request; // what a line asks
+pub mod text; // an answer as a line
+pub mod signed; // the counter as four bytes

@@ -1,0 +1,79 @@
+//! The proved code as an archive and the second program, side by side on random schedules: the
+//! same calls to both, and every answer must agree. Usage: archive SECOND SCHEDULES. Links
+//! librun.a.
+
+mod process;
+mod schedules;
+
+use schedules::{hex, schedule, Random, Schedule, Seen};
+use std::env;
+use std::process::ExitCode;
+
+extern "C" {
+    fn hub_run(
+        permits: u8,
+        parties: u8,
+        calls: *const u8,
+        calls_len: usize,
+        out: *mut u8,
+        out_len: usize,
+    ) -> u8;
+}
+
+const ANSWER: usize = 7;
+
+/// The answers of the proved code, the opening's first.
+fn proved(schedule: &Schedule) -> Vec<[u8; ANSWER]> {
+    let calls = schedule.calls.concat();
+    let mut out = vec![[0; ANSWER]; schedule.calls.len()];
+    let room = out.as_flattened_mut();
+    let (permits, parties) = (schedule.permits, schedule.parties);
+    // SAFETY: each address goes with the length of what it points to.
+    let code = unsafe {
+        hub_run(permits, parties, calls.as_ptr(), calls.len(), room.as_mut_ptr(), room.len())
+    };
+    if code != 0 {
+        return vec![[code, 255, 255, 255, 255, 255, 255]];
+    }
+    out.insert(0, [0x1F, 255, 255, 255, 255, 255, 255]);
+    out
+}
+
+/// What the second program prints for a schedule. It answers 13 where the archive stops at a
+/// refused opening, and it adds the closing line: neither is looked at.
+fn second(program: &str, schedule: &Schedule, answers: usize) -> Vec<String> {
+    let input = schedule.lines().join("\n");
+    let output = process::output(program, input.as_bytes(), input.len());
+    let text = String::from_utf8_lossy(&output).into_owned();
+    text.lines().take(answers).map(str::to_string).collect()
+}
+
+fn main() -> ExitCode {
+    let arguments: Vec<String> = env::args().collect();
+    let [_, program, schedules] = &arguments[..] else {
+        eprintln!("usage: archive SECOND SCHEDULES");
+        return ExitCode::FAILURE;
+    };
+    let schedules: u64 = schedules.parse().expect("SCHEDULES is a number");
+    let mut seen = Seen::nothing();
+    for seed in 1..=schedules {
+        let s = schedule(&mut Random::seeded(seed), 4000);
+        let answers = proved(&s);
+        let ours: Vec<String> = answers.iter().map(|answer| hex(answer)).collect();
+        let theirs = second(program, &s, answers.len());
+        if ours != theirs {
+            let at = ours.iter().zip(&theirs).take_while(|(a, b)| a == b).count();
+            println!("schedule {seed}: K {}, n {}, line {}", s.permits, s.parties, at + 1);
+            println!("archive: {:?}\nsecond:  {:?}", ours.get(at), theirs.get(at));
+            return ExitCode::FAILURE;
+        }
+        answers.iter().for_each(|answer| seen.count(answer[0]));
+    }
+    println!("archive and second program: {schedules} schedules, all answers agree");
+    // 1 no opening reaches, 6 takes a million asks; 12 and 13 are the program's
+    if seen.shows((2..=11).filter(|&refusal| refusal != 6).chain(0x1F..=0x33)) {
+        ExitCode::SUCCESS
+    } else {
+        ExitCode::FAILURE
+    }
+}

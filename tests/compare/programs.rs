@@ -1,0 +1,198 @@
+//! Two programs, side by side: the same lines to both, and what they print must be equal byte
+//! for byte. Usage: programs PROVED SECOND SCHEDULES.
+
+mod process;
+mod schedules;
+
+use schedules::{hex, schedule, Habits, House, Random, Seen};
+use std::process::ExitCode;
+use std::{env, thread};
+
+/// Calls of the one long schedule: enough for numbers of more than two bytes.
+const LONG: u64 = 600_000;
+
+/// Lines of a difference that are shown; the seed gives the rest.
+const SHOWN: usize = 30;
+
+/// The seed of the long schedule, which comes last.
+const LAST: u64 = 0;
+
+/// The input of a seed: mostly good schedules, then damaged ones, then bytes.
+fn input(seed: u64) -> Vec<u8> {
+    let random = &mut Random::seeded(seed);
+    match random.below(10) {
+        _ if seed == LAST => long(random),
+        0 => bytes(random),
+        1..=4 => damaged(random),
+        _ => joined(&schedule(random, 4000).lines(), true),
+    }
+}
+
+fn joined<T: AsRef<[u8]>>(lines: &[T], ended: bool) -> Vec<u8> {
+    let mut input = Vec::new();
+    for line in lines {
+        input.extend(line.as_ref());
+        input.push(b'\n');
+    }
+    if !ended {
+        input.pop();
+    }
+    input
+}
+
+/// Everybody waits for one link, and most waits are served.
+fn long(random: &mut Random) -> Vec<u8> {
+    let mut house = House::new(1, 6);
+    let habits = Habits { ask: 8, give_up: 1, give_back: 8, asleep: 0, stray: 1000 };
+    let calls = (0..LONG).map(|_| hex(&house.call(random, &habits)));
+    let lines: Vec<String> = ["010106".to_string()].into_iter().chain(calls).collect();
+    joined(&lines, true)
+}
+
+/// A short schedule with openings where they do not belong and lines that are not whole.
+fn damaged(random: &mut Random) -> Vec<u8> {
+    let mut lines: Vec<Vec<u8>> =
+        schedule(random, 800).lines().into_iter().map(String::into_bytes).collect();
+    let opening = lines[0].clone();
+    for _ in 0..random.below(4) {
+        // twice, too late, or not at all
+        let at = random.below(lines.len() as u64) as usize;
+        match random.below(4) {
+            0 => lines.swap(0, at.min(10)),
+            1 => lines.insert(at, hex(&[1, random.byte(), random.byte()]).into_bytes()),
+            2 => lines.insert(at.min(3), b"010001".to_vec()),
+            _ => lines.insert(at, opening.clone()),
+        }
+    }
+    if random.one_in(2) {
+        lines.insert(0, opening);
+        damage(random, &mut lines[0]);
+    }
+    let odds = random.pick(&[3, 10, 50]);
+    for line in &mut lines {
+        if random.one_in(odds) {
+            damage(random, line);
+        }
+    }
+    joined(&lines, random.one_in(2))
+}
+
+fn damage(random: &mut Random, line: &mut Vec<u8>) {
+    const STRAY: &[u8] = b"\r\0 \t\n\x0b\x80\xff/:@G`gxX+-.";
+    const DIGITS: &[u8] = b"0123456789ABCDEFabcdef";
+    if line.len() < 2 {
+        // damaged already
+        return;
+    }
+    let at = random.below(line.len() as u64) as usize;
+    match random.below(14) {
+        0 => drop(line.remove(at)),
+        1 => line.insert(at, line[at]),
+        2 => line[at] = random.byte(),
+        3 => line[at] = random.pick(STRAY),
+        4 => line[at] = random.pick(DIGITS),
+        5 => line.truncate(at),
+        6 => line.make_ascii_lowercase(),
+        7 => line.insert(at, random.pick(STRAY)),
+        8 => line.push(random.pick(STRAY)),
+        9 => line.push(random.pick(DIGITS)),
+        10 => line.extend([random.pick(DIGITS), random.pick(DIGITS)]),
+        11 => {
+            let any = random.byte();
+            let code = random.pick(&[0, 2, 0x0F, 0x14, 0x1F, 0x20, any]);
+            line.splice(..2, hex(&[code]).into_bytes());
+        }
+        // the line over and over, about as long as a line may be, or far longer
+        12 => *line = line.iter().copied().cycle().take(60 + random.below(11) as usize).collect(),
+        _ => {
+            let most = random.pick(&[300, 300, 300, 70_000]);
+            let length = 71 + random.below(most) as usize;
+            *line = line.iter().copied().cycle().take(length).collect();
+        }
+    }
+}
+
+/// Bytes of some alphabet, at times after an opening.
+fn bytes(random: &mut Random) -> Vec<u8> {
+    let all: Vec<u8> = (0..=255).collect();
+    let alphabets: [&[u8]; 4] = [&all, b"01\n", b"0123456789abcdefABCDEF\n", b"01\n\r\0 "];
+    let alphabet = random.pick(&alphabets);
+    let opening = random.pick(&["", "010103\n", "01"]).as_bytes();
+    let most = random.pick(&[4, 100, 3000]);
+    let rest = (0..random.below(most)).map(|_| random.pick(alphabet));
+    opening.iter().copied().chain(rest).collect()
+}
+
+/// What both print. The pieces in which they get it must not show.
+fn outputs(programs: [&str; 2], input: &[u8], piece: usize) -> [Vec<u8>; 2] {
+    thread::scope(|scope| {
+        let proved = scope.spawn(|| process::output(programs[0], input, piece));
+        let second = process::output(programs[1], input, input.len());
+        [proved.join().expect("the thread does not panic"), second]
+    })
+}
+
+/// Prints where the programs differ, on as few lines as it takes: on one line less they agree.
+fn show(programs: [&str; 2], seed: u64, input: &[u8], piece: usize) {
+    let lines: Vec<&[u8]> = input.split_inclusive(|&byte| byte == b'\n').collect();
+    let both = |count: usize| outputs(programs, &lines[..count].concat(), piece);
+    let (mut agree, mut differ) = (0, lines.len());
+    while differ - agree > 1 {
+        let middle = (agree + differ) / 2;
+        let [proved, second] = both(middle);
+        if proved == second {
+            agree = middle
+        } else {
+            differ = middle
+        }
+    }
+    println!("seed {seed}: the first {differ} lines of {} are enough", lines.len());
+    if differ > SHOWN {
+        println!("  ...");
+    }
+    for line in &lines[differ.saturating_sub(SHOWN)..differ] {
+        println!("  {}", line.escape_ascii());
+    }
+    let [proved, second] = both(differ);
+    let [mut proved, mut second] =
+        [&proved, &second].map(|output| output.split_inclusive(|&byte| byte == b'\n'));
+    loop {
+        let (ours, theirs) = (proved.next(), second.next());
+        if ours != theirs || ours.is_none() {
+            let text = |line: Option<&[u8]>| line.map(|line| line.escape_ascii().to_string());
+            println!("proved: {:?}\nsecond: {:?}", text(ours), text(theirs));
+            return;
+        }
+    }
+}
+
+fn main() -> ExitCode {
+    let arguments: Vec<String> = env::args().collect();
+    let [_, proved, second, schedules] = &arguments[..] else {
+        eprintln!("usage: programs PROVED SECOND SCHEDULES");
+        return ExitCode::FAILURE;
+    };
+    let programs = [proved.as_str(), second.as_str()];
+    let schedules: u64 = schedules.parse().expect("SCHEDULES is a number");
+    let mut seen = Seen::nothing();
+    for seed in (1..=schedules).chain([LAST]) {
+        let input = input(seed);
+        let piece = [input.len(), 4096, 7][(seed % 3) as usize];
+        let [ours, theirs] = outputs(programs, &input, piece);
+        if ours != theirs {
+            show(programs, seed, &input, piece);
+            return ExitCode::FAILURE;
+        }
+        for line in ours.split_inclusive(|&byte| byte == b'\n') {
+            let code = std::str::from_utf8(&line[..2]).ok();
+            seen.count(u8::from_str_radix(code.expect("two digits"), 16).expect("a code"));
+        }
+    }
+    println!("proved and second program: {schedules} inputs and a long one, equal");
+    // 1 no opening reaches, 6 takes a million asks
+    if seen.shows((2..=13).filter(|&refusal| refusal != 6).chain(0x1F..=0x33).chain([0x7E])) {
+        ExitCode::SUCCESS
+    } else {
+        ExitCode::FAILURE
+    }
+}

@@ -1,0 +1,339 @@
+//! Seeded random schedules, for the comparisons and for the bench.
+
+pub const ASK: u8 = 0x10;
+pub const STEP: u8 = 0x11;
+pub const GIVE_UP: u8 = 0x12;
+pub const GIVE_BACK: u8 = 0x13;
+
+/// A generator of numbers, the same for the same seed (xorshift).
+pub struct Random(u64);
+
+impl Random {
+    pub fn seeded(seed: u64) -> Self {
+        // xorshift must not start at zero
+        Random(seed.wrapping_mul(0x9E37_79B9_7F4A_7C15) | 1 << 63)
+    }
+
+    pub fn next(&mut self) -> u64 {
+        self.0 ^= self.0 << 13;
+        self.0 ^= self.0 >> 7;
+        self.0 ^= self.0 << 17;
+        self.0
+    }
+
+    pub fn below(&mut self, n: u64) -> u64 {
+        (self.next() >> 11) % n
+    }
+
+    pub fn byte(&mut self) -> u8 {
+        self.below(256) as u8
+    }
+
+    pub fn one_in(&mut self, n: u64) -> bool {
+        self.below(n) == 0
+    }
+
+    pub fn pick<T: Copy>(&mut self, from: &[T]) -> T {
+        from[self.below(from.len() as u64) as usize]
+    }
+}
+
+/// An opening's K and n, and the calls after it, each a code and a party.
+pub struct Schedule {
+    pub permits: u8,
+    pub parties: u8,
+    pub calls: Vec<[u8; 2]>,
+}
+
+type Number = usize;
+
+#[derive(Clone, Copy, PartialEq)]
+enum Phase {
+    Free,
+    Holding,
+    Waiting(Number),
+    Asked,
+    Unnumbered,
+    Numbered(Number),
+    GivingUp(Number),
+    Cancelling(Number),
+    Refusing(Number),
+    GivingBack,
+    Carrying,
+    Handing(Number),
+}
+
+#[derive(Clone, Copy, PartialEq)]
+enum Place {
+    Empty,
+    Waiting(usize),
+    Link,
+    Cancelled,
+    Refused,
+    Done,
+}
+
+/// How parties behave: the eagerness, of 8, to ask, to give up and to give back.
+pub struct Habits {
+    pub ask: u64,
+    pub give_up: u64,
+    pub give_back: u64,
+    /// Parties that act seldom, one bit each: numbers pile up behind them.
+    pub asleep: u32,
+    /// One call in so many is any call by any party.
+    pub stray: u64,
+}
+
+impl Habits {
+    fn any(random: &mut Random) -> Self {
+        let few = (random.next() & random.next() & random.next() & random.next()) as u32;
+        Habits {
+            ask: 1 + random.below(8),
+            give_up: random.below(9),
+            give_back: random.below(9),
+            asleep: random.pick(&[0, 0, few]),
+            stray: random.pick(&[5, 30, 200]),
+        }
+    }
+}
+
+/// A sketch of the hub, to choose calls that make sense. Nothing is judged by it: where it is
+/// wrong, more calls are refused.
+pub struct House {
+    phases: Vec<Phase>,
+    counter: i64,
+    places: Vec<Place>,
+    numbered: Number,
+    handed: Number,
+    oldest: Number,
+}
+
+impl House {
+    pub fn new(permits: u8, parties: u8) -> Self {
+        House {
+            phases: vec![Phase::Free; usize::from(parties)],
+            counter: i64::from(permits),
+            places: vec![Place::Empty],
+            numbered: 0,
+            handed: 0,
+            oldest: 0,
+        }
+    }
+
+    /// The next call.
+    pub fn call(&mut self, random: &mut Random, habits: &Habits) -> [u8; 2] {
+        let call = if random.one_in(habits.stray) {
+            self.any_call(random)
+        } else {
+            self.sensible_call(random, habits)
+        };
+        if usize::from(call[1]) < self.phases.len() {
+            self.follow(call[0], usize::from(call[1]));
+        }
+        call
+    }
+
+    fn any_call(&self, random: &mut Random) -> [u8; 2] {
+        let parties = self.phases.len() as u64;
+        let party = match random.below(12) {
+            0 => random.byte(),
+            1 => parties as u8,
+            _ => random.below(parties) as u8,
+        };
+        [random.pick(&[ASK, STEP, GIVE_UP, GIVE_BACK]), party]
+    }
+
+    fn sensible_call(&self, random: &mut Random, habits: &Habits) -> [u8; 2] {
+        for _ in 0..8 {
+            let party = random.below(self.phases.len() as u64) as usize;
+            if habits.asleep >> party & 1 == 1 && !random.one_in(500) {
+                continue;
+            }
+            let (code, eager) = match self.phases[party] {
+                Phase::Free => (ASK, habits.ask),
+                Phase::Waiting(_) => (GIVE_UP, habits.give_up),
+                Phase::Holding => (GIVE_BACK, habits.give_back),
+                _ => (STEP, 8),
+            };
+            if random.below(8) < eager {
+                return [code, party as u8];
+            }
+        }
+        // nobody seems to want anything
+        self.any_call(random)
+    }
+
+    fn follow(&mut self, code: u8, party: usize) {
+        let phase = match (code, self.phases[party]) {
+            (ASK, Phase::Free) if self.has_room() => Phase::Asked,
+            (GIVE_UP, Phase::Waiting(t)) if party < 30 => Phase::GivingUp(t),
+            (GIVE_BACK, Phase::Holding) => Phase::GivingBack,
+            (STEP, phase) => self.stepped(phase, party),
+            (_, phase) => phase,
+        };
+        self.phases[party] = phase;
+        self.places.resize(self.numbered.max(self.handed) + 1, Place::Empty);
+        while self.places[self.handed] == Place::Cancelled {
+            self.places[self.handed] = Place::Done;
+            self.handed += 1;
+        }
+        while self.places[self.oldest] == Place::Done {
+            self.oldest += 1;
+        }
+    }
+
+    fn has_room(&self) -> bool {
+        let claims = |phase: &&Phase| matches!(phase, Phase::Asked | Phase::Unnumbered);
+        self.numbered + self.phases.iter().filter(claims).count() < self.oldest + 256
+    }
+
+    fn stepped(&mut self, phase: Phase, party: usize) -> Phase {
+        let before = self.counter;
+        let (t, place, next) = match phase {
+            Phase::Free | Phase::Holding | Phase::Waiting(_) => return phase,
+            Phase::Asked => {
+                self.counter -= 1;
+                return if before > 0 { Phase::Holding } else { Phase::Unnumbered };
+            }
+            Phase::GivingBack => {
+                self.counter += 1;
+                return if before >= 0 { Phase::Free } else { Phase::Carrying };
+            }
+            Phase::GivingUp(t) => {
+                self.counter += 1;
+                return if before < 0 { Phase::Cancelling(t) } else { Phase::Refusing(t) };
+            }
+            Phase::Unnumbered => {
+                self.numbered += 1;
+                return Phase::Numbered(self.numbered - 1);
+            }
+            Phase::Carrying => {
+                self.handed += 1;
+                return Phase::Handing(self.handed - 1);
+            }
+            Phase::Numbered(t) => match self.places[t] {
+                Place::Link => (t, Place::Done, Phase::Holding),
+                _ => (t, Place::Waiting(party), Phase::Waiting(t)),
+            },
+            Phase::Handing(t) => match self.places[t] {
+                Place::Waiting(q) if self.phases[q] == Phase::Waiting(t) => {
+                    self.phases[q] = Phase::Holding;
+                    (t, Place::Done, Phase::Free)
+                }
+                Place::Cancelled => (t, Place::Done, Phase::Carrying),
+                Place::Refused => (t, Place::Done, Phase::Free),
+                _ => (t, Place::Link, Phase::Free),
+            },
+            Phase::Cancelling(t) => match self.places[t] {
+                Place::Link => (t, Place::Done, Phase::Carrying),
+                _ => (t, Place::Cancelled, Phase::Free),
+            },
+            Phase::Refusing(t) => match self.places[t] {
+                Place::Link => (t, Place::Done, Phase::Free),
+                _ => (t, Place::Refused, Phase::Free),
+            },
+        };
+        self.places[t] = place;
+        next
+    }
+}
+
+/// One of many kinds of schedule, of at most about `most` calls.
+pub fn schedule(random: &mut Random, most: u64) -> Schedule {
+    if random.one_in(40) {
+        // any opening, near the bounds or far from them
+        let bound = |random: &mut Random| {
+            let any = random.byte();
+            random.pick(&[0, 1, 31, 32, 33, any])
+        };
+        let (permits, parties) = (bound(random), bound(random));
+        let mut schedule = Schedule { permits, parties, calls: Vec::new() };
+        let mut house = House::new(permits, parties.clamp(1, 32));
+        schedule.live(random, &mut house, most / 8);
+        return schedule;
+    }
+    if random.one_in(30) && most >= 4000 {
+        return long_wait(random);
+    }
+    // few links and few parties meet most often; kind 3 needs a full house
+    let up_to = |random: &mut Random, most: &[u64]| {
+        let most = random.pick(most);
+        1 + random.below(most) as u8
+    };
+    let permits = up_to(random, &[1, 2, 4, 32]);
+    let parties = if random.one_in(6) { 32 } else { up_to(random, &[4, 8, 32]) };
+    let mut schedule = Schedule { permits, parties, calls: Vec::new() };
+    let total = if random.one_in(8) { most } else { 10 + random.below(most / 8) };
+    schedule.live(random, &mut House::new(permits, parties), total);
+    schedule
+}
+
+/// One party sleeps on the only link, one on the first wait; the others ask and give up until
+/// the places run out, and try again now and then; then the two wake up.
+fn long_wait(random: &mut Random) -> Schedule {
+    let parties = 3 + random.below(30) as u8;
+    let mut house = House::new(1, parties);
+    let mut schedule = Schedule { permits: 1, parties, calls: Vec::new() };
+    for call in [[ASK, 0], [STEP, 0], [ASK, 1], [STEP, 1], [STEP, 1], [STEP, 1]] {
+        house.follow(call[0], usize::from(call[1]));
+        schedule.calls.push(call);
+    }
+    let mut habits = Habits { ask: 8, give_up: 8, give_back: 0, asleep: 0b11, stray: 50 };
+    let calls = 1000 + random.below(3000);
+    schedule.calls.extend((0..calls).map(|_| house.call(random, &habits)));
+    habits = Habits { asleep: 0, give_back: 6, give_up: random.below(8), ..habits };
+    schedule.calls.extend((0..600).map(|_| house.call(random, &habits)));
+    schedule
+}
+
+impl Schedule {
+    /// Adds calls; what parties like to do changes on the way.
+    pub fn live(&mut self, random: &mut Random, house: &mut House, total: u64) {
+        let mut habits = Habits::any(random);
+        for _ in 0..total {
+            if random.one_in(300) {
+                habits = Habits::any(random);
+            }
+            self.calls.push(house.call(random, &habits));
+        }
+    }
+
+    /// The schedule as the program reads it, without line feeds.
+    pub fn lines(&self) -> Vec<String> {
+        let opening = hex(&[1, self.permits, self.parties]);
+        let calls = self.calls.iter().map(|call| hex(call));
+        [opening].into_iter().chain(calls).collect()
+    }
+}
+
+pub fn hex(bytes: &[u8]) -> String {
+    bytes.iter().map(|byte| format!("{byte:02X}")).collect()
+}
+
+/// How often each answer and refusal was met.
+pub struct Seen([u64; 256]);
+
+impl Seen {
+    pub fn nothing() -> Self {
+        Seen([0; 256])
+    }
+
+    pub fn count(&mut self, code: u8) {
+        self.0[usize::from(code)] += 1;
+    }
+
+    /// Prints the counts; false if one of those expected is missing.
+    pub fn shows(&self, expected: impl Iterator<Item = u8>) -> bool {
+        let met = (0..=255u8).filter(|&code| self.0[usize::from(code)] > 0);
+        let counts: Vec<String> =
+            met.map(|code| format!("{code:02X} {}", self.0[usize::from(code)])).collect();
+        for row in counts.chunks(6) {
+            println!("  {}", row.join(", "));
+        }
+        let missing: Vec<u8> = expected.filter(|&code| self.0[usize::from(code)] == 0).collect();
+        if !missing.is_empty() {
+            println!("never met: {missing:02X?}");
+        }
+        missing.is_empty()
+    }
+}
