@@ -26,7 +26,8 @@ use hub::record::PlaceSlot;
 ghost use mathlib.Core.Path.{_≡_};
 ghost use Rattle.hub.specs.Calls.{called};
 
-// Check, look, decide, apply, tidy: all in one, for a record that is handed on is copied.
+// Any of the four. Check, look, decide, apply, tidy stand in one function, since a record that is
+// handed on is copied; what goes to other functions is small.
 pub fn call(mut hub: Hub, op: Op, party: u8) -> Outcome
     ensures { λ r. ⌜ r ≡ called hub (record { op = op; party = party }) ⌝ }
 {
@@ -42,6 +43,7 @@ pub fn call(mut hub: Hub, op: Op, party: u8) -> Outcome
             hub,
         };
     }
+    // what the party sees
     let p = party as usize;
     let slot = hub.slots[p];
     let phase = slot.phase;
@@ -73,6 +75,7 @@ pub fn call(mut hub: Hub, op: Op, party: u8) -> Outcome
             hub,
         };
     }
+    // what the move changes
     let c = change_of(m, s);
     let woke = woken(m);
     if woke < 32 {
@@ -92,6 +95,7 @@ pub fn call(mut hub: Hub, op: Op, party: u8) -> Outcome
     hub.resumed = c.resumed;
     hub.begun = c.begun;
     let answer = c.answer;
+    // the tidying, if there is any
     let r = (hub.resumed % Hub::PLACES) as usize;
     let o = (hub.oldest % Hub::PLACES) as usize;
     let ahead = hub.places[r];
