@@ -7,12 +7,14 @@ use hub::Op;
 use hub::Outcome;
 use hub::PartySlot;
 use hub::PlaceSlot;
+use step::calls::call;
 ghost use mathlib.Core.Path.{_≡_};
 ghost use Rattle.hub.specs.declared.moves.Op.{Op};
 ghost use Rattle.hub.specs.Calls.{called};
 ghost use Rattle.board.specs.Fields.{ofFields};
 
-fn acquire_fields(
+fn call_fields(
+    op: Op,
     party: u8,
     permits: u8,
     parties: u8,
@@ -26,7 +28,7 @@ fn acquire_fields(
 ) -> Outcome
     ensures { λ r. ⌜ r ≡ called
         (ofFields permits parties counter issued resumed begun oldest places slots)
-        (record { op = Op.Acquire; party = party }) ⌝ }
+        (record { op = op; party = party }) ⌝ }
 {
     let hub = Hub {
         permits,
@@ -39,14 +41,15 @@ fn acquire_fields(
         places,
         slots,
     };
-    step::calls::acquire(hub, party)
+    call(hub, op, party)
 }
 
 pub fn acquire(hub: &mut Hub, party: u8) -> Answer
     ensures { λ r. ⌜ (r ≡ called (now (hub .entry)) (record { op = Op.Acquire; party = party }) .answer)
         × (now (hub .exit) ≡ called (now (hub .entry)) (record { op = Op.Acquire; party = party }) .hub) ⌝ }
 {
-    let o = acquire_fields(
+    let o = call_fields(
+        Op::Acquire,
         party,
         hub.permits,
         hub.parties,
@@ -60,43 +63,14 @@ pub fn acquire(hub: &mut Hub, party: u8) -> Answer
     );
     *hub = o.hub;
     o.answer
-}
-
-fn step_fields(
-    party: u8,
-    permits: u8,
-    parties: u8,
-    counter: i32,
-    issued: u32,
-    resumed: u32,
-    begun: u32,
-    oldest: u32,
-    places: [PlaceSlot; 256],
-    slots: [PartySlot; 32],
-) -> Outcome
-    ensures { λ r. ⌜ r ≡ called
-        (ofFields permits parties counter issued resumed begun oldest places slots)
-        (record { op = Op.Step; party = party }) ⌝ }
-{
-    let hub = Hub {
-        permits,
-        parties,
-        counter,
-        issued,
-        resumed,
-        begun,
-        oldest,
-        places,
-        slots,
-    };
-    step::calls::step(hub, party)
 }
 
 pub fn step(hub: &mut Hub, party: u8) -> Answer
     ensures { λ r. ⌜ (r ≡ called (now (hub .entry)) (record { op = Op.Step; party = party }) .answer)
         × (now (hub .exit) ≡ called (now (hub .entry)) (record { op = Op.Step; party = party }) .hub) ⌝ }
 {
-    let o = step_fields(
+    let o = call_fields(
+        Op::Step,
         party,
         hub.permits,
         hub.parties,
@@ -110,43 +84,14 @@ pub fn step(hub: &mut Hub, party: u8) -> Answer
     );
     *hub = o.hub;
     o.answer
-}
-
-fn cancel_fields(
-    party: u8,
-    permits: u8,
-    parties: u8,
-    counter: i32,
-    issued: u32,
-    resumed: u32,
-    begun: u32,
-    oldest: u32,
-    places: [PlaceSlot; 256],
-    slots: [PartySlot; 32],
-) -> Outcome
-    ensures { λ r. ⌜ r ≡ called
-        (ofFields permits parties counter issued resumed begun oldest places slots)
-        (record { op = Op.Cancel; party = party }) ⌝ }
-{
-    let hub = Hub {
-        permits,
-        parties,
-        counter,
-        issued,
-        resumed,
-        begun,
-        oldest,
-        places,
-        slots,
-    };
-    step::calls::cancel(hub, party)
 }
 
 pub fn cancel(hub: &mut Hub, party: u8) -> Answer
     ensures { λ r. ⌜ (r ≡ called (now (hub .entry)) (record { op = Op.Cancel; party = party }) .answer)
         × (now (hub .exit) ≡ called (now (hub .entry)) (record { op = Op.Cancel; party = party }) .hub) ⌝ }
 {
-    let o = cancel_fields(
+    let o = call_fields(
+        Op::Cancel,
         party,
         hub.permits,
         hub.parties,
@@ -162,41 +107,12 @@ pub fn cancel(hub: &mut Hub, party: u8) -> Answer
     o.answer
 }
 
-fn release_fields(
-    party: u8,
-    permits: u8,
-    parties: u8,
-    counter: i32,
-    issued: u32,
-    resumed: u32,
-    begun: u32,
-    oldest: u32,
-    places: [PlaceSlot; 256],
-    slots: [PartySlot; 32],
-) -> Outcome
-    ensures { λ r. ⌜ r ≡ called
-        (ofFields permits parties counter issued resumed begun oldest places slots)
-        (record { op = Op.Release; party = party }) ⌝ }
-{
-    let hub = Hub {
-        permits,
-        parties,
-        counter,
-        issued,
-        resumed,
-        begun,
-        oldest,
-        places,
-        slots,
-    };
-    step::calls::release(hub, party)
-}
-
 pub fn release(hub: &mut Hub, party: u8) -> Answer
     ensures { λ r. ⌜ (r ≡ called (now (hub .entry)) (record { op = Op.Release; party = party }) .answer)
         × (now (hub .exit) ≡ called (now (hub .entry)) (record { op = Op.Release; party = party }) .hub) ⌝ }
 {
-    let o = release_fields(
+    let o = call_fields(
+        Op::Release,
         party,
         hub.permits,
         hub.parties,

@@ -1,7 +1,7 @@
 -- Records and sights of which only some fields matter: a clause that reads no others says the
 -- same of them as of the whole record.
-use Prim.Native.Nat.{ℕ}
-use mathlib.Core.Bool.{Bool, false, _&&_, _||_}
+use Prim.Native.Nat.{ℕ, _+_, _-_, _%_}
+use mathlib.Core.Bool.{Bool, true, false, _&&_, _||_}
 use mathlib.Core.List.{[]}
 use lib.Dec.{ltb}
 use lib.IntN.{ℤ, pos}
@@ -11,6 +11,7 @@ use Rattle.hub.specs.declared.record.Phase.{Phase}
 use Rattle.hub.specs.declared.record.Place.{Place}
 use Rattle.hub.specs.Fits.{ticketFits, isListed}
 use Rattle.hub.specs.Phases.{isFree}
+use Rattle.hub.specs.Record.{PLACES}
 use Rattle.hub.specs.Table.{step}
 
 -- A record's counts alone.
@@ -53,3 +54,12 @@ listedAt f a = isListed (step f a false false false blank)
 -- A party's clauses: p of n parties, its phase, the place of its ticket, and the record's tickets.
 abbrev pub partyTest : ℕ → ℕ → Phase → Place → Hub → Bool
 partyTest p n f a h = (ltb p n || isFree f) && ticketFits h f && listedAt f a
+
+-- The ticket of the window whose place is at index i: the window begins at the oldest, and where
+-- the ring ends it goes on at index 0.
+abbrev pub ticketIf : Bool → ℕ → ℕ → ℕ
+ticketIf true o i = o - o % PLACES + i + PLACES
+ticketIf false o i = o - o % PLACES + i
+
+unfoldable pub ticketAt : ℕ → ℕ → ℕ
+ticketAt o i = ticketIf (ltb i (o % PLACES)) o i

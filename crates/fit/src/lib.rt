@@ -8,13 +8,11 @@ use hub::record::Phase;
 use hub::record::Place;
 ghost use mathlib.Core.Path.{_≡_};
 ghost use mathlib.Core.Bool.{_||_};
-ghost use Prim.Native.Nat.{_≤_};
+ghost use Prim.Native.Nat.{_≤_, _<_};
 ghost use lib.Dec.{ltb};
-ghost use Rattle.hub.specs.Basics.{upTo32, allFrom};
-ghost use Rattle.hub.specs.Fits.{counterFits, countsFit, inWindow, ticketFits};
-ghost use Rattle.hub.specs.Fits.{partyFits, placeFits, standsAt};
+ghost use Rattle.hub.specs.Fits.{counterFits, countsFit, inWindow, ticketFits, standsAt};
 ghost use Rattle.hub.specs.Phases.{isFree, ticketOf};
-ghost use Rattle.fit.specs.Parts.{scalars, windowed, listedAt, partyTest};
+ghost use Rattle.fit.specs.Parts.{scalars, windowed, listedAt, partyTest, ticketAt};
 
 // −32 to 32.
 fn counter_fits(counter: i32) -> bool
@@ -154,31 +152,6 @@ fn party_fits(
     listed(phase, place)
 }
 
-// All 32 parties.
-fn parties_fit(hub: Hub) -> bool
-    requires { ⌜ hub .oldest ≤ 1000000 ⌝ }
-    ensures { λ r. ⌜ r ≡ allFrom (partyFits hub) 0 32 ⌝ }
-{
-    let parties = hub.parties;
-    let issued = hub.issued;
-    let resumed = hub.resumed;
-    let oldest = hub.oldest;
-    let mut p: usize = 0;
-    while p < 32 {
-        let slot = hub.slots[p];
-        let phase = slot.phase;
-        let t = ticket(phase);
-        let i = (t % Hub::PLACES) as usize;
-        let seat = hub.places[i];
-        let place = seat.place;
-        if !party_fits(p, parties, phase, t, place, issued, resumed, oldest) {
-            return false;
-        }
-        p += 1;
-    }
-    true
-}
-
 // Is the phase one of a party that stands at ticket t?
 fn stands_at(phase: Phase, t: u32) -> bool
     ensures { λ r. ⌜ r ≡ standsAt phase t ⌝ }
@@ -192,35 +165,21 @@ fn stands_at(phase: Phase, t: u32) -> bool
     }
 }
 
-// The places of all 256 tickets.
-fn places_fit(hub: Hub) -> bool
-    requires { ⌜ hub .oldest ≤ 1000000 ⌝ }
-    ensures { λ r. ⌜ r ≡ allFrom (placeFits hub) (hub .oldest) 256 ⌝ }
+// The ticket whose place is at index i.
+fn ticket_at(oldest: u32, i: usize) -> u32
+    requires { ⌜ (oldest ≤ 1000000) × (i < 256) ⌝ }
+    ensures { λ r. ⌜ r ≡ ticketAt oldest i ⌝ }
 {
-    let oldest = hub.oldest;
-    let mut j: u32 = 0;
-    while j < Hub::PLACES {
-        let t = oldest + j;
-        let i = (t % Hub::PLACES) as usize;
-        let seat = hub.places[i];
-        let place = seat.place;
-        if let Place::Waiting(q) = place {
-            if 32 <= q {
-                return false;
-            }
-            let w = q as usize;
-            let slot = hub.slots[w];
-            let phase = slot.phase;
-            if !stands_at(phase, t) {
-                return false;
-            }
-        }
-        j += 1;
+    let first = oldest % Hub::PLACES;
+    let k = i as u32;
+    if k < first {
+        return oldest - first + k + Hub::PLACES;
     }
-    true
+    oldest - first + k
 }
 
-// Does the record fit?
+// Does the record fit? Parties that are free are passed over, and the places are gone through by
+// index, eight in a turn, so that little is done for each.
 pub fn fits(hub: Hub) -> bool
     ensures { λ r. ⌜ r ≡ Rattle.hub.specs.Fits.fits hub ⌝ }
 {
@@ -235,8 +194,48 @@ pub fn fits(hub: Hub) -> bool
     ) {
         return false;
     }
-    if !parties_fit(hub) {
-        return false;
+    let parties = hub.parties;
+    let issued = hub.issued;
+    let resumed = hub.resumed;
+    let oldest = hub.oldest;
+    let mut p: usize = 0;
+    while p < 32 {
+        let slot = hub.slots[p];
+        let phase = slot.phase;
+        if is_free(phase) {
+            p += 1;
+            continue;
+        }
+        let t = ticket(phase);
+        let i = (t % Hub::PLACES) as usize;
+        let seat = hub.places[i];
+        let place = seat.place;
+        if !party_fits(p, parties, phase, t, place, issued, resumed, oldest) {
+            return false;
+        }
+        p += 1;
     }
-    places_fit(hub)
+    let mut j: usize = 0;
+    while j < 32 {
+        let mut k: usize = 0;
+        while k < 8 {
+            let i = 8 * j + k;
+            let seat = hub.places[i];
+            let place = seat.place;
+            if let Place::Waiting(q) = place {
+                if 32 <= q {
+                    return false;
+                }
+                let w = q as usize;
+                let slot = hub.slots[w];
+                let phase = slot.phase;
+                if !stands_at(phase, ticket_at(oldest, i)) {
+                    return false;
+                }
+            }
+            k += 1;
+        }
+        j += 1;
+    }
+    true
 }

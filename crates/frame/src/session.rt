@@ -44,9 +44,9 @@ pub fn feed(session: Session, piece: &[u8], requests: &mut [u8], out: &mut [u8])
     requires { ⌜ 3 * length (now piece) ≤ length (now requests) ⌝ }
     requires { ⌜ 15 * length (asked (session .reader) (now piece)) ≤ length (now out) ⌝ }
     ensures { λ r. ⌜ (r ≡ record {
-          session = fed session (now (piece .entry));
-          lines = length (asked (session .reader) (now (piece .entry)));
-        })
+      session = fed session (now (piece .entry));
+      lines = length (asked (session .reader) (now (piece .entry)));
+    })
         × (now (requests .exit)
         ≡ written (asked (session .reader) (now (piece .entry))) (now (requests .entry)))
         × (now (out .exit) ≡ told session (now (piece .entry))

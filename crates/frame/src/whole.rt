@@ -57,12 +57,7 @@ fn write_output(input: &[u8], requests: &mut [u8], out: &mut [u8])
     while from < input.len() {
         let to = piece_end(from, input.len());
         let at = 15 * lines;
-        let fed = feed(
-            session,
-            &input[from..to],
-            requests,
-            &mut out[at..end],
-        );
+        let fed = feed(session, &input[from..to], requests, &mut out[at..end]);
         let next = fed.session;
         session = next;
         lines += fed.lines;

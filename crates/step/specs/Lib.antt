@@ -1,3 +1,3 @@
 -- What the functions of this crate speak of besides the definitions of the crate hub.
-pub mod Seen
+pub mod Moves
 pub mod Ranked

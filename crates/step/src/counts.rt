@@ -63,7 +63,7 @@ fn one_if(x: u8, a: u8, b: u8) -> u32
 }
 
 // The parties in one of two phases.
-pub fn count_phases(slots: [PartySlot; 32], a: u8, b: u8) -> u32
+pub(crate) fn count_phases(slots: [PartySlot; 32], a: u8, b: u8) -> u32
     ensures { λ r. ⌜ (r ≡ count (ofRanks a b) (phasesOf slots)) × (r ≤ 32) ⌝ }
 {
     let mut n: u32 = 0;

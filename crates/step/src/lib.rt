@@ -3,6 +3,6 @@
 mod sight; // what a call looks at
 pub mod counts; // what a record shows
 mod room; // refusal 7
+mod moves; // what a call decides, taken apart
 mod reclaim; // the tidying
-mod apply; // a move made
 pub mod calls; // the four calls

@@ -4,6 +4,7 @@ use hub::record::Hub;
 use hub::record::Place;
 use hub::record::PlaceSlot;
 ghost use mathlib.Core.Path.{_≡_};
+ghost use mathlib.Core.Bool.{_||_};
 ghost use Prim.Native.Nat.{_≤_};
 ghost use Rattle.hub.specs.Phases.{isCancelled, isDone};
 ghost use Rattle.hub.specs.Reclaim.{reclaimed};
@@ -24,6 +25,16 @@ fn is_done(place: Place) -> bool
         Place::Done => true,
         _ => false,
     }
+}
+
+// Is there anything to tidy, by the places of the next ticket to resume and of the oldest?
+pub(crate) fn is_untidy(next: Place, first: Place) -> bool
+    ensures { λ r. ⌜ r ≡ (isCancelled next || isDone first) ⌝ }
+{
+    if is_cancelled(next) {
+        return true;
+    }
+    is_done(first)
 }
 
 // Passes the cancelled places at the next ticket to resume.
@@ -74,7 +85,7 @@ fn retire_done(mut hub: Hub) -> Hub
     hub
 }
 
-pub fn reclaim(hub: Hub) -> Hub
+pub(crate) fn reclaim(hub: Hub) -> Hub
     requires { ⌜ hub .oldest ≤ 1000000 ⌝ }
     ensures { λ r. ⌜ r ≡ reclaimed hub ⌝ }
 {

@@ -2,16 +2,16 @@
 
 use crate::counts::count_phases;
 use hub::record::Hub;
+use hub::record::PartySlot;
 ghost use mathlib.Core.Path.{_≡_};
 ghost use Prim.Native.Nat.{_≤_};
-ghost use Rattle.hub.specs.Calls.{isFull};
+ghost use Rattle.step.specs.Moves.{fullOf};
 
-pub fn is_full(hub: Hub) -> bool
-    requires { ⌜ (hub .oldest ≤ 1000000) × (hub .issued ≤ 1000000) ⌝ }
-    ensures { λ r. ⌜ r ≡ isFull hub ⌝ }
+pub(crate) fn is_full(oldest: u32, issued: u32, slots: [PartySlot; 32]) -> bool
+    requires { ⌜ (oldest ≤ 1000000) × (issued ≤ 1000000) ⌝ }
+    ensures { λ r. ⌜ r ≡ fullOf oldest issued slots ⌝ }
 {
-    let slots = hub.slots;
     // asked and unnumbered
     let drawing = count_phases(slots, 3, 4);
-    hub.oldest + Hub::PLACES <= hub.issued + drawing
+    oldest + Hub::PLACES <= issued + drawing
 }

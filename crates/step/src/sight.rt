@@ -1,31 +1,13 @@
-// What a call of one party looks at.
+// What a call of one party looks at, from the slots and the place that it reads.
 
-use hub::kinds::kind;
-use hub::moves::Sight;
-use hub::phases::ticket;
-use hub::record::Hub;
-use hub::record::PartySlot;
 use hub::record::Phase;
 use hub::record::Place;
 ghost use mathlib.Core.Path.{_≡_};
-ghost use Rattle.hub.specs.Fits;
 ghost use Rattle.hub.specs.Phases.{byTicket, byWaiter};
-ghost use Rattle.hub.specs.Record.{readPhase};
-
-// The phase of a party; free past the 32 slots.
-fn phase_of(slots: [PartySlot; 32], party: u32) -> Phase
-    ensures { λ r. ⌜ r ≡ readPhase slots party ⌝ }
-{
-    let p = party as usize;
-    if p < 32 {
-        let slot = slots[p];
-        return slot.phase;
-    }
-    Phase::Free
-}
+ghost use Rattle.step.specs.Moves.{within};
 
 // The place at hand for a phase that has a ticket; empty for one that has none.
-fn place_for(phase: Phase, place: Place) -> Place
+pub(crate) fn place_for(phase: Phase, place: Place) -> Place
     ensures { λ r. ⌜ r ≡ byTicket Place.Empty (λ t. place) phase ⌝ }
 {
     match phase {
@@ -39,35 +21,22 @@ fn place_for(phase: Phase, place: Place) -> Place
     }
 }
 
-// The phase of the party that waits at a place; free where none does.
-fn waiter_of(place: Place, slots: [PartySlot; 32]) -> Phase
-    ensures { λ r. ⌜ r ≡ byWaiter Phase.Free (readPhase slots) place ⌝ }
+// The party that waits at a place; the first number past the slots where none does.
+pub(crate) fn waiter_at(place: Place) -> u32
+    ensures { λ r. ⌜ r ≡ byWaiter 32 (λ q. q) place ⌝ }
 {
     match place {
-        Place::Waiting(q) => phase_of(slots, q),
-        _ => Phase::Free,
+        Place::Waiting(q) => q,
+        _ => 32,
     }
 }
 
-pub fn look(hub: Hub, party: u8) -> Sight
-    ensures { λ r. ⌜ r ≡ Fits.look hub party ⌝ }
+// The phase of party q, which is the one at hand if there is such a party; free past the slots.
+pub(crate) fn phase_within(q: u32, phase: Phase) -> Phase
+    ensures { λ r. ⌜ r ≡ within q phase ⌝ }
 {
-    let slots = hub.slots;
-    let phase = phase_of(slots, party as u32);
-    let i = (ticket(phase) % Hub::PLACES) as usize;
-    let slot = hub.places[i];
-    let there = slot.place;
-    let place = place_for(phase, there);
-    let waiter = waiter_of(place, slots);
-    Sight {
-        party,
-        kind: kind(party),
-        phase,
-        place,
-        waiter,
-        counter: hub.counter,
-        issued: hub.issued,
-        resumed: hub.resumed,
-        begun: hub.begun,
+    if q < 32 {
+        return phase;
     }
+    Phase::Free
 }

@@ -1,5 +1,5 @@
 -- Figures that leave room for one more: what the code may assume of a record that fits.
-use Prim.Native.Nat.{ℕ, _≤_}
+use Prim.Native.Nat.{_≤_}
 use mathlib.Core.Path.{_≡_}
 use mathlib.Core.Bool.{true}
 use lib.IntN.{ℤ}

@@ -12,7 +12,7 @@ ghost use Rattle.hub.specs.Table.{turn, put, tell};
 ghost use Rattle.table.specs.Small.{CounterFits};
 
 // The party's phase changes.
-pub fn turned(phase: Phase, answer: Answer, s: Sight) -> Move
+pub(crate) fn turned(phase: Phase, answer: Answer, s: Sight) -> Move
     ensures { λ r. ⌜ r ≡ turn phase answer s ⌝ }
 {
     let place = s.place;
@@ -28,7 +28,7 @@ pub fn turned(phase: Phase, answer: Answer, s: Sight) -> Move
 }
 
 // So does the place of its ticket.
-pub fn placed(place: Place, phase: Phase, answer: Answer, s: Sight) -> Move
+pub(crate) fn placed(place: Place, phase: Phase, answer: Answer, s: Sight) -> Move
     ensures { λ r. ⌜ r ≡ put place phase answer s ⌝ }
 {
     Move::Act(Change {
@@ -43,7 +43,7 @@ pub fn placed(place: Place, phase: Phase, answer: Answer, s: Sight) -> Move
 }
 
 // So does the counter: one taken off, one added.
-pub fn taken(phase: Phase, answer: Answer, s: Sight) -> Move
+pub(crate) fn taken(phase: Phase, answer: Answer, s: Sight) -> Move
     requires { ⌜ CounterFits (s .counter) ⌝ }
     ensures { λ r. ⌜ r ≡ tell (predℤ (s .counter)) phase answer s ⌝ }
 {
@@ -60,7 +60,7 @@ pub fn taken(phase: Phase, answer: Answer, s: Sight) -> Move
     })
 }
 
-pub fn given(phase: Phase, answer: Answer, s: Sight) -> Move
+pub(crate) fn given(phase: Phase, answer: Answer, s: Sight) -> Move
     requires { ⌜ CounterFits (s .counter) ⌝ }
     ensures { λ r. ⌜ r ≡ tell (sucℤ (s .counter)) phase answer s ⌝ }
 {

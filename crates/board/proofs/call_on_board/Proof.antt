@@ -38,7 +38,7 @@ use mir.Val.{Val, WT, hasTy, vint, vptr}
 use base.Logic.{SProp, ent, emp, via, fst∗}
 use base.Fml.{GName, ftrue, fat, froom, fdies}
 use prog.Model.{Model}
-use prog.Wp.{Heap, Env, Calls, Loops, Wp, WpFn, Tables, next, afterSeq, atReturn, spotOf}
+use prog.Wp.{Closed, Heap, Env, Calls, Loops, Wp, WpFn, Tables, next, afterSeq, atReturn, spotOf}
 use ghost.Atoms.{Atoms}
 use contract.Notation as Notation
 use contract.Running.{GhostRules, Running, givenOf, tables, tablesOf}
@@ -145,8 +145,7 @@ use Rattle.hub.proofs.record.Hub as T
 use Rattle.hub.proofs.record.Hub.Laws as T′
 use Rattle.hub.proofs.record.Outcome as R
 use Rattle.hub.proofs.record.Outcome.Laws as R′
-use Rattle.hub.specs.Calls.{called}
-use Rattle.board.proofs.Shell.{answerVal, hubVal, outcomeVal, parts, Shell}
+use Rattle.board.proofs.Shell.{answerVal, by-op, hubVal, outcomeVal, parts, Shell}
 use Rattle.board.proofs.Lent.{to-shell, loan, lends, comes-back}
 use Rattle.board.proofs.acquire.Symbol as acquire
 use Rattle.board.proofs.acquire.Met as acquire-thm
@@ -161,12 +160,13 @@ use Rattle.board.proofs.call_on_board as on
 use Rattle.board.proofs.call_on_board.Statement.{statement}
 use Rattle.board.proofs.call_on_board.Code as code
 
--- the shell that an operation calls, and the local that the reference for it is in
-abbrev key : Op → Name
-key Op.Acquire = acquire.name
-key Op.Step = step.name
-key Op.Cancel = cancel.name
-key Op.Release = release.name
+-- the shell that an operation calls, of four that are named, and the local that the reference for it
+-- is in
+abbrev keys : Name → Name → Name → Name → Op → Name
+keys a s c r Op.Acquire = a
+keys a s c r Op.Step = s
+keys a s c r Op.Cancel = c
+keys a s c r Op.Release = r
 
 abbrev slot : Op → ℕ
 slot Op.Acquire = 7
@@ -175,18 +175,18 @@ slot Op.Cancel = 9
 slot Op.Release = 10
 
 -- the MIR: the arm of an operation, the match, what follows it, and the function
-abbrev calls : Op → Body
-calls o =
+abbrev calls : (Op → Name) → Op → Body
+calls key o =
     seq (assign (place (slot o) []) (addrOf (place 4 [])))
     (call (key o) (copy (place (slot o) []) ∷ copy (place 3 []) ∷ []) (place 6 []))
 
-abbrev match : Body
-match =
+abbrev match : (Op → Name) → Body
+match key =
     switch (copy (place 2 (variant 0 ∷ field 0 ∷ [])))
-    (arm (0 ∷ []) (calls Op.Acquire)
-    (arm (1 ∷ []) (calls Op.Step)
-    (arm (2 ∷ []) (calls Op.Cancel)
-    (arm (3 ∷ []) (calls Op.Release) noDefault))))
+    (arm (0 ∷ []) (calls key Op.Acquire)
+    (arm (1 ∷ []) (calls key Op.Step)
+    (arm (2 ∷ []) (calls key Op.Cancel)
+    (arm (3 ∷ []) (calls key Op.Release) noDefault))))
 
 abbrev rest : Body
 rest =
@@ -197,8 +197,8 @@ rest =
 abbrev ref : Ty
 ref = tyRef erased mut (pointee (T.the-row .written))
 
-abbrev function : Fn
-function = record {
+abbrev function : (Op → Name) → Fn
+function key = record {
   lifetimes = 0;
   outlives = [];
   params = 3;
@@ -216,7 +216,7 @@ function = record {
       ∷ local ref valueLocal
       ∷ local T′.mir valueLocal
       ∷ [];
-  body = seq (assign (place 4 []) (rvOpd (copy (place 1 [])))) (seq match rest);
+  body = seq (assign (place 4 []) (rvOpd (copy (place 1 [])))) (seq (match key) rest);
 }
 
 abbrev opVal : Op → Val
@@ -264,7 +264,7 @@ module _ {M : Type 1} (𝓤 : URA M) (H : Heap 𝓤) (A : Atoms 𝓤) (W : Given
       owned ! T.the-row (Is T.the-row) (LL.makes T.the-type T′.the-plain 𝓤 H A) h _ is $ fjoin ! $ frame ! $
       owned ! R.the-row (Is R.the-row) (LL.makes R.the-type R′.the-plain 𝓤 H A) (D h o n) _ r $ done !
 
-  module _ (C : Calls 𝓤 H) (Λ : Loops 𝓤 H) (fm : FmC 𝓤 H (W .laws) C)
+  module _ (key : Op → Name) (C : Calls 𝓤 H) (Λ : Loops 𝓤 H) (fm : FmC 𝓤 H (W .laws) C)
       (known : (o : Op) → Triple 𝓤 (C (key o)) (Shell 𝓤 H A (λ z p. D z o p)))
       (l₀ l₁ l₂ l₃ l₄ l₅ l₆ l₇ l₈ l₉ l₁₀ l₁₁ : ℕ) where
     abbrev E : Env 𝓤 H
@@ -344,7 +344,7 @@ module _ {M : Type 1} (𝓤 : URA M) (H : Heap 𝓤) (A : Atoms 𝓤) (W : Given
         → Sq W
         (room (spotOf 𝓤 H E (slot o) .0) (spotOf 𝓤 H E (slot o) .1)
         ∷ cell T′.mir l₄ (hubVal h) ∷ cell (tyInt w8) l₃ (vint w8 n) ∷ room P′.mir l₆ ∷ Δ)
-        (runs C Λ E (calls o) q)
+        (runs C Λ E (calls key o) q)
     armed o Δ q ok k =
         assigns ! (addr ! (from ! (stop !))) (from ! (stop !)) (init ! 0 refl ok) $ move ! (1 ∷ []) $
         use1 W (later (some (λ (α : ℕ). some (λ (γ : GName).
@@ -366,37 +366,37 @@ module _ {M : Type 1} (𝓤 : URA M) (H : Heap 𝓤) (A : Atoms 𝓤) (W : Given
         forget ! 1 refl $ move ! (1 ∷ 0 ∷ []) $ k (e .1)))))
 
     -- the tag is a numeral in each case, and what is left computes to the arm that runs
-    matched : (o : Op) → Is O.the-row o (opVal o ∷ []) → Sq W (Before o) (runs C Λ E match (Then o))
+    matched : (o : Op) → Is O.the-row o (opVal o ∷ []) → Sq W (Before o) (runs C Λ E (match key) (Then o))
     matched Op.Acquire iso =
         switches-on ! (load ! (from ! (vrt ! refl (fld ! refl (stop !)))) (look-tag ! 18 (whole !))) $
-        exec ! C Λ E (calls Op.Acquire) (Then Op.Acquire) $ move ! (8 ∷ 14 ∷ 16 ∷ 10 ∷ []) $
+        exec ! C Λ E (calls key Op.Acquire) (Then Op.Acquire) $ move ! (8 ∷ 14 ∷ 16 ∷ 10 ∷ []) $
         armed Op.Acquire _ _ (tt, tt) (λ r.
         move ! (1 ∷ 2 ∷ 3 ∷ 4 ∷ 5 ∷ 6 ∷ 7 ∷ 8 ∷ 9 ∷ 10 ∷ 11 ∷ 0 ∷ []) $ leaves Op.Acquire iso r)
     matched Op.Step iso =
         switches-on ! (load ! (from ! (vrt ! refl (fld ! refl (stop !)))) (look-tag ! 18 (whole !))) $
-        exec ! C Λ E (calls Op.Step) (Then Op.Step) $ move ! (6 ∷ 14 ∷ 16 ∷ 10 ∷ []) $
+        exec ! C Λ E (calls key Op.Step) (Then Op.Step) $ move ! (6 ∷ 14 ∷ 16 ∷ 10 ∷ []) $
         armed Op.Step _ _ (tt, tt) (λ r.
         move ! (1 ∷ 2 ∷ 3 ∷ 4 ∷ 5 ∷ 6 ∷ 7 ∷ 8 ∷ 9 ∷ 0 ∷ []) $ leaves Op.Step iso r)
     matched Op.Cancel iso =
         switches-on ! (load ! (from ! (vrt ! refl (fld ! refl (stop !)))) (look-tag ! 18 (whole !))) $
-        exec ! C Λ E (calls Op.Cancel) (Then Op.Cancel) $ move ! (4 ∷ 14 ∷ 16 ∷ 10 ∷ []) $
+        exec ! C Λ E (calls key Op.Cancel) (Then Op.Cancel) $ move ! (4 ∷ 14 ∷ 16 ∷ 10 ∷ []) $
         armed Op.Cancel _ _ (tt, tt) (λ r.
         move ! (1 ∷ 2 ∷ 3 ∷ 4 ∷ 5 ∷ 6 ∷ 7 ∷ 0 ∷ []) $ leaves Op.Cancel iso r)
     matched Op.Release iso =
         switches-on ! (load ! (from ! (vrt ! refl (fld ! refl (stop !)))) (look-tag ! 18 (whole !))) $
-        exec ! C Λ E (calls Op.Release) (Then Op.Release) $ move ! (2 ∷ 14 ∷ 16 ∷ 10 ∷ []) $
+        exec ! C Λ E (calls key Op.Release) (Then Op.Release) $ move ! (2 ∷ 14 ∷ 16 ∷ 10 ∷ []) $
         armed Op.Release _ _ (tt, tt) (λ r.
         move ! (1 ∷ 2 ∷ 3 ∷ 4 ∷ 5 ∷ 0 ∷ []) $ leaves Op.Release iso r)
 
-  module _ (C : Calls 𝓤 H) (Λ : Loops 𝓤 H) (fm : FmC 𝓤 H (W .laws) C)
+  module _ (key : Op → Name) (C : Calls 𝓤 H) (Λ : Loops 𝓤 H) (fm : FmC 𝓤 H (W .laws) C)
       (known : (o : Op) → Triple 𝓤 (C (key o)) (Shell 𝓤 H A (λ z p. D z o p))) where
     walk :
         (o : Op) → Is O.the-row o (opVal o ∷ [])
         → ent 𝓤 (onEntry 𝓤 H A on.signature tt tt (x o) (at o))
-        (WpFn 𝓤 H C Λ function (hubVal h ∷ opVal o ∷ vint w8 n ∷ []) (Post o))
+        (WpFn 𝓤 H C Λ (function key) (hubVal h ∷ opVal o ∷ vint w8 n ∷ []) (Post o))
     walk o iso =
         qed W (‵ ftrue ∷ ‵ (owns (T.the-row ∷ O.the-row ∷ u8 ∷ []) (x o) (at o)) ∷ []) ∵ keep ! [] $
-        enter ! C Λ function (hubVal h ∷ opVal o ∷ vint w8 n ∷ []) _ $
+        enter ! C Λ (function key) (hubVal h ∷ opVal o ∷ vint w8 n ∷ []) _ $
         alloc1 ! (λ l₀. alloc1 ! (λ l₁. alloc1 ! (λ l₂. alloc1 ! (λ l₃. alloc1 ! (λ l₄. alloc1 ! (λ l₅.
         alloc1 ! (λ l₆. alloc1 ! (λ l₇. alloc1 ! (λ l₈. alloc1 ! (λ l₉. alloc1 ! (λ l₁₀. alloc1 ! (λ l₁₁.
         alloc0 ! $ params1 ! $
@@ -405,20 +405,20 @@ module _ {M : Type 1} (𝓤 : URA M) (H : Heap 𝓤) (A : Atoms 𝓤) (W : Given
         pass1 ! (init ! 16 refl (tt, record { fits = fits })) $ pass0 ! $
         assigns ! (of-opd ! (load ! (from ! (stop !)) (look ! 20 refl))) (from ! (stop !))
         (init ! 14 refl (LL.lawful T.the-type T′.the-laws 𝓤 H A W .typed h _ is .0)) $ first ! $
-        matched C Λ fm known l₀ l₁ l₂ l₃ l₄ l₅ l₆ l₇ l₈ l₉ l₁₀ l₁₁ o iso))))))))))))
+        matched key C Λ fm known l₀ l₁ l₂ l₃ l₄ l₅ l₆ l₇ l₈ l₉ l₁₀ l₁₁ o iso))))))))))))
 
 module _ {M : Type 1} (𝓤 : URA M) (H : Heap 𝓤) (A : Atoms 𝓤) (W : Given 𝓤 H A)
     (D : Hub → Op → ℕ → Outcome) where
   walks :
-      (C : Calls 𝓤 H) (Λ : Loops 𝓤 H) → FmC 𝓤 H (W .laws) C
+      (key : Op → Name) (C : Calls 𝓤 H) (Λ : Loops 𝓤 H) → FmC 𝓤 H (W .laws) C
       → ((o : Op) → Triple 𝓤 (C (key o)) (Shell 𝓤 H A (λ z p. D z o p)))
-      → Walks 𝓤 H A on.ended stayed (WpFn 𝓤 H C Λ function) (clauses 𝓤 D)
-  walks C Λ fm known =
-      walked 𝓤 H A on.ended stayed (clauses 𝓤 D) (WpFn 𝓤 H C Λ function)
+      → Walks 𝓤 H A on.ended stayed (WpFn 𝓤 H C Λ (function key)) (clauses 𝓤 D)
+  walks key C Λ fm known =
+      walked 𝓤 H A on.ended stayed (clauses 𝓤 D) (WpFn 𝓤 H C Λ (function key))
       (λ κs. (LL.vals T.the-type T′.the-laws, (EL.vals O.the-type O′.the-laws, (uint-vals w8, tt))))
       (λ κs. (LL.tells T.the-type T′.the-laws, (EL.tells O.the-type O′.the-laws, (uint-tells w8, tt))))
       (λ κs qs bounds a g are. via 𝓤 _ (fst∗ 𝓤 _ (emp 𝓤))
-      (walk 𝓤 H A W D (a .0) (a .1 .1 .0) (are .1 .1 .0 .1) (are .0) C Λ fm known (a .1 .0) (are .1 .0)))
+      (walk 𝓤 H A W D (a .0) (a .1 .1 .0) (are .1 .1 .0 .1) (are .0) key C Λ fm known (a .1 .0) (are .1 .0)))
 
   goes : AllGo 𝓤 H A W 0 (on.signature .params) (on.ended .kept) stayed
   goes =
@@ -427,19 +427,21 @@ module _ {M : Type 1} (𝓤 : URA M) (H : Heap 𝓤) (A : Atoms 𝓤) (W : Given
       (t, (o, (goes-none 𝓤 H A W 0 (λ _. u8) yes (λ κs x f. refl), tt)))
 
   meets :
-      (𝓣 : Tables 𝓤 H) → ((o : Op) → Triple 𝓤 (𝓣 .C (key o)) (Shell 𝓤 H A (λ z p. D z o p)))
-      → Meets 𝓤 H A on.signature (WpFn 𝓤 H (𝓣 .C) (𝓣 .Λ) function)
+      (key : Op → Name) (𝓣 : Tables 𝓤 H) → ((o : Op) → Triple 𝓤 (𝓣 .C (key o)) (Shell 𝓤 H A (λ z p. D z o p)))
+      → Meets 𝓤 H A on.signature (WpFn 𝓤 H (𝓣 .C) (𝓣 .Λ) (function key))
       (closing 𝓤 H A on.ended (clauses 𝓤 D))
-  meets 𝓣 known =
-      walk-meets 𝓤 H A on.ended stayed W goes (clauses 𝓤 D) (WpFn 𝓤 H (𝓣 .C) (𝓣 .Λ) function)
-      (WpFn-mono 𝓤 H (W .laws) 𝓣 function) (walks (𝓣 .C) (𝓣 .Λ) (fmOf 𝓤 H (W .laws) 𝓣) known)
-
-abbrev by-op : Hub → Op → ℕ → Outcome
-by-op h o p = called h (record { op = o; party = p })
+  meets key 𝓣 known =
+      walk-meets 𝓤 H A on.ended stayed W goes (clauses 𝓤 D) (WpFn 𝓤 H (𝓣 .C) (𝓣 .Λ) (function key))
+      (WpFn-mono 𝓤 H (W .laws) 𝓣 (function key))
+      (walks key (𝓣 .C) (𝓣 .Λ) (fmOf 𝓤 H (W .laws) 𝓣) known)
 
 module _ {M : Type 1} (𝓤 : URA M) (H : Heap 𝓤) (𝓜 : Model 𝓤 H) (𝓖 : GhostRules 𝓤 H)
     (𝓡 : Running 𝓤 H 𝓜) where
-  shells : (o : Op) → Triple 𝓤 (tables 𝓤 H 𝓜 𝓡 code.env .C (key o)) (Shell 𝓤 H (𝓖 .A) (λ z p. by-op z o p))
+  -- what is known of a shell
+  abbrev Known : Name → Op → Type 1
+  Known k o = Triple 𝓤 (tables 𝓤 H 𝓜 𝓡 code.env .C k) (Shell 𝓤 H (𝓖 .A) (λ z p. by-op z o p))
+
+  shells : (o : Op) → Known (keys acquire.name step.name cancel.name release.name o) o
   shells Op.Acquire =
       cited 𝓤 H (Shell 𝓤 H (𝓖 .A) (λ z p. by-op z Op.Acquire p)) 𝓜 𝓡 code.env acquire.name acquire.routine
       code.calls-board·acquire (acquire-thm.met 𝓤 H 𝓜 𝓖 𝓡)
@@ -453,10 +455,22 @@ module _ {M : Type 1} (𝓤 : URA M) (H : Heap 𝓤) (𝓜 : Model 𝓤 H) (𝓖
       cited 𝓤 H (Shell 𝓤 H (𝓖 .A) (λ z p. by-op z Op.Release p)) 𝓜 𝓡 code.env release.name release.routine
       code.calls-board·release (release-thm.met 𝓤 H 𝓜 𝓖 𝓡)
 
+  -- the names of the four are read off the code, and each must be known to do its operation
+  enters :
+      (a s c r : Name)
+      → Closed 𝓤 H (tables 𝓤 H 𝓜 𝓡 code.env .C) (tables 𝓤 H 𝓜 𝓡 code.env .Λ) name
+      (function (keys a s c r))
+      → ((o : Op) → Known (keys a s c r o) o)
+      → Meets 𝓤 H (𝓖 .A) on.signature (𝓡 .run (code.env name))
+      (closing 𝓤 H (𝓖 .A) on.ended (clauses 𝓤 by-op))
+  unfolding tablesOf
+  enters a s c r closed known =
+      entered 𝓤 H
+      (tripleOf 𝓤 H (𝓖 .A) on.signature (closing 𝓤 H (𝓖 .A) on.ended (clauses 𝓤 by-op)))
+      (tables 𝓤 H 𝓜 𝓡 code.env .C) (tables 𝓤 H 𝓜 𝓡 code.env .Λ) name (function (keys a s c r)) closed
+      (meets 𝓤 H (𝓖 .A) (givenOf 𝓤 H 𝓜 𝓖) by-op (keys a s c r)
+      (tablesOf 𝓤 H 𝓜 (tables 𝓤 H 𝓜 𝓡 code.env)) known)
+
 pub call-on-board-spec : {M : Type 1} → statement M
-unfolding code.routine tablesOf
-call-on-board-spec 𝓤 H 𝓜 𝓖 𝓡 =
-    entered 𝓤 H (tripleOf 𝓤 H (𝓖 .A) on.signature (on.spec 𝓤 H (𝓖 .A) (𝓜 .mem) (𝓡 .run)))
-    (tables 𝓤 H 𝓜 𝓡 code.env .C) (tables 𝓤 H 𝓜 𝓡 code.env .Λ) name function (code.unfolded 𝓤 H 𝓜 𝓡)
-    (meets 𝓤 H (𝓖 .A) (givenOf 𝓤 H 𝓜 𝓖) by-op (tablesOf 𝓤 H 𝓜 (tables 𝓤 H 𝓜 𝓡 code.env))
-    (shells 𝓤 H 𝓜 𝓖 𝓡))
+unfolding code.routine
+call-on-board-spec 𝓤 H 𝓜 𝓖 𝓡 = enters 𝓤 H 𝓜 𝓖 𝓡 _ _ _ _ (code.unfolded 𝓤 H 𝓜 𝓡) (shells 𝓤 H 𝓜 𝓖 𝓡)

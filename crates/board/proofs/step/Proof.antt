@@ -1,9 +1,8 @@
--- `step` meets its contract: the walk of `Shell.antt`, over `step_fields`.
+-- `step` meets its contract: the walk of `Shell.antt`, over `call_fields`.
 use Rattle.hub.specs.declared.moves.Op.{Op}
-use Rattle.hub.specs.Calls.{called}
-use Rattle.board.proofs.Shell.{shell-spec}
-use Rattle.board.proofs.step_fields.Met.{met}
-use Rattle.board.proofs.step_fields.Symbol as core
+use Rattle.board.proofs.Shell.{by-op, shell-spec, tagged}
+use Rattle.board.proofs.call_fields.Met.{met}
+use Rattle.board.proofs.call_fields.Symbol as core
 use Rattle.board.proofs.step.Key.{name}
 use Rattle.board.proofs.step.Statement.{statement}
 use Rattle.board.proofs.step.Code as code
@@ -11,5 +10,6 @@ use Rattle.board.proofs.step.Code as code
 pub step-spec : {M : Type 1} → statement M
 unfolding code.routine
 step-spec 𝓤 H 𝓜 𝓖 𝓡 =
-    shell-spec 𝓤 H 𝓜 𝓖 𝓡 (λ h p. called h (record { op = Op.Step; party = p })) code.env name core.name
-    core.routine code.calls-board·step-fields (code.unfolded 𝓤 H 𝓜 𝓡) (met 𝓤 H 𝓜 𝓖 𝓡)
+    shell-spec 𝓤 H 𝓜 𝓖 𝓡 by-op Op.Step code.env name core.name core.routine
+    (code.unfolded 𝓤 H 𝓜 𝓡) (tagged Op.Step) tt
+    code.calls-board·call-fields (met 𝓤 H 𝓜 𝓖 𝓡)

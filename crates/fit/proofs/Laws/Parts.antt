@@ -1,10 +1,10 @@
 -- A clause over the values that it looks at says of them what it says of the whole record.
-use Prim.Native.Nat.{ℕ, _≤_}
-use mathlib.Core.Path.{_≡_, refl, sym, _∙_}
-use mathlib.Core.Bool.{Bool, true, false, and-false}
+use Prim.Native.Nat.{ℕ, _≤_, _<_}
+use mathlib.Core.Path.{_≡_, refl, sym, ap, subst, _∙_}
+use mathlib.Core.Bool.{Bool, true, false, and-false, _||_}
 use mathlib.Core.List.{List, [], _∷_, map}
-use lib.Dec.{leb}
-use lib.ListN.{length, length-map, List·getD-eq-default}
+use lib.Dec.{leb, ltb}
+use lib.ListN.{length, length-map, getD, List·getD-eq-default}
 use borrow.Author.Tests.{leb-true}
 use native.Mathlib.Omega.{arith}
 use types.Run.{OneOf}
@@ -17,15 +17,21 @@ use Rattle.hub.specs.declared.record.Phase.the-variants.{Suspending, Ticketed, 
 use Rattle.hub.specs.declared.record.Phase.the-variants.{Cancelling, Refusing, Releasing}
 use Rattle.hub.specs.declared.record.Phase.the-variants.{Resuming, ResumingAt}
 use Rattle.hub.specs.declared.record.PartySlot.{PartySlot}
+use Rattle.hub.specs.declared.record.PlaceSlot.{PlaceSlot}
 use Rattle.hub.specs.declared.record.Place.{Place}
 use Rattle.hub.specs.declared.record.Place.the-variants.{Empty, Waiting as WaitedBy}
 use Rattle.hub.specs.Fits.{look, countsFit, ticketFits, isListed, partyFits, standsAt, placeFits}
-use Rattle.hub.specs.Phases.{byTicket, byWaiter, isOneOf, ticketOf}
+use Rattle.hub.specs.Phases.{byTicket, byWaiter, isFree, isOneOf, ticketOf}
 use Rattle.hub.specs.Record.{PARTIES, MAX-BEGUN, readPhase, readPlace}
 use Rattle.hub.specs.Table.{step, stepOf}
 use Rattle.hub.proofs.record.Place as place
-use Rattle.fit.specs.Parts.{windowed, listedAt, partyTest}
+use Rattle.fit.specs.Parts.{windowed, listedAt, partyTest, ticketAt}
+use Rattle.fit.proofs.Laws.Ranges.{index-of}
 use Rattle.fit.proofs.Laws.Variants.{any-phase, any-place, of-place}
+
+or-true : (b : Bool) → b || true ≡ true
+or-true true = refl
+or-true false = refl
 
 held : (b : Bool) → (b ≡ false → false ≡ true) → b ≡ true
 held true f = refl
@@ -91,18 +97,62 @@ pub party-test : (h : Hub) (p t : ℕ) → t ≡ ticketOf (readPhase (h .slots) 
 unfolding partyFits
 party-test h p t e = rw (e, ticket-fits h (readPhase (h .slots) p), listed-look h p)
 
-pub waited : (h : Hub) (t q : ℕ) → readPlace (h .places) t ≡ WaitedBy q
+-- A free party fits, whatever else is there.
+pub free-fits : (h : Hub) (p : ℕ) → isFree (readPhase (h .slots) p) ≡ true → partyFits h p ≡ true
+unfolding ticketFits listedAt step isOneOf
+free-fits h p e = sym (party-test h p _ refl) ∙ go (readPhase (h .slots) p) e
+  where
+    w : Hub
+    w = windowed (h .issued) (h .resumed) (h .oldest)
+
+    go : (f : Phase) → isFree f ≡ true
+        → partyTest p (h .parties) f (readPlace (h .places) (ticketOf (readPhase (h .slots) p))) w ≡ true
+    go Free z = rw (or-true (ltb p (h .parties)))
+    go Holding z = cc
+    go (Waiting t) z = cc
+    go Acquiring z = cc
+    go Suspending z = cc
+    go (Ticketed t) z = cc
+    go (Aborting t) z = cc
+    go (Cancelling t) z = cc
+    go (Refusing t) z = cc
+    go Releasing z = cc
+    go Resuming z = cc
+    go (ResumingAt t) z = cc
+
+waited : (h : Hub) (t q : ℕ) → readPlace (h .places) t ≡ WaitedBy q
     → standsAt (readPhase (h .slots) q) t ≡ placeFits h t
 unfolding placeFits
 waited h t q e = rw e
 
-pub not-waited : (h : Hub) (t : ℕ)
+not-waited : (h : Hub) (t : ℕ)
     → OneOf (0 ∷ 2 ∷ 3 ∷ 4 ∷ 5 ∷ []) (tagOf place.the-type (readPlace (h .places) t))
     → placeFits h t ≡ true
 unfolding placeFits
 not-waited h t o =
     of-place (λ a. byWaiter true (λ q. standsAt (readPhase (h .slots) q) t) a ≡ true)
     (0 ∷ 2 ∷ 3 ∷ 4 ∷ 5 ∷ []) (readPlace (h .places) t) o (λ q. search depth 13)
+
+-- The same of the place at index i, whose ticket is the one of the window.
+read-at : (l : List PlaceSlot) (o i : ℕ) → i < 256
+    → readPlace l (ticketAt o i) ≡ getD l i (record { place = Empty }) .place
+unfolding readPlace
+read-at l o i b = ap (λ (n : ℕ). getD l n (record { place = Empty }) .place) (index-of o i b)
+
+pub waited-at : (h : Hub) (i q : ℕ) → i < 256
+    → getD (h .places) i (record { place = Empty }) .place ≡ WaitedBy q
+    → standsAt (readPhase (h .slots) q) (ticketAt (h .oldest) i)
+    ≡ placeFits h (ticketAt (h .oldest) i)
+waited-at h i q b e = waited h _ q (read-at (h .places) (h .oldest) i b ∙ e)
+
+pub not-waited-at : (h : Hub) (i : ℕ) → i < 256
+    → OneOf (0 ∷ 2 ∷ 3 ∷ 4 ∷ 5 ∷ [])
+    (tagOf place.the-type (getD (h .places) i (record { place = Empty }) .place))
+    → placeFits h (ticketAt (h .oldest) i) ≡ true
+not-waited-at h i b o =
+    not-waited h _
+    (subst (λ (a : Place). OneOf (0 ∷ 2 ∷ 3 ∷ 4 ∷ 5 ∷ []) (tagOf place.the-type a))
+    (sym (read-at (h .places) (h .oldest) i b)) o)
 
 -- A party that the record has no slot for stands nowhere.
 pub past-slots : (l : List PartySlot) (q t : ℕ) → length l ≡ PARTIES → PARTIES ≤ q

@@ -1,12 +1,12 @@
 -- A turn, as the door or the table answers it.
-use Prim.Native.Nat.{ℕ}
+use Prim.Native.Nat.{ℕ, _<_}
 use mathlib.Core.Path.{_≡_, refl, sym, ap, _∙_}
 use mathlib.Core.Bool.{Bool, true, false, cond, _&&_}
 use native.Mathlib.Omega.{arith}
+use borrow.Author.Tests.{ltb-true}
 use lib.Dec.{eqb, leb, ltb}
 use lib.IntN.{pos}
 use mathlib.Core.List.{List}
-use Rattle.hub.specs.declared.answers.Refusal.{Refusal}
 use Rattle.hub.specs.declared.moves.Move.{Move}
 use Rattle.hub.specs.declared.record.Hub.{Hub}
 use Rattle.hub.specs.declared.record.Outcome.{Outcome}
@@ -15,14 +15,14 @@ use Rattle.hub.specs.declared.record.PlaceSlot.{PlaceSlot}
 use Rattle.hub.specs.Answers.{plain, printed}
 use Rattle.hub.specs.Basics.{upTo32}
 use Rattle.hub.specs.Calls.{answerOf, apply, isFull}
-use Rattle.hub.specs.Fits.{fits, look}
+use Rattle.hub.specs.Fits.{look}
 use Rattle.hub.specs.Opening.{fresh}
 use Rattle.hub.specs.Table.{decide}
 use Rattle.hub.proofs.Laws.Opening.{refused-2, refused-3, accepted}
 use Rattle.line.specs.declared.request.Request.{Request}
 use Rattle.line.specs.Frame.{isCall, opOf}
 use Rattle.line.specs.Program.{Turn, isOpen, turn, turnedDown, opens, calls}
-use Rattle.step.proofs.Laws.Admitted.{Admitted, admitted, not-admitted, asks, seen-4, seen-yes}
+use Rattle.step.proofs.Laws.Admitted.{Counted, counted, admitted, no-such-party, asks}
 use Rattle.live.specs.declared.door.Door.{Door}
 use Rattle.live.specs.declared.figures.Figures.{Figures}
 use Rattle.live.specs.Door.{openDoor, callDoor, doorOf, shut}
@@ -35,6 +35,11 @@ pub record Passed (c x : ℕ) (f : Figures) : Type 0 where
   pub code : isCall c ≡ true
   pub isopen : leb 1 (f .permits) ≡ true
   pub party : ltb x (f .parties) ≡ true
+
+-- A party that there is, on a record whose counts leave room.
+pub record LetIn (h : Hub) (p : ℕ) : Type 0 where
+  pub party : p < 32
+  pub counts : Counted h
 
 not-so : {A : Type 0} → false ≡ true → A
 not-so e = let z : _≡_ {A = ℕ} 0 1 = cc in let y : ⊥ = omega arith in absurd y
@@ -87,9 +92,7 @@ module _ (f : Figures) (places : List PlaceSlot) (slots : List PartySlot) (c x y
   unfolding callDoor calls
   call-shut false eo p ep z = refl
   call-shut true eo false ep z =
-      ap made
-      (sym (not-admitted hub x Refusal.NoSuchParty (opOf c)
-      (sym (seen-4 (fits hub) (ltb x (f .parties)) (look hub x) (open-fits hub r eo) ep))))
+      ap made (sym (no-such-party hub x (opOf c) (open-fits hub r eo) ep))
   call-shut true eo true ep z = not-so (sym z)
 
   abbrev opened-turn : Hub → Outcome → Turn
@@ -146,16 +149,21 @@ module _ (f : Figures) (places : List PlaceSlot) (slots : List PartySlot) (c x y
       go false true w = open-shut (leb 1 (f .permits)) refl (upTo32 x) refl (upTo32 y) refl
       go false false w = refl
 
-  -- A call that the door lets through is admitted, and the table answers it.
-  pub let-in : Passed c x f → Admitted hub x (look hub x)
+  -- A call that the door lets through is the table's to answer.
+  pub let-in : Passed c x f → LetIn hub x
   let-in p =
-      admitted hub x (look hub x)
-      (sym (seen-yes (fits hub) (ltb x (f .parties)) (look hub x) (open-fits hub r (p .isopen))
-      (p .party)))
+      let n = counted hub (open-fits hub r (p .isopen)) in
+      record {
+        party = omega (arith, ltb-true x (f .parties) (p .party), n .parties);
+        counts = n;
+      }
 
   pub call-turn : Passed c x f → (m : Move) → m ≡ decide (opOf c) (isFull hub) (look hub x)
       → turn hub request
       ≡ record { party = x; answer = printed (answerOf m); hub = apply hub (look hub x) m }
   unfolding turn calls
   call-turn p m e =
-      rw (p .code, p .isopen) (ap made (sym (let-in p .does (opOf c) m e)))
+      rw (p .code, p .isopen)
+      (ap made
+      (sym
+      (admitted hub x (opOf c) (look hub x) m (open-fits hub r (p .isopen)) (p .party) refl e)))

@@ -1,6 +1,6 @@
 -- A call that the table answers: from what the code read to the record that it leaves.
 use Prim.Native.Nat.{ℕ}
-use mathlib.Core.Path.{_≡_, refl, sym, ap, ap₂, subst, _∙_}
+use mathlib.Core.Path.{_≡_, refl, ap, ap₂, _∙_}
 use mathlib.Core.Bool.{Bool}
 use mathlib.Core.List.{List}
 use lib.ListN.{length}
@@ -19,7 +19,7 @@ use Rattle.hub.specs.Reclaim.{canSkip, skip, canRetire, retire}
 use Rattle.hub.specs.Record.{readPhase, writePhase, readPlace, writePlace}
 use Rattle.hub.specs.Table.{decide}
 use Rattle.line.specs.Frame.{opOf}
-use Rattle.step.proofs.Laws.Admitted.{Admitted, small}
+use Rattle.step.proofs.Laws.Admitted.{Counted, small}
 use Rattle.step.proofs.Laws.Sights.{looked}
 use Rattle.table.specs.Small.{Small}
 use Rattle.live.specs.declared.effect.Effect.{Effect}
@@ -47,8 +47,8 @@ module _ (f : Figures) (places : List PlaceSlot) (slots : List PartySlot) (x : �
     saw : sight ≡ look hub x
     saw = looked hub x _ t _ a w _ refl refl (d .ticket) (d .place) (d .waiter) refl
 
-    pub small-sight : Admitted hub x (look hub x) → Small sight
-    small-sight m = subst Small (sym saw) (small m)
+    pub small-sight : Counted hub → Small sight
+    small-sight n = small hub x sight n saw
 
     -- The effect e that the table had, which was told in `full` whether there is no place.
     module _ (c : ℕ) (full : Bool) (e : Effect)

@@ -26,10 +26,10 @@ use Rattle.hub.specs.Table.{decide}
 use Rattle.line.specs.Frame.{opOf, frameOf, paper}
 use Rattle.line.specs.Hex.{textOf}
 use Rattle.line.specs.Program.{after, turn}
-use Rattle.step.proofs.Laws.Admitted.{Admitted}
 use Rattle.live.specs.declared.effect.Effect.{Effect}
 use Rattle.live.specs.Live.{Reached, requestsIn, replied}
-use Rattle.live.proofs.Laws.Answered.{Passed, passed, door-turn, let-in, call-turn}
+use Rattle.live.proofs.Laws.Answered.{Passed, passed, door-turn, LetIn, let-in}
+use Rattle.live.proofs.Laws.Answered.{call-turn}
 use Rattle.live.proofs.Laws.Hubs.{hubOf, counting}
 use Rattle.live.proofs.Laws.Looked.{waits, nobody-waits, not-full}
 use Rattle.live.proofs.Laws.Loops.{Skipping, skipping, can-skip, in-window, skipping-on}
@@ -117,8 +117,7 @@ taken c = c .before .before .before .before .before .before .loop-test .taken
 pass : (c : Entered) → Passed (code (head c)) (party (head c)) (head c .loop .figures)
 pass c = passed _ _ _ _ _ (c .before .before .at-door .ensures) (not-false _ (c .if1 .left))
 
-admitted : (c : Entered)
-    → Admitted (hub (head c)) (party (head c)) (look (hub (head c)) (party (head c)))
+admitted : (c : Entered) → LetIn (hub (head c)) (party (head c))
 admitted c = let-in _ _ _ _ _ 0 (head c .loop .inv .0 .reached) (pass c)
 
 -- What the code read for it.
@@ -185,7 +184,7 @@ low : (c : Called) → c .called .result .figures .oldest ≤ 1000000
 low c =
     omega (
       arith,
-      admitted (entered (c .before)) .oldest,
+      admitted (entered (c .before)) .counts .oldest,
       keeps-oldest _ _ _ _ (c .called .result) (c .called .ensures),
     )
 
@@ -379,16 +378,16 @@ near-full-requires :
     tie.Need-near-full-requires Inv-loop2 μ-loop2 Inv-loop3 μ-loop3 Inv-loop μ-loop
 near-full-requires c κs =
     let a = admitted (c .before .before .before .before .before .before) in
-    (a .oldest, a .issued)
+    (a .counts .oldest, a .counts .issued)
 
 is-full-requires : tie.Need-is-full-requires Inv-loop2 μ-loop2 Inv-loop3 μ-loop3 Inv-loop μ-loop
 is-full-requires c κs =
     let a = admitted (c .before .before .before .before .before .before .before .before) in
-    (a .oldest, a .issued)
+    (a .counts .oldest, a .counts .issued)
 
 called-requires : tie.Need-called-requires Inv-loop2 μ-loop2 Inv-loop3 μ-loop3 Inv-loop μ-loop
 unfolding readPhase
-called-requires c κs = small-sight _ _ _ _ _ _ _ (reading c) (admitted (entered c))
+called-requires c κs = small-sight _ _ _ _ _ _ _ (reading c) (admitted (entered c) .counts)
 
 sub-put-line-2 : tie.Need-sub-put-line-2 Inv-loop2 μ-loop2 Inv-loop3 μ-loop3 Inv-loop μ-loop
 sub-put-line-2 c = search needs

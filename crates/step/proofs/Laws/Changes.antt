@@ -1,5 +1,4 @@
 -- The record after a change, from what the code stores.
-use Prim.Native.Nat.{ℕ}
 use mathlib.Core.Path.{_≡_, refl, ap, _∙_}
 use mathlib.Core.Bool.{true, false}
 use mathlib.Core.List.{List}
@@ -53,8 +52,9 @@ placed-no l a Releasing e = refl
 placed-no l a Resuming e = refl
 placed-no l a (ResumingAt t) e = cc
 
-abbrev pub withPlaces : Hub → List PlaceSlot → Hub
-withPlaces h l =
+-- A record with other places and other slots.
+abbrev pub with : Hub → List PlaceSlot → List PartySlot → Hub
+with h a l =
     record {
       permits = h .permits;
       parties = h .parties;
@@ -63,13 +63,13 @@ withPlaces h l =
       resumed = h .resumed;
       begun = h .begun;
       oldest = h .oldest;
-      places = l;
-      slots = h .slots;
+      places = a;
+      slots = l;
     }
 
--- The rest of the change, made on a record whose places are set.
-abbrev pub finished : Hub → List PartySlot → Sight → Change → ℤ → Hub
-finished g l s c z =
+-- The rest of the change, made on a record whose places are set, and any woken party's slot.
+abbrev pub finished : Hub → Sight → Change → ℤ → Hub
+finished g s c z =
     record {
       permits = g .permits;
       parties = g .parties;
@@ -79,11 +79,11 @@ finished g l s c z =
       begun = c .begun;
       oldest = g .oldest;
       places = g .places;
-      slots = writePhase l (s .party) (c .phase);
+      slots = writePhase (g .slots) (s .party) (c .phase);
     }
 
 pub changed-by : (h g : Hub) (l : List PartySlot) (s : Sight) (c : Change) (z : ℤ)
-    → z ≡ c .counter → g ≡ withPlaces h (placed (h .places) (c .place) (s .phase))
-    → finished g l s c z ≡ changed h l s c
+    → z ≡ c .counter → g ≡ with h (placed (h .places) (c .place) (s .phase)) l
+    → finished g s c z ≡ changed h l s c
 changed-by h g l s c z e p =
-    ap (finished g l s c) e ∙ ap (λ (x : Hub). finished x l s c (c .counter)) p
+    ap (finished g s c) e ∙ ap (λ (x : Hub). finished x s c (c .counter)) p

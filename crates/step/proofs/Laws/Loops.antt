@@ -1,13 +1,13 @@
 -- The tidying's loops: what is left of each, from any turn on, comes to the same.
 use Prim.Native.Nat.{ℕ, zero, suc, _+_, _-_, _≤_, _<_}
 use mathlib.Core.Path.{_≡_, refl, sym, ap, _∙_}
-use mathlib.Core.Bool.{Bool, true, false, _&&_}
+use mathlib.Core.Bool.{Bool, true, false, true≢false, _&&_, _||_}
 use native.Mathlib.Omega.{arith}
 use borrow.Author.Tests.{lt-ltb, le-ltb}
 use lib.Dec.{ltb}
 use Rattle.hub.specs.declared.record.Hub.{Hub}
-use Rattle.hub.specs.Phases.{isCancelled}
-use Rattle.hub.specs.Reclaim.{canSkip, skipped, skip, canRetire, retired, retire}
+use Rattle.hub.specs.Phases.{isCancelled, isDone}
+use Rattle.hub.specs.Reclaim.{canSkip, skipped, skip, canRetire, retired, retire, reclaimed}
 use Rattle.hub.specs.Record.{readPlace}
 use Rattle.hub.proofs.Laws.Bools.{both}
 
@@ -109,3 +109,19 @@ retiring-end h₀ h n s l = sym (ap (λ (j : ℕ). retire j (canRetire h) h) (do
   where
     done : Retiring h₀ h n → 256 - n ≡ 0
     done s = omega arith
+
+-- Where neither loop has anything to do.
+pub tidy : (h : Hub)
+    → isCancelled (readPlace (h .places) (h .resumed)) || isDone (readPlace (h .places) (h .oldest))
+    ≡ false
+    → h ≡ reclaimed h
+unfolding reclaimed
+tidy h = go _ refl _ refl
+  where
+    go : (a : Bool) → isCancelled (readPlace (h .places) (h .resumed)) ≡ a
+        → (b : Bool) → canRetire h ≡ b → a || b ≡ false → h ≡ reclaimed h
+    go false e false f z =
+        retire-off h 256 f
+        ∙ ap (λ (k : Hub). retire 256 (canRetire k) k) (skip-off h 256 (other-skip h e))
+    go false e true f z = absurd (true≢false z)
+    go true e b f z = absurd (true≢false z)

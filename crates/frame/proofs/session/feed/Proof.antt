@@ -33,10 +33,11 @@ returns c =
     let w = c .before .before .before in
     let r = w .before .before .before .before .before .before in
     let s = r .before .before .before .before .before .before .args .session in
-    let e = r .read-piece .ensures in
-    (feed-gives s _ _ _ _ (e .0) (e .1) _ (w .answer-requests .ensures .0),
-    e .1,
-    w .answer-requests .ensures .1 ∙ feed-prints s _ _ _ _ (e .0) (e .1) _)
+    let e = r .read-piece .ensures in (
+      feed-gives s _ _ _ _ (e .0) (e .1) _ (w .answer-requests .ensures .0),
+      e .1,
+      w .answer-requests .ensures .1 ∙ feed-prints s _ _ _ _ (e .0) (e .1) _,
+    )
 
 pub feed-spec : {M : Type 1} → statement M
 feed-spec =

@@ -21,9 +21,10 @@ write-output-requires : tie.Need-write-output-requires
 write-output-requires c κs =
     let e = c .before .before in
     let n = e .before in
-    let a = n .before .before .before .args in
-    (omega arith,
-    enough (a .input .now) (a .out .now) (n .count-lines .result) (n .count-lines .ensures) (e .if1 .left))
+    let a = n .before .before .before .args in (
+      omega arith,
+      enough (a .input .now) (a .out .now) (n .count-lines .result) (n .count-lines .ensures) (e .if1 .left),
+    )
 
 add-result : tie.Need-add-result
 add-result c = search needs

@@ -26,9 +26,11 @@ begin-requires c κs = search needs
 loop-holds : tie.Need-loop-holds Inv-loop μ-loop
 loop-holds c =
     let a = c .before .before .before .before in
-    let out = a .args .out .now in
-    (subst (λ (s : Session). Printing (a .args .input .now) out s out 0 0) (sym (c .begin .ensures))
-    (nothing-printed _ _ (a .pre .1)), refl)
+    let out = a .args .out .now in (
+      subst (λ (s : Session). Printing (a .args .input .now) out s out 0 0) (sym (c .begin .ensures))
+          (nothing-printed _ _ (a .pre .1)),
+      refl,
+    )
 
 piece-end-requires : tie.Need-piece-end-requires Inv-loop μ-loop
 piece-end-requires c κs = search needs
@@ -62,10 +64,13 @@ feed-requires c κs =
     let i = l .loop .inv in
     let after : l .loop .from ≤ p .piece-end .result = omega (arith, e .0) in
     let spare : 12288 ≤ length (l .loop .requests) =
-        omega (arith, i .1, l .before .before .before .before .before .pre .0) in
-    (i .0 .sound,
-    (piece-fits _ _ _ _ _ _ (i .0) (p .piece-end .result) after (e .1 .0) _ (e .1 .1) spare,
-    piece-room _ _ _ _ _ _ (i .0) (p .piece-end .result) after (e .1 .0)))
+    omega (arith, i .1, l .before .before .before .before .before .pre .0) in (
+      i .0 .sound,
+      (
+        piece-fits _ _ _ _ _ _ (i .0) (p .piece-end .result) after (e .1 .0) _ (e .1 .1) spare,
+        piece-room _ _ _ _ _ _ (i .0) (p .piece-end .result) after (e .1 .0),
+      ),
+    )
 
 add-lines : tie.Need-add-lines Inv-loop μ-loop
 add-lines c =
@@ -90,13 +95,14 @@ loop-again c =
     let i = l .loop .inv in
     let after : l .loop .from ≤ p .piece-end .result = omega (arith, e .0) in
     let spare : 12288 ≤ length (l .loop .requests) =
-        omega (arith, i .1, l .before .before .before .before .before .pre .0) in
-    (printed-on _ _ _ _ _ _ (i .0) (p .piece-end .result) after (e .1 .0) _ (f .feed .ensures .2)
-    (f .feed .result) (f .feed .ensures .0),
-    ap length (f .feed .ensures .1)
-    ∙ written-size _ _
-    (asked-fits _ _ _ _ _ _ (i .0) (p .piece-end .result) after (e .1 .0) _ (e .1 .1) spare)
-    ∙ i .1)
+    omega (arith, i .1, l .before .before .before .before .before .pre .0) in (
+      printed-on _ _ _ _ _ _ (i .0) (p .piece-end .result) after (e .1 .0) _ (f .feed .ensures .2)
+          (f .feed .result) (f .feed .ensures .0),
+      ap length (f .feed .ensures .1)
+          ∙ written-size _ _
+          (asked-fits _ _ _ _ _ _ (i .0) (p .piece-end .result) after (e .1 .0) _ (e .1 .1) spare)
+          ∙ i .1,
+    )
 
 mul-at-2 : tie.Need-mul-at-2 Inv-loop μ-loop
 mul-at-2 c = search needs

@@ -41,7 +41,8 @@ returns : tie.Need-returns
 returns c =
     let h = c .before .before .before .before .before .before .before .before .before .before .before .args .hub in
     let f : SFits w32 (h .counter) = search needs in (
-      shown h _ _ _ _ _ _ _ _ (c .before .before .before .before .before .before .before .before .count-phases .ensures .0)
+      shown h _ _ _ _ _ _ _ _
+          (c .before .before .before .before .before .before .before .before .count-phases .ensures .0)
           (c .before .before .before .before .before .before .before .count-places .ensures .0)
           (c .before .before .before .before .before .before .count-phases2 .ensures .0)
           (c .before .before .before .before .before .count-places2 .ensures .0)
@@ -55,7 +56,8 @@ returns-2 : tie.Need-returns-2
 returns-2 c =
     let h = c .before .before .before .before .before .before .before .before .before .before .before .args .hub in
     let f : SFits w32 (h .counter) = search needs in (
-      shown h _ _ _ _ _ _ _ _ (c .before .before .before .before .before .before .before .before .count-phases .ensures .0)
+      shown h _ _ _ _ _ _ _ _
+          (c .before .before .before .before .before .before .before .before .count-phases .ensures .0)
           (c .before .before .before .before .before .before .before .count-places .ensures .0)
           (c .before .before .before .before .before .before .count-phases2 .ensures .0)
           (c .before .before .before .before .before .count-places2 .ensures .0)

@@ -8,9 +8,6 @@ use Rattle.hub.specs.Record.{readPlace, writePlace}
 use Rattle.step.proofs.Laws.Loops.{Retiring, retiring-on, retiring-stop, retiring-end}
 use Rattle.step.proofs.reclaim.retire_done.Statement.{statement}
 use Rattle.step.proofs.reclaim.retire_done.Tie as tie
-use Rattle.step.proofs.reclaim.retire_done.Reads as reads
-use Rattle.step.proofs.reclaim.retire_done.Lts as lts
-use Rattle.step.proofs.reclaim.is_done.Reads as is-done-reads
 
 abbrev Inv-loop : tie.InvT-loop
 Inv-loop hub₀ n₀ hub n = Retiring hub₀ hub n

@@ -9,9 +9,6 @@ use Rattle.step.proofs.Laws.Loops.{Skipping, can-skip, beyond-skip, oth
 use Rattle.step.proofs.Laws.Loops.{skipping-on, skipping-stop, skipping-end}
 use Rattle.step.proofs.reclaim.skip_cancelled.Statement.{statement}
 use Rattle.step.proofs.reclaim.skip_cancelled.Tie as tie
-use Rattle.step.proofs.reclaim.skip_cancelled.Reads as reads
-use Rattle.step.proofs.reclaim.skip_cancelled.Lts as lts
-use Rattle.step.proofs.reclaim.is_cancelled.Reads as is-cancelled-reads
 
 abbrev Inv-loop : tie.InvT-loop
 Inv-loop hub₀ end n₀ hub n = Skipping hub₀ hub n
@@ -86,9 +83,9 @@ returns-2 c =
 returns-3 : tie.Need-returns-3 Inv-loop μ-loop
 unfolding readPlace
 returns-3 c =
-    let s = c .before .before .before .before .before .loop .inv in
-    skipping-stop _ _ _ s
-    (other-skip (c .before .before .before .before .before .loop .hub) (sym (c .before .is-cancelled .ensures) ∙ not-true _ (c .if2 .taken)))
+    let l = c .before .before .before .before .before .loop in
+    skipping-stop _ _ _ (l .inv)
+    (other-skip (l .hub) (sym (c .before .is-cancelled .ensures) ∙ not-true _ (c .if2 .taken)))
 
 pub skip-cancelled-spec : {M : Type 1} → statement M
 skip-cancelled-spec =

@@ -19,8 +19,8 @@ add-result-2 c = search needs
 returns : tie.Need-returns
 unfolding isOneOf
 returns c =
-    let h = c .before .before .before .before .args .hub in
-    ap (λ (n : ℕ). leb (h .oldest + 256) (h .issued + n)) (c .before .before .count-phases .ensures .0)
+    let a = c .before .args in
+    ap (λ (n : ℕ). leb (a .oldest + 256) (a .issued + n)) (c .count-phases .ensures .0)
 
 pub is-full-spec : {M : Type 1} → statement M
 is-full-spec = tie.close (tie.spec count-phases-requires add-result add-result-2 returns)

@@ -46,7 +46,8 @@ returns-6 c = search needs
 
 returns-7 : tie.Need-returns-7
 returns-7 c =
-    phase-arm (0 ∷ 1 ∷ 3 ∷ 4 ∷ 9 ∷ 10 ∷ []) (byTicket Place.Empty (λ t. c .before .args .place)) (c .before .args .phase) refl
+    let a = c .before .args in
+    phase-arm (0 ∷ 1 ∷ 3 ∷ 4 ∷ 9 ∷ 10 ∷ []) (byTicket Place.Empty (λ t. a .place)) (a .phase) refl
     (c .match .keys7)
 
 pub place-for-spec : {M : Type 1} → statement M
