@@ -9,7 +9,7 @@ ghost use mathlib.Core.Path.{_≡_};
 ghost use lib.ListN.{length};
 ghost use Rattle.line.specs.Program.{closing};
 
-pub fn put_closing(hub: Hub, out: &mut [u8])
+pub(crate) fn put_closing(hub: Hub, out: &mut [u8])
     requires { ⌜ length (now out) ≡ 15 ⌝ }
     ensures { λ r. ⌜ now (out .exit) ≡ closing hub ⌝ }
 {

@@ -29,7 +29,7 @@ fn put_request(out: &mut [u8], r: Request)
 }
 
 // Reads a piece, and leaves what its lines ask, three bytes each.
-pub fn read_piece(reader: Reader, piece: &[u8], requests: &mut [u8]) -> Read
+pub(crate) fn read_piece(reader: Reader, piece: &[u8], requests: &mut [u8]) -> Read
     requires { ⌜ reader .len ≤ 65 ⌝ }
     requires { ⌜ 3 * length (now piece) ≤ length (now requests) ⌝ }
     ensures { λ r. ⌜ (r ≡ record {

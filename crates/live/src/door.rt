@@ -73,7 +73,7 @@ fn call_door(party: u8, figures: Figures) -> Door
     }
 }
 
-pub fn at_door(code: u8, first: u8, second: u8, figures: Figures) -> Door
+pub(crate) fn at_door(code: u8, first: u8, second: u8, figures: Figures) -> Door
     ensures { λ r. ⌜ r ≡ doorOf code first second figures ⌝ }
 {
     if code == 1 {

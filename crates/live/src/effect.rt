@@ -73,7 +73,7 @@ fn effect_of(m: Move, phase: Phase, place: Place, figures: Figures) -> Effect
 
 // One call, by its code: 13 is what is left of the four. Each is laid out where it is decided,
 // which is a third faster than after they meet.
-pub fn called(
+pub(crate) fn called(
     code: u8,
     full: bool,
     party: u8,

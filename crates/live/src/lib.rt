@@ -3,10 +3,9 @@
 
 mod figures; // a record but for its arrays
 mod door; // what is answered before the table is asked
-mod sight; // what a call looks at
 mod effect; // what the table decides
 mod room; // refusal 7
-mod tidy; // the tests of the tidying
+mod tidy; // a test of the tidying
 
 use door::at_door;
 use effect::called;
@@ -22,9 +21,9 @@ use line::answer::print_of;
 use line::text::put_line;
 use room::is_full;
 use room::near_full;
-use sight::by_ticket;
-use sight::waiter_at;
-use tidy::can_retire;
+use table::sight::by_ticket;
+use table::sight::is_done;
+use table::sight::waiter_at;
 use tidy::can_skip;
 ghost use mathlib.Core.Path.{_≡_};
 ghost use Prim.Native.Nat.{_*_, _≤_};
@@ -127,7 +126,7 @@ pub fn answer_requests(house: Hub, requests: &[u8], count: usize, out: &mut [u8]
             let a = (o % Hub::PLACES) as usize;
             let head = places[a];
             let first_place = head.place;
-            if !can_retire(first_place) {
+            if !is_done(first_place) {
                 break;
             }
             places[a] = PlaceSlot {

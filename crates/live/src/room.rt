@@ -13,7 +13,7 @@ ghost use Rattle.hub.specs.Phases.{drawsTicket};
 ghost use Rattle.hub.specs.Record.{phasesOf};
 
 // Only an ask is refused by 7, and only where 32 more tickets would be too many.
-pub fn near_full(code: u8, figures: Figures) -> bool
+pub(crate) fn near_full(code: u8, figures: Figures) -> bool
     requires { ⌜ (figures .oldest ≤ 1000000) × (figures .issued ≤ 1000000) ⌝ }
     ensures { λ r. ⌜ r ≡ (eqb code 0x10 && leb (figures .oldest + 256) (figures .issued + 32)) ⌝ }
 {
@@ -35,7 +35,7 @@ fn draws(phase: Phase) -> u32
 }
 
 // It stops as soon as they are enough: a count of all 32 would be taken ahead of every call.
-pub fn is_full(figures: Figures, slots: [PartySlot; 32]) -> bool
+pub(crate) fn is_full(figures: Figures, slots: [PartySlot; 32]) -> bool
     requires { ⌜ (figures .oldest ≤ 1000000) × (figures .issued ≤ 1000000) ⌝ }
     ensures { λ r. ⌜ r ≡ leb (figures .oldest + 256)
         (figures .issued + count drawsTicket (phasesOf slots)) ⌝ }

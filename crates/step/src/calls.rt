@@ -8,8 +8,6 @@ use crate::moves::woken;
 use crate::reclaim::is_untidy;
 use crate::reclaim::reclaim;
 use crate::sight::phase_within;
-use crate::sight::place_for;
-use crate::sight::waiter_at;
 use fit::fits;
 use hub::answers::Answer;
 use hub::answers::Refusal;
@@ -22,7 +20,10 @@ use hub::record::Hub;
 use hub::record::Outcome;
 use hub::record::PartySlot;
 use hub::record::Phase;
+use hub::record::Place;
 use hub::record::PlaceSlot;
+use table::sight::by_ticket;
+use table::sight::waiter_at;
 ghost use mathlib.Core.Path.{_≡_};
 ghost use Rattle.hub.specs.Calls.{called};
 
@@ -50,7 +51,7 @@ pub fn call(mut hub: Hub, op: Op, party: u8) -> Outcome
     let i = (ticket(phase) % Hub::PLACES) as usize;
     let seat = hub.places[i];
     let there = seat.place;
-    let place = place_for(phase, there);
+    let place = by_ticket(phase, there, Place::Empty);
     let q = waiter_at(place);
     let w = (q % 32) as usize;
     let other = hub.slots[w];

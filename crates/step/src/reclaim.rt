@@ -3,29 +3,13 @@
 use hub::record::Hub;
 use hub::record::Place;
 use hub::record::PlaceSlot;
+use table::sight::is_cancelled;
+use table::sight::is_done;
 ghost use mathlib.Core.Path.{_≡_};
 ghost use mathlib.Core.Bool.{_||_};
 ghost use Prim.Native.Nat.{_≤_};
 ghost use Rattle.hub.specs.Phases.{isCancelled, isDone};
 ghost use Rattle.hub.specs.Reclaim.{reclaimed};
-
-fn is_cancelled(place: Place) -> bool
-    ensures { λ r. ⌜ r ≡ isCancelled place ⌝ }
-{
-    match place {
-        Place::Cancelled => true,
-        _ => false,
-    }
-}
-
-fn is_done(place: Place) -> bool
-    ensures { λ r. ⌜ r ≡ isDone place ⌝ }
-{
-    match place {
-        Place::Done => true,
-        _ => false,
-    }
-}
 
 // Is there anything to tidy, by the places of the next ticket to resume and of the oldest?
 pub(crate) fn is_untidy(next: Place, first: Place) -> bool

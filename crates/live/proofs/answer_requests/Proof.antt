@@ -529,9 +529,9 @@ array-copy-out-head-2 :
     tie.Need-array-copy-out-head-2 Inv-loop2 μ-loop2 Inv-loop3 μ-loop3 Inv-loop μ-loop
 array-copy-out-head-2 c = search needs
 
-can-retire-requires :
-    tie.Need-can-retire-requires Inv-loop2 μ-loop2 Inv-loop3 μ-loop3 Inv-loop μ-loop
-can-retire-requires c κs = search needs
+is-done-requires :
+    tie.Need-is-done-requires Inv-loop2 μ-loop2 Inv-loop3 μ-loop3 Inv-loop μ-loop
+is-done-requires c κs = search needs
 
 loop-less-3 : tie.Need-loop-less-3 Inv-loop2 μ-loop2 Inv-loop3 μ-loop3 Inv-loop μ-loop
 loop-less-3 c =
@@ -551,7 +551,7 @@ loop-again-3 c =
     let long = still (h .loop .slots) _ (effect t .woken) _ Phase.Holding _ (woken-slots t) in
     let last =
     retiring-stop _ _ _ _ (l .loop3 .inv .0)
-    (sym (c .before .can-retire .ensures) ∙ not-true _ (c .if6 .taken)) in (
+    (sym (c .before .is-done .ensures) ∙ not-true _ (c .if6 .taken)) in (
       turned _ _ _ _ _ _ _ (h .loop .inv .0) _ _ _ (taken e) (answered e) line (done l _ last),
       long ∙ h .loop .inv .1,
     )
@@ -579,7 +579,7 @@ unfolding readPlace writePlace
 loop3-again c =
     let s = c .before .before .before .before .loop3 .inv in (
       retiring-on _ _ _ _ (s .0) (c .before .before .before .loop3-test .taken)
-          (sym (c .before .can-retire .ensures) ∙ not-false _ (c .if6 .left)),
+          (sym (c .before .is-done .ensures) ∙ not-false _ (c .if6 .left)),
       s .1,
     )
 
@@ -674,7 +674,7 @@ answer-requests-spec =
     cast-a-2
     mul-head-2
     array-copy-out-head-2
-    can-retire-requires
+    is-done-requires
     loop-less-3
     loop-again-3
     mul-places-3

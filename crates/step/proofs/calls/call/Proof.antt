@@ -86,7 +86,7 @@ seen c =
       party = party (start c);
       kind = c .kind .result;
       phase = readPhase (hub (start c) .slots) (party (start c));
-      place = c .before .before .before .before .place-for .result;
+      place = c .before .before .before .before .by-ticket .result;
       waiter = c .before .phase-within .result;
       counter = toZ w32 (ofZ w32 (hub (start c) .counter));
       issued = hub (start c) .issued;
@@ -100,8 +100,8 @@ sight c =
     let f : SFits w32 (hub (start c) .counter) = search needs in
     looked (hub (start c)) (party (start c)) _ _ _ _ _ _ (c .kind .ensures) refl
     (c .before .before .before .before .before .before .ticket .ensures)
-    (c .before .before .before .before .place-for .ensures)
-    (read-waiter (hub (start c) .slots) (c .before .before .before .before .place-for .result)
+    (c .before .before .before .before .by-ticket .ensures)
+    (read-waiter (hub (start c) .slots) (c .before .before .before .before .by-ticket .result)
     (c .before .before .before .waiter-at .result) (c .before .phase-within .result)
     (size (start c)) (c .before .before .before .waiter-at .ensures)
     (c .before .phase-within .ensures))
@@ -217,8 +217,8 @@ mul-seat c = search needs
 element-copy-out-seat : tie.Need-element-copy-out-seat
 element-copy-out-seat c = search needs
 
-place-for-requires : tie.Need-place-for-requires
-place-for-requires c κs = search needs
+by-ticket-requires : tie.Need-by-ticket-requires
+by-ticket-requires c κs = search needs
 
 waiter-at-requires : tie.Need-waiter-at-requires
 waiter-at-requires c κs = search needs
@@ -260,8 +260,8 @@ woken-requires c κs = search needs
 cast-v : tie.Need-cast-v
 cast-v c = search needs
 
-mul-t61 : tie.Need-mul-t61
-mul-t61 c = search needs
+mul-t62 : tie.Need-mul-t62
+mul-t62 c = search needs
 
 element-set-from-hub : tie.Need-element-set-from-hub
 element-set-from-hub c = search needs
@@ -269,8 +269,8 @@ element-set-from-hub c = search needs
 has-ticket-requires : tie.Need-has-ticket-requires
 has-ticket-requires c κs = search needs
 
-mul-t66 : tie.Need-mul-t66
-mul-t66 c = search needs
+mul-t67 : tie.Need-mul-t67
+mul-t67 c = search needs
 
 element-set-from-hub-2 : tie.Need-element-set-from-hub-2
 element-set-from-hub-2 c = search needs
@@ -331,7 +331,7 @@ call-spec =
     cast-i
     mul-seat
     element-copy-out-seat
-    place-for-requires
+    by-ticket-requires
     waiter-at-requires
     cast-w
     mul-other
@@ -344,10 +344,10 @@ call-spec =
     change-of-requires
     woken-requires
     cast-v
-    mul-t61
+    mul-t62
     element-set-from-hub
     has-ticket-requires
-    mul-t66
+    mul-t67
     element-set-from-hub-2
     mul-t44
     element-set-from-hub-3

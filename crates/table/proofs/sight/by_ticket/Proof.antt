@@ -1,12 +1,11 @@
--- `place_for` meets its contract: its arms are the phases with a ticket.
+-- `by_ticket` meets its contract: its arms are the phases with a ticket, and the others.
+use borrow.Author.Needs.{needs}
 use mathlib.Core.Path.{refl}
 use mathlib.Core.List.{[], _∷_}
 use Rattle.hub.proofs.Laws.Tags.{phase-arm}
-use Rattle.hub.specs.declared.record.Place.{Place}
 use Rattle.hub.specs.Phases.{byTicket}
-use borrow.Author.Needs.{needs}
-use Rattle.step.proofs.sight.place_for.Statement.{statement}
-use Rattle.step.proofs.sight.place_for.Tie as tie
+use Rattle.table.proofs.sight.by_ticket.Statement.{statement}
+use Rattle.table.proofs.sight.by_ticket.Tie as tie
 
 enum-told : tie.Need-enum-told
 enum-told c = search needs
@@ -47,11 +46,11 @@ returns-6 c = search needs
 returns-7 : tie.Need-returns-7
 returns-7 c =
     let a = c .before .args in
-    phase-arm (0 ∷ 1 ∷ 3 ∷ 4 ∷ 9 ∷ 10 ∷ []) (byTicket Place.Empty (λ t. a .place)) (a .phase) refl
-    (c .match .keys7)
+    phase-arm (0 ∷ 1 ∷ 3 ∷ 4 ∷ 9 ∷ 10 ∷ []) (byTicket (a .otherwise) (λ t. a .place)) (a .phase)
+    refl (c .match .keys7)
 
-pub place-for-spec : {M : Type 1} → statement M
-place-for-spec =
+pub by-ticket-spec : {M : Type 1} → statement M
+by-ticket-spec =
     tie.close
     (tie.spec
     enum-told

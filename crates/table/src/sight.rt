@@ -1,9 +1,9 @@
-// What a call looks at, from what is read of the arrays.
+// What a call asks of the phase and of the place that it looks at.
 
 use hub::record::Phase;
 use hub::record::Place;
 ghost use mathlib.Core.Path.{_≡_};
-ghost use Rattle.hub.specs.Phases.{byTicket, byWaiter};
+ghost use Rattle.hub.specs.Phases.{byTicket, byWaiter, isCancelled, isDone};
 
 // A place for a phase that has a ticket, another for one that has none.
 pub fn by_ticket(phase: Phase, place: Place, otherwise: Place) -> Place
@@ -20,12 +20,30 @@ pub fn by_ticket(phase: Phase, place: Place, otherwise: Place) -> Place
     }
 }
 
-// The party that waits at a place; 32, which is none, where nobody does.
+// The party that waits at a place; 32, the first number past the slots, where nobody does.
 pub fn waiter_at(place: Place) -> u32
     ensures { λ r. ⌜ r ≡ byWaiter 32 (λ q. q) place ⌝ }
 {
     match place {
         Place::Waiting(q) => q,
         _ => 32,
+    }
+}
+
+pub fn is_cancelled(place: Place) -> bool
+    ensures { λ r. ⌜ r ≡ isCancelled place ⌝ }
+{
+    match place {
+        Place::Cancelled => true,
+        _ => false,
+    }
+}
+
+pub fn is_done(place: Place) -> bool
+    ensures { λ r. ⌜ r ≡ isDone place ⌝ }
+{
+    match place {
+        Place::Done => true,
+        _ => false,
     }
 }

@@ -5,8 +5,8 @@ use mathlib.Core.Path.{refl}
 use mathlib.Core.List.{[], _∷_}
 use Rattle.hub.proofs.Laws.Tags.{place-arm}
 use Rattle.hub.specs.Phases.{byWaiter}
-use Rattle.live.proofs.sight.waiter_at.Statement.{statement}
-use Rattle.live.proofs.sight.waiter_at.Tie as tie
+use Rattle.table.proofs.sight.waiter_at.Statement.{statement}
+use Rattle.table.proofs.sight.waiter_at.Tie as tie
 
 enum-known-place : tie.Need-enum-known-place
 enum-known-place c = search needs
