@@ -3,7 +3,6 @@ pub mod Hubs
 pub mod Doors
 pub mod Reached
 pub mod Turns
-pub mod Loops
 pub mod Stored
 pub mod Answered
 pub mod Looked

@@ -25,7 +25,7 @@ use Rattle.live.specs.declared.effect.Effect.{Effect}
 use Rattle.live.specs.declared.figures.Figures.{Figures}
 use Rattle.live.specs.Effect.{acted, effectOf}
 use Rattle.live.proofs.Laws.Hubs.{hubOf}
-use Rattle.live.proofs.Laws.Loops.{tidied, tidied-all, tidied-none}
+use Rattle.step.proofs.Laws.Loops.{tidied, tidied-all, tidied-none}
 
 -- Storing what was there changes nothing.
 same-place : (l : List PlaceSlot) (t : ℕ) → writePlace l t (readPlace l t) ≡ l

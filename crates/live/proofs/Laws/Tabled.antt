@@ -27,7 +27,7 @@ use Rattle.live.specs.declared.figures.Figures.{Figures}
 use Rattle.live.specs.Effect.{effectOf}
 use Rattle.live.specs.Sight.{sightOf}
 use Rattle.live.proofs.Laws.Hubs.{hubOf}
-use Rattle.live.proofs.Laws.Loops.{tidied}
+use Rattle.step.proofs.Laws.Loops.{tidied}
 use Rattle.live.proofs.Laws.Stored.{stored, effectAt, applied, told}
 
 module _ (f : Figures) (places : List PlaceSlot) (slots : List PartySlot) (x : ℕ) where

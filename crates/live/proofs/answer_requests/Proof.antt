@@ -32,10 +32,10 @@ use Rattle.live.proofs.Laws.Answered.{Passed, passed, door-turn, LetIn,
 use Rattle.live.proofs.Laws.Answered.{call-turn}
 use Rattle.live.proofs.Laws.Hubs.{hubOf, counting}
 use Rattle.live.proofs.Laws.Looked.{waits, nobody-waits, not-full}
-use Rattle.live.proofs.Laws.Loops.{Skipping, skipping, can-skip, in-window, skipping-on}
-use Rattle.live.proofs.Laws.Loops.{skipping-stop, skipping-end}
-use Rattle.live.proofs.Laws.Loops.{Retiring, retiring, retiring-on, retiring-stop}
-use Rattle.live.proofs.Laws.Loops.{retiring-end}
+use Rattle.step.proofs.Laws.Loops.{Skipping, skipping, can-skip, in-window, skipping-on}
+use Rattle.step.proofs.Laws.Loops.{skipping-stop, skipping-end}
+use Rattle.step.proofs.Laws.Loops.{Retiring, retiring, retiring-on, retiring-stop}
+use Rattle.step.proofs.Laws.Loops.{retiring-end}
 use Rattle.live.proofs.Laws.Reached.{same-counter}
 use Rattle.live.proofs.Laws.Stored.{nobody, still, keeps-oldest, few-turns}
 use Rattle.live.proofs.Laws.Tabled.{Read, small-sight, left, said}

@@ -10,7 +10,7 @@ use Rattle.step.proofs.reclaim.retire_done.Statement.{statement}
 use Rattle.step.proofs.reclaim.retire_done.Tie as tie
 
 abbrev Inv-loop : tie.InvT-loop
-Inv-loop hub₀ n₀ hub n = Retiring hub₀ hub n
+Inv-loop hub₀ n₀ hub n = Retiring 256 hub₀ hub n
 
 abbrev μ-loop : tie.MeasureT-loop
 μ-loop hub₀ n₀ hub n = 256 - n
@@ -59,19 +59,19 @@ loop-less c = search needs
 loop-again : tie.Need-loop-again Inv-loop μ-loop
 unfolding readPlace writePlace
 loop-again c =
-    retiring-on _ _ _ (c .before .before .before .before .loop .inv)
+    retiring-on _ _ _ _ (c .before .before .before .before .loop .inv)
     (c .before .before .before .loop-test .taken)
     (sym (c .before .is-done .ensures) ∙ not-false _ (c .if1 .left))
 
 -- src/reclaim.rt:56:1
 returns : tie.Need-returns Inv-loop μ-loop
-returns c = retiring-end _ _ _ (c .before .loop .inv) (c .loop-test .left)
+returns c = retiring-end _ _ _ _ (c .before .loop .inv) (c .loop-test .left)
 
 -- src/reclaim.rt:56:1
 returns-2 : tie.Need-returns-2 Inv-loop μ-loop
 unfolding readPlace
 returns-2 c =
-    retiring-stop _ _ _ (c .before .before .before .before .loop .inv)
+    retiring-stop _ _ _ _ (c .before .before .before .before .loop .inv)
     (sym (c .before .is-done .ensures) ∙ not-true _ (c .if1 .taken))
 
 pub retire-done-spec : {M : Type 1} → statement M

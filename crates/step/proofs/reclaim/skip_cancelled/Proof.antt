@@ -5,13 +5,13 @@ use borrow.Author.Tests.{not-true, not-false}
 use mathlib.Core.Path.{refl, sym, _∙_}
 use Rattle.hub.specs.Record.{readPlace, writePlace}
 use Prim.Native.Nat.{_-_}
-use Rattle.step.proofs.Laws.Loops.{Skipping, can-skip, beyond-skip, other-skip}
+use Rattle.step.proofs.Laws.Loops.{Skipping, within-skip, beyond-skip, other-skip}
 use Rattle.step.proofs.Laws.Loops.{skipping-on, skipping-stop, skipping-end}
 use Rattle.step.proofs.reclaim.skip_cancelled.Statement.{statement}
 use Rattle.step.proofs.reclaim.skip_cancelled.Tie as tie
 
 abbrev Inv-loop : tie.InvT-loop
-Inv-loop hub₀ end n₀ hub n = Skipping hub₀ hub n
+Inv-loop hub₀ end n₀ hub n = Skipping 256 hub₀ hub n
 
 abbrev μ-loop : tie.MeasureT-loop
 μ-loop hub₀ end n₀ hub n = 256 - n
@@ -65,26 +65,26 @@ loop-again : tie.Need-loop-again Inv-loop μ-loop
 unfolding readPlace writePlace
 loop-again c =
     let s = c .before .before .before .before .before .loop .inv in
-    skipping-on _ _ _ s (c .before .before .before .before .loop-test .taken)
-    (can-skip _ _ _ s (c .before .before .before .if1 .left)
+    skipping-on _ _ _ _ s (c .before .before .before .before .loop-test .taken)
+    (within-skip _ _ _ _ s (c .before .before .before .if1 .left)
     (sym (c .before .is-cancelled .ensures) ∙ not-false _ (c .if2 .left)))
 
 -- src/reclaim.rt:31:1
 returns : tie.Need-returns Inv-loop μ-loop
-returns c = skipping-end _ _ _ (c .before .loop .inv) (c .loop-test .left)
+returns c = skipping-end _ _ _ _ (c .before .loop .inv) (c .loop-test .left)
 
 -- src/reclaim.rt:31:1
 returns-2 : tie.Need-returns-2 Inv-loop μ-loop
 returns-2 c =
     let s = c .before .before .loop .inv in
-    skipping-stop _ _ _ s (beyond-skip _ _ _ s (c .if1 .taken))
+    skipping-stop _ _ _ _ s (beyond-skip _ _ _ _ s (c .if1 .taken))
 
 -- src/reclaim.rt:31:1
 returns-3 : tie.Need-returns-3 Inv-loop μ-loop
 unfolding readPlace
 returns-3 c =
     let l = c .before .before .before .before .before .loop in
-    skipping-stop _ _ _ (l .inv)
+    skipping-stop _ _ _ _ (l .inv)
     (other-skip (l .hub) (sym (c .before .is-cancelled .ensures) ∙ not-true _ (c .if2 .taken)))
 
 pub skip-cancelled-spec : {M : Type 1} → statement M
