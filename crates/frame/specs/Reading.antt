@@ -38,10 +38,10 @@ asked r (c ∷ cs) =
 abbrev pub threeOf : Request → List ℕ
 threeOf r = r .code ∷ r .first ∷ r .second ∷ []
 
-unfoldable pub bytesOf : List Request → List ℕ
-bytesOf [] = []
-bytesOf (r ∷ rs) = threeOf r ++ bytesOf rs
+unfoldable pub requestBytes : List Request → List ℕ
+requestBytes [] = []
+requestBytes (r ∷ rs) = threeOf r ++ requestBytes rs
 
 -- Requests, in front of what the buffer holds past them.
 abbrev pub written : List Request → List ℕ → List ℕ
-written rs out = bytesOf rs ++ drop (3 * length rs) out
+written rs out = requestBytes rs ++ drop (3 * length rs) out

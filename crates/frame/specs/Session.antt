@@ -2,11 +2,11 @@
 use Prim.Native.Nat.{ℕ, _≤_}
 use mathlib.Core.Path.{_≡_}
 use mathlib.Core.Bool.{cond}
-use mathlib.Core.List.{List, [], _∷_, _++_}
+use mathlib.Core.List.{List, [], _∷_, _++_, map}
 use lib.Dec.{eqb}
 use lib.ListN.{length, replicate}
 use Rattle.line.specs.declared.request.Request.{Request}
-use Rattle.line.specs.Program.{unopened, replies, after, closing, outputOf}
+use Rattle.line.specs.Program.{unopened, replies, after, closing, linesOf, outputOf}
 use Rattle.line.specs.Requests.{requestOf}
 use Rattle.live.specs.Live.{Reached}
 use Rattle.frame.specs.declared.reader.Reader.{Reader}
@@ -14,8 +14,8 @@ use Rattle.frame.specs.declared.session.Session.{Session}
 use Rattle.frame.specs.Reading.{lineIn, past, asked}
 
 -- Before the first piece.
-abbrev pub begun : Session
-begun = record { hub = unopened; reader = record { line = replicate 65 0; len = 0 } }
+abbrev pub atStart : Session
+atStart = record { hub = unopened; reader = record { line = replicate 65 0; len = 0 } }
 
 -- Past a piece, and what is printed for it.
 unfoldable pub fed : Session → List ℕ → Session
@@ -45,10 +45,16 @@ joined (p ∷ ps) = p ++ joined ps
 
 -- However an input is cut, the output is that of the whole.
 unfoldable pub InPieces : Type 0
-InPieces = (pieces : List (List ℕ)) → toldAll begun pieces ≡ outputOf (joined pieces)
+InPieces = (pieces : List (List ℕ)) → toldAll atStart pieces ≡ outputOf (joined pieces)
 
--- A session that an input can lead to: its record needs no check, and its line is kept.
+-- What `feed` and `finish` ask of a session, and what every input leads to: a record that needs no
+-- check, and at most 65 characters in a buffer of 65.
 pub record Sound (s : Session) : Type 0 where
   pub reached : Reached (s .hub)
   pub size : length (s .reader .line) ≡ 65
   pub short : s .reader .len ≤ 65
+
+-- Every input, well formed or not, leads to a record that is not opened or that some schedule from
+-- an accepted opening leaves: one that the third demand speaks of.
+unfoldable pub EveryInput : Type 0
+EveryInput = (input : List ℕ) → Reached (after unopened (map requestOf (linesOf input)))

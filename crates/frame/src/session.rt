@@ -11,7 +11,7 @@ ghost use mathlib.Core.List.{_++_};
 ghost use Prim.Native.Nat.{suc, _*_, _≤_};
 ghost use lib.ListN.{length, drop};
 ghost use Rattle.frame.specs.Reading.{asked, written};
-ghost use Rattle.frame.specs.Session.{Sound, begun, fed, finished, rest, told};
+ghost use Rattle.frame.specs.Session.{Sound, atStart, fed, finished, rest, told};
 
 // The record, and the line that is being read.
 pub struct Session {
@@ -27,7 +27,7 @@ pub struct Fed {
 
 // Before the first piece.
 pub fn begin() -> Session
-    ensures { λ r. ⌜ r ≡ begun ⌝ }
+    ensures { λ r. ⌜ r ≡ atStart ⌝ }
 {
     Session {
         hub: Hub::open(0, 0),

@@ -15,19 +15,19 @@ fn count_lines(input: &[u8]) -> usize
     ensures { λ r. ⌜ r ≡ length (linesOf (now (input .entry))) ⌝ }
 {
     let mut ended: usize = 0;
-    let mut cut: usize = 0; // 1 within a line
+    let mut within: usize = 0; // 1 within a line
     let mut i: usize = 0;
     while i < input.len() {
         let c = input[i];
         i += 1;
         if c == 0x0A {
             ended += 1;
-            cut = 0;
+            within = 0;
             continue;
         }
-        cut = 1;
+        within = 1;
     }
-    ended + cut
+    ended + within
 }
 
 // Where the piece that begins at `from` ends.

@@ -1,9 +1,10 @@
 -- "Frames": a call is its code and a party byte; an answer is its code, the party, the woken party
 -- and the number, most significant byte first.
-use Prim.Native.Nat.{ℕ, _/_, _%_}
+use Prim.Native.Nat.{ℕ, _-_, _/_, _%_}
 use mathlib.Core.Bool.{Bool, cond}
 use mathlib.Core.List.{List, [], _∷_}
 use lib.Dec.{eqb}
+use lib.IntN.{ℤ, pos, negsuc}
 use Rattle.hub.specs.declared.moves.Op.{Op}
 use Rattle.hub.specs.Answers.{Printed}
 use Rattle.hub.specs.Basics.{among}
@@ -27,3 +28,8 @@ abbrev pub frameOf : ℕ → Printed → List ℕ
 frameOf p r =
     r .code ∷ p ∷ r .woken % 256 ∷ r .number / 16777216 % 256 ∷ r .number / 65536 % 256
     ∷ r .number / 256 % 256 ∷ r .number % 256 ∷ []
+
+-- A signed number in four bytes, two's complement: −1 is FFFFFFFF.
+abbrev pub twosComplement : ℤ → ℕ
+twosComplement (pos n) = n
+twosComplement (negsuc n) = 0xFFFFFFFF - n

@@ -2,8 +2,6 @@
 use Prim.Native.Nat.{ℕ}
 use mathlib.Core.Bool.{Bool, true, false, cond, _&&_}
 use mathlib.Core.List.{List, [], _∷_, _++_, map}
-use mir.Syntax.{w32}
-use mir.Val.{ofZ}
 use lib.Dec.{eqb, leb}
 use Rattle.hub.specs.declared.answers.Answer.{Answer}
 use Rattle.hub.specs.declared.moves.Call.{Call}
@@ -15,7 +13,7 @@ use Rattle.hub.specs.Opening.{fresh, opening}
 use Rattle.hub.specs.Phases.{holds, isWaiting}
 use Rattle.hub.specs.Record.{phasesOf}
 use Rattle.line.specs.declared.request.Request.{Request}
-use Rattle.line.specs.Frame.{isCall, opOf, frameOf}
+use Rattle.line.specs.Frame.{isCall, opOf, frameOf, twosComplement}
 use Rattle.line.specs.Hex.{textOf}
 use Rattle.line.specs.Requests.{requestOf}
 
@@ -87,7 +85,7 @@ closing h =
     let phases = phasesOf (h .slots) in
     textOf
     (frameOf (count holds phases)
-    (record { code = 0x7E; woken = count isWaiting phases; number = ofZ w32 (h .counter) }))
+    (record { code = 0x7E; woken = count isWaiting phases; number = twosComplement (h .counter) }))
 
 -- The whole output.
 unfoldable pub outputOf : List ℕ → List ℕ

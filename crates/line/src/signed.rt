@@ -1,11 +1,10 @@
 // The counter as four bytes: two's complement.
 
 ghost use mathlib.Core.Path.{_≡_};
-ghost use mir.Syntax.{w32};
-ghost use mir.Val.{ofZ};
+ghost use Rattle.line.specs.Frame.{twosComplement};
 
 pub fn twos_complement(n: i32) -> u32
-    ensures { λ r. ⌜ r ≡ ofZ w32 n ⌝ }
+    ensures { λ r. ⌜ r ≡ twosComplement n ⌝ }
 {
     if n < 0 {
         let below = -1 - n;

@@ -34,7 +34,8 @@ fn draws(phase: Phase) -> u32
     }
 }
 
-// It stops as soon as they are enough: a count of all 32 would be taken ahead of every call.
+// It stops as soon as they are enough: a count of all 32 the compiler would make ahead of every
+// call, asked for or not.
 pub(crate) fn is_full(figures: Figures, slots: [PartySlot; 32]) -> bool
     requires { ⌜ (figures .oldest ≤ 1000000) × (figures .issued ≤ 1000000) ⌝ }
     ensures { λ r. ⌜ r ≡ leb (figures .oldest + 256)

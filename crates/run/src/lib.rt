@@ -29,7 +29,7 @@ pub enum Ran {
     Done,
 }
 
-// One call, by its code: 13 is what is left of the four.
+// One call, by its code; give back is what is left of the four.
 fn called(hub: Hub, code: u8, party: u8) -> Outcome
     ensures { λ r. ⌜ r ≡ called hub (record { op = opOf code; party = party }) ⌝ }
 {

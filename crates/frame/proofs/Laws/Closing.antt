@@ -1,16 +1,14 @@
 -- The closing line shows what the record's counts are.
 use Prim.Native.Nat.{ℕ}
 use mathlib.Core.Path.{_≡_}
-use mir.Syntax.{w32}
-use mir.Val.{ofZ}
 use Rattle.hub.specs.declared.counts.Counts.{Counts}
 use Rattle.hub.specs.declared.record.Hub.{Hub}
 use Rattle.hub.specs.Counts.{countsOf}
-use Rattle.line.specs.Frame.{frameOf}
+use Rattle.line.specs.Frame.{frameOf, twosComplement}
 use Rattle.line.specs.Hex.{textOf}
 use Rattle.line.specs.Program.{closing}
 
-pub shown : (h : Hub) (c : Counts) → c ≡ countsOf h → (n : ℕ) → n ≡ ofZ w32 (h .counter)
+pub shown : (h : Hub) (c : Counts) → c ≡ countsOf h → (n : ℕ) → n ≡ twosComplement (h .counter)
     → textOf (frameOf (c .held) (record { code = 0x7E; woken = c .waiting; number = n }))
     ≡ closing h
 unfolding countsOf

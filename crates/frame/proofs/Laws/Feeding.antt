@@ -2,7 +2,7 @@
 use Prim.Native.Nat.{ℕ, zero, suc, _+_, _*_, _≤_, _<_}
 use mathlib.Core.Path.{_≡_, refl, sym, ap, _∙_, subst}
 use mathlib.Core.Bool.{Bool, true, false, cond}
-use mathlib.Core.List.{List, [], _∷_, _++_, append-assoc}
+use mathlib.Core.List.{List, [], _∷_, _++_, map}
 use mathlib.Core.Logic.{inl, inr}
 use native.Mathlib.Omega.{arith}
 use borrow.Author.Tests.{ltb-true, eq-eqb, ne-eqb}
@@ -13,7 +13,7 @@ use lib.ListN.{length, take, drop, set, length-append, length-drop, length-set, 
 use Rattle.hub.specs.declared.record.Hub.{Hub}
 use Rattle.hub.proofs.Laws.Bools.{if-true, if-false}
 use Rattle.line.specs.declared.request.Request.{Request}
-use Rattle.line.specs.Program.{turn, replies, after, closing}
+use Rattle.line.specs.Program.{unopened, turn, replies, after, closing, linesOf}
 use Rattle.line.specs.Requests.{requestOf}
 use Rattle.live.specs.Live.{requestsIn, replied, Reached}
 use Rattle.live.proofs.Laws.Reached.{turn-reached}
@@ -23,17 +23,17 @@ use Rattle.frame.specs.declared.reader.Read.{Read}
 use Rattle.frame.specs.declared.reader.Reader.{Reader}
 use Rattle.frame.specs.declared.session.Fed.{Fed}
 use Rattle.frame.specs.declared.session.Session.{Session}
-use Rattle.frame.specs.Reading.{lineIn, pushed, emptied, next, past, asked, threeOf, bytesOf, written}
-use Rattle.frame.specs.Session.{begun, fed, told, rest, finished, Sound}
+use Rattle.frame.specs.Reading.{lineIn, pushed, emptied, next, past, asked, threeOf, requestBytes, written}
+use Rattle.frame.specs.Session.{atStart, fed, told, rest, finished, Sound, EveryInput}
 
 -- The requests that were written are read.
-requests-back : (rs : List Request) (l : List ℕ) → requestsIn (length rs) (bytesOf rs ++ l) ≡ rs
-unfolding requestsIn bytesOf
+requests-back : (rs : List Request) (l : List ℕ) → requestsIn (length rs) (requestBytes rs ++ l) ≡ rs
+unfolding requestsIn requestBytes
 requests-back [] l = refl
 requests-back (r ∷ rs) l = ap (λ (q : List Request). r ∷ q) (requests-back rs l)
 
-bytes-size : (rs : List Request) → length (bytesOf rs) ≡ 3 * length rs
-unfolding bytesOf
+bytes-size : (rs : List Request) → length (requestBytes rs) ≡ 3 * length rs
+unfolding requestBytes
 bytes-size [] = refl
 bytes-size (r ∷ rs) = omega (arith, bytes-size rs)
 
@@ -46,6 +46,10 @@ after-reached : (rs : List Request) (h : Hub) → Reached h → Reached (after h
 unfolding after
 after-reached [] h x = x
 after-reached (r ∷ rs) h x = after-reached rs (turn h r .hub) (turn-reached h r x)
+
+pub every-input : EveryInput
+unfolding EveryInput
+every-input input = after-reached (map requestOf (linesOf input)) unopened (inl refl)
 
 -- The reader's buffer keeps its size.
 pub record Kept (r : Reader) : Type 0 where
@@ -73,8 +77,8 @@ unfolding past
 past-kept [] r k = k
 past-kept (c ∷ cs) r k = past-kept cs (next r c) (next-kept r c k)
 
-pub begun-sound : Sound begun
-begun-sound =
+pub start-sound : Sound atStart
+start-sound =
     record { reached = inl refl; size = length-replicate {A = ℕ} 65 0; short = omega arith }
 
 pub fed-sound : (s : Session) (piece : List ℕ) → Sound s → Sound (fed s piece)

@@ -15,7 +15,7 @@ use Rattle.line.proofs.Laws.Parts.{put-length, put-take, put-drop}
 use Rattle.hub.proofs.Laws.Bools.{if-true, if-false}
 use Rattle.frame.specs.declared.reader.Read.{Read}
 use Rattle.frame.specs.declared.reader.Reader.{Reader}
-use Rattle.frame.specs.Reading.{lineIn, pushed, emptied, next, past, asked, threeOf, bytesOf}
+use Rattle.frame.specs.Reading.{lineIn, pushed, emptied, next, past, asked, threeOf, requestBytes}
 use Rattle.frame.specs.Reading.{written}
 
 -- After i characters, from the reader r₀ and the buffer out₀; n lines have ended.
@@ -83,9 +83,9 @@ ended r c e = rw (eq-eqb c 0x0A e)
 -- A request takes three bytes off the buffer.
 one-more : (q : Request) (rs : List Request) (l : List ℕ)
     → written (q ∷ rs) l ≡ threeOf q ++ written rs (drop 3 l)
-unfolding bytesOf
+unfolding requestBytes
 one-more q rs l =
-    ap (λ (m : List ℕ). threeOf q ++ (bytesOf rs ++ m))
+    ap (λ (m : List ℕ). threeOf q ++ (requestBytes rs ++ m))
     (ap (λ (n : ℕ). drop n l) (count (length rs)) ∙ sym (drop-drop (3 * length rs) 3 l))
   where
     count : (n : ℕ) → 3 * suc n ≡ 3 + 3 * n
@@ -173,7 +173,7 @@ module _ (r₀ : Reader) (piece out₀ : List ℕ) (r : Reader) (out : List ℕ)
   pub end : (_≡_ {A = Read} (record { reader = r; count = n })
       (record { reader = past r₀ piece; count = length (asked r₀ piece) }))
       × (out ≡ written (asked r₀ piece) out₀)
-  unfolding past asked bytesOf
+  unfolding past asked requestBytes
   end = (
     (λ j. record {
       reader = (sym (ap (past r) nothing) ∙ u .reader) j;

@@ -15,7 +15,7 @@ use Rattle.line.specs.Requests.{requestOf}
 use Rattle.frame.specs.declared.reader.Reader.{Reader}
 use Rattle.frame.specs.declared.session.Session.{Session}
 use Rattle.frame.specs.Reading.{lineIn, next, past, asked}
-use Rattle.frame.specs.Session.{begun, fed, told, rest, finished, toldAll, joined, InPieces}
+use Rattle.frame.specs.Session.{atStart, fed, told, rest, finished, toldAll, joined, InPieces}
 use Rattle.frame.proofs.Laws.Lines.{lines-read}
 
 -- Requests in two parts.
@@ -89,11 +89,11 @@ in-pieces-from (p ∷ ps) s =
     ∙ sym (wholly-append s p (joined ps))
 
 -- An input that comes whole.
-pub in-one : (input : List ℕ) → wholly begun input ≡ outputOf input
+pub in-one : (input : List ℕ) → wholly atStart input ≡ outputOf input
 unfolding told fed finished outputOf
 in-one input =
-    let r = begun .reader in
-    let h = begun .hub in
+    let r = atStart .reader in
+    let h = atStart .hub in
     let rs = asked r input in
     let qs = rest (past r input) in
     let e : rs ++ qs ≡ map requestOf (linesOf input) =
@@ -105,4 +105,4 @@ in-one input =
 
 pub in-pieces : InPieces
 unfolding InPieces
-in-pieces ps = in-pieces-from ps begun ∙ in-one (joined ps)
+in-pieces ps = in-pieces-from ps atStart ∙ in-one (joined ps)

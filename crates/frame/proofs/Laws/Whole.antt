@@ -15,10 +15,10 @@ use Rattle.line.specs.Requests.{requestOf}
 use Rattle.frame.specs.declared.session.Fed.{Fed}
 use Rattle.frame.specs.declared.session.Session.{Session}
 use Rattle.frame.specs.Reading.{past, asked}
-use Rattle.frame.specs.Session.{begun, fed, told, rest, finished, Sound}
+use Rattle.frame.specs.Session.{atStart, fed, told, rest, finished, Sound}
 use Rattle.frame.specs.Whole.{hasRoom, size, filled}
 use Rattle.hub.proofs.Laws.Bools.{if-true, if-false}
-use Rattle.frame.proofs.Laws.Feeding.{begun-sound, fed-sound}
+use Rattle.frame.proofs.Laws.Feeding.{start-sound, fed-sound}
 use Rattle.frame.proofs.Laws.Sessions.{wholly, in-one, wholly-append, one-piece}
 use Rattle.frame.proofs.Laws.Sizes.{replies-size, output-size, asked-few}
 
@@ -64,11 +64,11 @@ pub record Printing (input out₀ : List ℕ) (s : Session) (out : List ℕ) (n 
       ≡ over (outputOf input) out₀
 
 pub nothing-printed : (input out : List ℕ) → length (outputOf input) ≤ length out
-    → Printing input out begun out 0 0
+    → Printing input out atStart out 0 0
 nothing-printed input out l =
     record {
       within = omega arith;
-      sound = begun-sound;
+      sound = start-sound;
       long = refl;
       room = omega (arith, ap length (in-one input));
       same = ap (λ (t : List ℕ). over t out) (in-one input);

@@ -25,7 +25,7 @@ use Rattle.line.specs.Program.{Turn, isOpen, turn, turnedDown, opens, calls}
 use Rattle.step.proofs.Laws.Admitted.{Counted, counted, admitted, no-such-party, asks}
 use Rattle.live.specs.declared.door.Door.{Door}
 use Rattle.live.specs.declared.figures.Figures.{Figures}
-use Rattle.live.specs.Door.{openDoor, callDoor, doorOf, shut}
+use Rattle.live.specs.Door.{openDoor, callDoor, doorOf, settled}
 use Rattle.live.specs.Live.{Reached}
 use Rattle.live.proofs.Laws.Hubs.{hubOf}
 use Rattle.live.proofs.Laws.Reached.{open-fits, shut-unopened}
@@ -54,7 +54,7 @@ passed c x y f d e t =
   where
     go : (a : Bool) → isCall c ≡ a → (b o : Bool) → leb 1 (f .permits) ≡ o → (p : Bool)
         → ltb x (f .parties) ≡ p → (k n : Bool)
-        → cond a (callDoor o p x f) (cond b (openDoor o k n x y f) (shut 0xFF 12 f)) .admitted
+        → cond a (callDoor o p x f) (cond b (openDoor o k n x y f) (settled 0xFF 12 f)) .admitted
         ≡ true
         → Passed c x f
     go true ea b true eo true ep k n z = record { code = ea; isopen = eo; party = ep }
@@ -139,12 +139,12 @@ module _ (f : Figures) (places : List PlaceSlot) (slots : List PartySlot) (c x y
     where
       go : (a b : Bool)
           → cond a (callDoor (leb 1 (f .permits)) (ltb x (f .parties)) x f)
-          (cond b (openDoor (leb 1 (f .permits)) (upTo32 x) (upTo32 y) x y f) (shut 0xFF 12 f)) .admitted
+          (cond b (openDoor (leb 1 (f .permits)) (upTo32 x) (upTo32 y) x y f) (settled 0xFF 12 f)) .admitted
           ≡ false
           → cond a (calls (isOpen hub) hub (asks (opOf c) x))
           (cond b (opens (isOpen hub) (upTo32 x && upTo32 y) hub x y) (turnedDown 0xFF 12 hub))
           ≡ at-door (cond a (callDoor (leb 1 (f .permits)) (ltb x (f .parties)) x f)
-          (cond b (openDoor (leb 1 (f .permits)) (upTo32 x) (upTo32 y) x y f) (shut 0xFF 12 f)))
+          (cond b (openDoor (leb 1 (f .permits)) (upTo32 x) (upTo32 y) x y f) (settled 0xFF 12 f)))
       go true b w = call-shut (leb 1 (f .permits)) refl (ltb x (f .parties)) refl w
       go false true w = open-shut (leb 1 (f .permits)) refl (upTo32 x) refl (upTo32 y) refl
       go false false w = refl

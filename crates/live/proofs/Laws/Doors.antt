@@ -10,7 +10,7 @@ use Rattle.line.specs.Frame.{isCall}
 use Rattle.line.proofs.Laws.Codes.{under, a-code}
 use Rattle.live.specs.declared.door.Door.{Door}
 use Rattle.live.specs.declared.figures.Figures.{Figures}
-use Rattle.live.specs.Door.{callDoor, openDoor, doorOf, shut}
+use Rattle.live.specs.Door.{callDoor, openDoor, doorOf, settled}
 
 module _ (c x y : ℕ) (f : Figures) {d : Door} where
   pub opens : c ≡ 1 → d ≡ openDoor (leb 1 (f .permits)) (upTo32 x) (upTo32 y) x y f
@@ -18,7 +18,7 @@ module _ (c x y : ℕ) (f : Figures) {d : Door} where
   unfolding doorOf
   opens e s = rw (under c (omega arith), eq-eqb c 1 e) s
 
-  pub other : (c ≡ 1 → ⊥) → isCall c ≡ false → d ≡ shut 0xFF 12 f → d ≡ doorOf c x y f
+  pub other : (c ≡ 1 → ⊥) → isCall c ≡ false → d ≡ settled 0xFF 12 f → d ≡ doorOf c x y f
   unfolding doorOf
   other n e s = rw (e, ne-eqb c 1 n) s
 

@@ -3,7 +3,7 @@ use borrow.Author.Needs.{needs}
 use mathlib.Core.Path.{_≡_, refl, sym, subst}
 use lib.ListN.{length}
 use Rattle.frame.specs.Session.{Sound}
-use Rattle.frame.proofs.Laws.Feeding.{begun-sound}
+use Rattle.frame.proofs.Laws.Feeding.{start-sound}
 use Rattle.schedule.proofs.take_all.Statement.{statement}
 use Rattle.schedule.proofs.take_all.Tie as tie
 
@@ -19,7 +19,7 @@ begin-requires : tie.Need-begin-requires Inv-loop μ-loop
 begin-requires c κs = search needs
 
 loop-holds : tie.Need-loop-holds Inv-loop μ-loop
-loop-holds c = (subst Sound (sym (c .begin .ensures)) begun-sound, refl, refl, refl)
+loop-holds c = (subst Sound (sym (c .begin .ensures)) start-sound, refl, refl, refl)
 
 take-piece-requires : tie.Need-take-piece-requires Inv-loop μ-loop
 take-piece-requires c κs = search needs

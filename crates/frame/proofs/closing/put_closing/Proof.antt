@@ -3,7 +3,8 @@ use borrow.Author.Needs.{needs}
 use mathlib.Core.Path.{ap, _∙_}
 use mir.Facts.{toZ-ofZ}
 use mir.Syntax.{w32}
-use mir.Val.{SFits, ofZ}
+use mir.Val.{SFits}
+use Rattle.line.specs.Frame.{twosComplement}
 use native.Mathlib.Omega.{arith}
 use Rattle.frame.proofs.Laws.Closing.{shown}
 use Rattle.frame.proofs.closing.put_closing.Statement.{statement}
@@ -33,7 +34,7 @@ returns c =
     let f : SFits w32 (h .counter) = search needs in
     c .before .before .put-line .ensures
     ∙ shown h (k .counts .result) (k .counts .ensures .0) _
-    (t .twos-complement .ensures ∙ ap (ofZ w32) (toZ-ofZ f))
+    (t .twos-complement .ensures ∙ ap twosComplement (toZ-ofZ f))
 
 pub put-closing-spec : {M : Type 1} → statement M
 put-closing-spec =

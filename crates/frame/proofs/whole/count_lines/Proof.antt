@@ -8,10 +8,10 @@ use Rattle.frame.proofs.whole.count_lines.Statement.{statement}
 use Rattle.frame.proofs.whole.count_lines.Tie as tie
 
 abbrev Inv-loop : tie.InvT-loop
-Inv-loop input ended₀ cut₀ i₀ ended cut i = Counted input ended cut i
+Inv-loop input ended₀ within₀ i₀ ended within i = Counted input ended within i
 
 abbrev μ-loop : tie.MeasureT-loop
-μ-loop input ended₀ cut₀ i₀ ended cut i = length input - i
+μ-loop input ended₀ within₀ i₀ ended within i = length input - i
 
 loop-holds : tie.Need-loop-holds Inv-loop μ-loop
 loop-holds c = counted-none _

@@ -11,6 +11,7 @@ use lib.Signed.{ltZ, nonNeg}
 use mir.Syntax.{w32}
 use mir.Val.{SFits, Fits, toZ, ofZ}
 use mir.Facts.{toZ-ofZ}
+use Rattle.line.specs.Frame.{twosComplement}
 use Rattle.line.proofs.signed.twos_complement.Statement.{statement}
 use Rattle.line.proofs.signed.twos_complement.Tie as tie
 
@@ -78,11 +79,8 @@ returns : tie.Need-returns
 returns c =
     let z = c .before .args .n in
     let f = c .before .fits .n in
-    below-zero (λ (z : ℤ). SFits w32 z → 0xFFFFFFFF - natAbs (read (depth z)) ≡ ofZ w32 z)
-    (λ n f.
-    subst (λ (y : ℤ). 0xFFFFFFFF - natAbs y ≡ ofZ w32 (negsuc n)) (sym (depth-read n f))
-    (omega (arith, f .sfits)))
-    z (test f (c .if1 .taken)) f
+    below-zero (λ (z : ℤ). SFits w32 z → 0xFFFFFFFF - natAbs (read (depth z)) ≡ twosComplement z)
+    (λ n f. ap (λ (y : ℤ). 0xFFFFFFFF - natAbs y) (depth-read n f)) z (test f (c .if1 .taken)) f
 
 cast-result-2 : tie.Need-cast-result-2
 cast-result-2 c =
@@ -95,8 +93,8 @@ returns-2 : tie.Need-returns-2
 returns-2 c =
     let z = c .before .args .n in
     let f = c .before .fits .n in
-    not-below (λ (z : ℤ). SFits w32 z → natAbs (read z) ≡ ofZ w32 z) (λ n f. ap natAbs (toZ-ofZ f)) z
-    (test f (c .if1 .left)) f
+    not-below (λ (z : ℤ). SFits w32 z → natAbs (read z) ≡ twosComplement z)
+    (λ n f. ap natAbs (toZ-ofZ f)) z (test f (c .if1 .left)) f
 
 pub twos-complement-spec : {M : Type 1} → statement M
 twos-complement-spec =

@@ -11,19 +11,19 @@ open-door-requires c κs = search needs
 returns : tie.Need-returns
 returns c = opens _ _ _ _ (c .before .if1 .taken) (c .open-door .ensures)
 
-shut-requires : tie.Need-shut-requires
-shut-requires c κs = search needs
+settled-requires : tie.Need-settled-requires
+settled-requires c κs = search needs
 
 returns-2 : tie.Need-returns-2
 returns-2 c =
-    other _ _ _ _ (c .before .before .if1 .left) (under _ (c .before .if2 .taken)) (c .shut .ensures)
+    other _ _ _ _ (c .before .before .if1 .left) (under _ (c .before .if2 .taken)) (c .settled .ensures)
 
-shut-requires-2 : tie.Need-shut-requires-2
-shut-requires-2 c κs = search needs
+settled-requires-2 : tie.Need-settled-requires-2
+settled-requires-2 c κs = search needs
 
 returns-3 : tie.Need-returns-3
 returns-3 c =
-    other _ _ _ _ (c .before .before .before .if1 .left) (over _ (c .before .if3 .taken)) (c .shut2 .ensures)
+    other _ _ _ _ (c .before .before .before .if1 .left) (over _ (c .before .if3 .taken)) (c .settled2 .ensures)
 
 call-door-requires : tie.Need-call-door-requires
 call-door-requires c κs = search needs
@@ -38,9 +38,9 @@ at-door-spec =
     (tie.spec
     open-door-requires
     returns
-    shut-requires
+    settled-requires
     returns-2
-    shut-requires-2
+    settled-requires-2
     returns-3
     call-door-requires
     returns-4)
