@@ -46,7 +46,8 @@ feed-requires c κs =
     let n = c .before .before .before .before .count .result - 0 in
     let size : length read ≡ length (s .args .piece .now) = search needs in
     let short : length (take n read) ≤ length (s .args .piece .now) = omega (arith, size, take-few n read) in
-    (s .pre .0, (omega (arith, short, s .pre), omega (arith, short, asked-few (take n read) (s .args .session .reader), s .pre)))
+    let few = asked-few (take n read) (s .args .session .reader) in
+    (s .pre .0, (omega (arith, short, s .pre), omega (arith, short, few, s .pre)))
 
 print-requires : tie.Need-print-requires
 print-requires c κs = search needs
@@ -63,8 +64,10 @@ same-length-5 c = search needs
 returns-3 : tie.Need-returns-3
 returns-3 c =
     let f = c .before .before .before .before .before .before .before in
-    let s = f .before .before .before .before .before .before .before .before .before .before .before .before .before .before .before .before in
-    subst (λ (r : Fed). Sound (r .session)) (sym (f .feed .ensures .0)) (fed-sound (s .args .session) _ (s .pre .0))
+    let r = f .before .before .before .before .before .before .before .before .before .before .before in
+    let s = r .before .before .before .before .before in
+    subst (λ (r : Fed). Sound (r .session)) (sym (f .feed .ensures .0))
+    (fed-sound (s .args .session) _ (s .pre .0))
 
 pub take-piece-spec : {M : Type 1} → statement M
 take-piece-spec =

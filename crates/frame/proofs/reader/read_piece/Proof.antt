@@ -97,7 +97,9 @@ loop-again-3 c =
     let e = r .before .before .before in
     let l = e .before .before .before in
     line-end _ _ _ _ _ _ _ (l .loop .inv) (e .before .before .loop-test .taken) (e .if1 .left)
-    (r .read-line .result) (r .read-line .ensures ∙ whole (record { line = l .loop .line; len = l .loop .len })) _ (c .before .before .put-request .ensures)
+    (r .read-line .result)
+    (r .read-line .ensures ∙ whole (record { line = l .loop .line; len = l .loop .len })) _
+    (c .before .before .put-request .ensures)
 
 same-length : tie.Need-same-length Inv-loop μ-loop
 same-length c =

@@ -63,7 +63,10 @@ part-put-closing-end-2 c =
     let a = s .args in
     let read = r .read-line .ensures ∙ whole (a .session .reader) in
     let room = room-for-two (a .session) (a .out .now) (r .read-line .result) read (e .if1 .left) (s .pre .1) in
-    omega (arith, room, long (a .session) (a .out .now) (r .read-line .result) read (e .if1 .left) _ room (w .answer-requests .ensures .1))
+    let long =
+        long (a .session) (a .out .now) (r .read-line .result) read (e .if1 .left) _ room
+        (w .answer-requests .ensures .1) in
+    omega (arith, room, long)
 
 put-closing-requires-2 : tie.Need-put-closing-requires-2
 put-closing-requires-2 c κs = search needs

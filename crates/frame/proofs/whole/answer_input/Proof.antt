@@ -41,7 +41,8 @@ returns-2 c =
     let e = w .before .before .before in
     let n = e .before in
     let a = n .before .before .before .args in
-    all-written (a .input .now) (a .out .now) (n .count-lines .result) (n .count-lines .ensures) (e .if1 .left) _ (w .write-output .ensures)
+    all-written (a .input .now) (a .out .now) (n .count-lines .result) (n .count-lines .ensures)
+    (e .if1 .left) _ (w .write-output .ensures)
 
 pub answer-input-spec : {M : Type 1} → statement M
 answer-input-spec =

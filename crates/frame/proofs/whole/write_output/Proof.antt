@@ -130,7 +130,8 @@ same-length-2 c = search needs
 returns : tie.Need-returns Inv-loop μ-loop
 returns c =
     let l = c .before .before .before .before .before in
-    all-printed _ _ _ _ _ _ (l .loop .inv .0) (c .before .before .before .before .loop-test .left) _ (c .before .before .finish .ensures .1)
+    all-printed _ _ _ _ _ _ (l .loop .inv .0) (c .before .before .before .before .loop-test .left) _
+    (c .before .before .finish .ensures .1)
 
 pub write-output-spec : {M : Type 1} → statement M
 write-output-spec =
