@@ -64,8 +64,8 @@ part-put-closing-end-2 c =
     let read = r .read-line .ensures ∙ whole (a .session .reader) in
     let room = room-for-two (a .session) (a .out .now) (r .read-line .result) read (e .if1 .left) (s .pre .1) in
     let long =
-        long (a .session) (a .out .now) (r .read-line .result) read (e .if1 .left) _ room
-        (w .answer-requests .ensures .1) in
+    long (a .session) (a .out .now) (r .read-line .result) read (e .if1 .left) _ room
+    (w .answer-requests .ensures .1) in
     omega (arith, room, long)
 
 put-closing-requires-2 : tie.Need-put-closing-requires-2
