@@ -14,6 +14,9 @@ const LONG: u64 = 600_000;
 /// Lines of a difference that are shown; the seed gives the rest.
 const SHOWN: usize = 30;
 
+/// As many lines are gone through one by one for the shortest difference.
+const SEARCHED: usize = 12_000;
+
 /// The seed of the long schedule, which comes last.
 const LAST: u64 = 0;
 
@@ -132,20 +135,27 @@ fn outputs(programs: [&str; 2], input: &[u8], piece: usize) -> [Vec<u8>; 2] {
     })
 }
 
-/// Prints where the programs differ, on as few lines as it takes: on one line less they agree.
+/// Prints where the programs differ, on as few lines as it takes. Halving finds a bound on which
+/// they differ and on one line less agree. A closing line may differ and agree again further on,
+/// so the lines up to the bound are then gone through from the first, unless they are too many.
 fn show(programs: [&str; 2], seed: u64, input: &[u8], piece: usize) {
     let lines: Vec<&[u8]> = input.split_inclusive(|&byte| byte == b'\n').collect();
     let both = |count: usize| outputs(programs, &lines[..count].concat(), piece);
-    let (mut agree, mut differ) = (0, lines.len());
-    while differ - agree > 1 {
-        let middle = (agree + differ) / 2;
-        let [proved, second] = both(middle);
-        if proved == second {
-            agree = middle
+    let differs = |count: usize| {
+        let [proved, second] = both(count);
+        proved != second
+    };
+    let (mut agree, mut bound) = (0, lines.len());
+    while bound - agree > 1 {
+        let middle = (agree + bound) / 2;
+        if differs(middle) {
+            bound = middle
         } else {
-            differ = middle
+            agree = middle
         }
     }
+    let searched = if bound > SEARCHED { 0 } else { bound };
+    let differ = (0..searched).find(|&count| differs(count)).unwrap_or(bound);
     println!("seed {seed}: the first {differ} lines of {} are enough", lines.len());
     if differ > SHOWN {
         println!("  ...");
