@@ -4,15 +4,15 @@ use hub::opening::up_to_32;
 use hub::phases::is_free;
 use hub::phases::ticket;
 use hub::record::Hub;
+use hub::record::PartySlot;
 use hub::record::Phase;
 use hub::record::Place;
 ghost use mathlib.Core.Path.{_≡_};
-ghost use mathlib.Core.Bool.{_||_};
+ghost use mathlib.Core.Bool.{true, false};
 ghost use Prim.Native.Nat.{_≤_, _<_};
-ghost use lib.Dec.{ltb};
 ghost use Rattle.hub.specs.Fits.{counterFits, countsFit, inWindow, ticketFits, standsAt};
-ghost use Rattle.hub.specs.Phases.{isFree, ticketOf};
-ghost use Rattle.fit.specs.Parts.{scalars, windowed, listedAt, partyTest, ticketAt};
+ghost use Rattle.hub.specs.Phases.{byWaiter, ticketOf};
+ghost use Rattle.fit.specs.Parts.{scalars, windowed, listedAt, partyTest, ticketAt, waiterFits};
 
 // −32 to 32.
 fn counter_fits(counter: i32) -> bool
@@ -64,16 +64,6 @@ fn counts_fit(
         return false;
     }
     resumed <= oldest + Hub::PLACES
-}
-
-// A party from n up must be free.
-fn present(p: usize, parties: u8, phase: Phase) -> bool
-    ensures { λ r. ⌜ r ≡ (ltb p parties || isFree phase) ⌝ }
-{
-    if p < parties as usize {
-        return true;
-    }
-    is_free(phase)
 }
 
 // Has t a place, and is it below end?
@@ -129,23 +119,12 @@ fn listed(phase: Phase, place: Place) -> bool
     }
 }
 
-// A party's clauses, over its phase, its ticket t and what lies at the place of that ticket.
-fn party_fits(
-    p: usize,
-    parties: u8,
-    phase: Phase,
-    t: u32,
-    place: Place,
-    issued: u32,
-    resumed: u32,
-    oldest: u32,
-) -> bool
+// The clauses of one of the n parties, over its phase, its ticket t and what lies at the place of
+// that ticket.
+fn party_fits(phase: Phase, t: u32, place: Place, issued: u32, resumed: u32, oldest: u32) -> bool
     requires { ⌜ (t ≡ ticketOf phase) × (oldest ≤ 1000000) ⌝ }
-    ensures { λ r. ⌜ r ≡ partyTest p parties phase place (windowed issued resumed oldest) ⌝ }
+    ensures { λ r. ⌜ r ≡ partyTest phase place (windowed issued resumed oldest) ⌝ }
 {
-    if !present(p, parties, phase) {
-        return false;
-    }
     if !ticket_fits(phase, t, issued, resumed, oldest) {
         return false;
     }
@@ -165,6 +144,30 @@ fn stands_at(phase: Phase, t: u32) -> bool
     }
 }
 
+fn is_waiting(place: Place) -> bool
+    ensures { λ r. ⌜ r ≡ byWaiter false (λ q. true) place ⌝ }
+{
+    match place {
+        Place::Waiting(_) => true,
+        _ => false,
+    }
+}
+
+// Does the party that waits at the place of ticket t stand there?
+fn waiter_fits(place: Place, slots: [PartySlot; 32], t: u32) -> bool
+    ensures { λ r. ⌜ r ≡ waiterFits slots t place ⌝ }
+{
+    let Place::Waiting(q) = place else {
+        return true;
+    };
+    if 32 <= q {
+        return false;
+    }
+    let slot = slots[q as usize];
+    let phase = slot.phase;
+    stands_at(phase, t)
+}
+
 // The ticket whose place is at index i.
 fn ticket_at(oldest: u32, i: usize) -> u32
     requires { ⌜ (oldest ≤ 1000000) × (i < 256) ⌝ }
@@ -178,8 +181,8 @@ fn ticket_at(oldest: u32, i: usize) -> u32
     oldest - first + k
 }
 
-// Does the record fit? Parties that are free are passed over, and the places are gone through by
-// index, eight in a turn, so that little is done for each.
+// Does the record fit? Little is done where there is little to test: a free party, a party from n
+// up, a place where nobody waits. Eight places in a turn, so that the compiler unrolls it.
 pub fn fits(hub: Hub) -> bool
     ensures { λ r. ⌜ r ≡ Rattle.hub.specs.Fits.fits hub ⌝ }
 {
@@ -194,12 +197,12 @@ pub fn fits(hub: Hub) -> bool
     ) {
         return false;
     }
-    let parties = hub.parties;
     let issued = hub.issued;
     let resumed = hub.resumed;
     let oldest = hub.oldest;
+    let n = hub.parties as usize;
     let mut p: usize = 0;
-    while p < 32 {
+    while p < n {
         let slot = hub.slots[p];
         let phase = slot.phase;
         if is_free(phase) {
@@ -210,10 +213,22 @@ pub fn fits(hub: Hub) -> bool
         let i = (t % Hub::PLACES) as usize;
         let seat = hub.places[i];
         let place = seat.place;
-        if !party_fits(p, parties, phase, t, place, issued, resumed, oldest) {
+        if !party_fits(phase, t, place, issued, resumed, oldest) {
             return false;
         }
         p += 1;
+    }
+    let mut free = true;
+    while p < 32 {
+        let slot = hub.slots[p];
+        let phase = slot.phase;
+        if !is_free(phase) {
+            free = false;
+        }
+        p += 1;
+    }
+    if !free {
+        return false;
     }
     let mut j: usize = 0;
     while j < 32 {
@@ -222,16 +237,13 @@ pub fn fits(hub: Hub) -> bool
             let i = 8 * j + k;
             let seat = hub.places[i];
             let place = seat.place;
-            if let Place::Waiting(q) = place {
-                if 32 <= q {
-                    return false;
-                }
-                let w = q as usize;
-                let slot = hub.slots[w];
-                let phase = slot.phase;
-                if !stands_at(phase, ticket_at(oldest, i)) {
-                    return false;
-                }
+            if !is_waiting(place) {
+                k += 1;
+                continue;
+            }
+            let slots = hub.slots;
+            if !waiter_fits(place, slots, ticket_at(oldest, i)) {
+                return false;
             }
             k += 1;
         }

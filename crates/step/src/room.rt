@@ -11,6 +11,10 @@ pub(crate) fn is_full(oldest: u32, issued: u32, slots: [PartySlot; 32]) -> bool
     requires { ⌜ (oldest ≤ 1000000) × (issued ≤ 1000000) ⌝ }
     ensures { λ r. ⌜ r ≡ fullOf oldest issued slots ⌝ }
 {
+    // with room for 32 more nobody need be counted
+    if issued + 32 < oldest + Hub::PLACES {
+        return false;
+    }
     // asked and unnumbered
     let drawing = count_phases(slots, 3, 4);
     oldest + Hub::PLACES <= issued + drawing

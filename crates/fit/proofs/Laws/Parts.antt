@@ -1,14 +1,12 @@
 -- A clause over the values that it looks at says of them what it says of the whole record.
 use Prim.Native.Nat.{ℕ, _≤_, _<_}
-use mathlib.Core.Path.{_≡_, refl, sym, ap, subst, _∙_}
-use mathlib.Core.Bool.{Bool, true, false, and-false, _||_}
+use mathlib.Core.Path.{_≡_, refl, sym, ap, ap₂, _∙_}
+use mathlib.Core.Bool.{Bool, true, false, and-false, _&&_, _||_}
 use mathlib.Core.List.{List, [], _∷_, map}
 use lib.Dec.{leb, ltb}
 use lib.ListN.{length, length-map, getD, List·getD-eq-default}
-use borrow.Author.Tests.{leb-true}
+use borrow.Author.Tests.{leb-true, lt-ltb, le-ltb}
 use native.Mathlib.Omega.{arith}
-use types.Run.{OneOf}
-use denote.Enum.Declared.{tagOf}
 use Rattle.hub.specs.declared.moves.Sight.{Sight}
 use Rattle.hub.specs.declared.record.Hub.{Hub}
 use Rattle.hub.specs.declared.record.Phase.{Phase}
@@ -19,15 +17,15 @@ use Rattle.hub.specs.declared.record.Phase.the-variants.{Resuming, ResumingAt}
 use Rattle.hub.specs.declared.record.PartySlot.{PartySlot}
 use Rattle.hub.specs.declared.record.PlaceSlot.{PlaceSlot}
 use Rattle.hub.specs.declared.record.Place.{Place}
-use Rattle.hub.specs.declared.record.Place.the-variants.{Empty, Waiting as WaitedBy}
+use Rattle.hub.specs.declared.record.Place.the-variants.{Empty, Waiting as WaitedBy, Permit}
+use Rattle.hub.specs.declared.record.Place.the-variants.{Cancelled, Refused, Done}
 use Rattle.hub.specs.Fits.{look, countsFit, ticketFits, isListed, partyFits, standsAt, placeFits}
 use Rattle.hub.specs.Phases.{byTicket, byWaiter, isFree, isOneOf, ticketOf}
 use Rattle.hub.specs.Record.{PARTIES, MAX-BEGUN, readPhase, readPlace}
 use Rattle.hub.specs.Table.{step, stepOf}
-use Rattle.hub.proofs.record.Place as place
-use Rattle.fit.specs.Parts.{windowed, listedAt, partyTest, ticketAt}
+use Rattle.fit.specs.Parts.{windowed, listedAt, partyTest, ticketAt, waiterFits}
 use Rattle.fit.proofs.Laws.Ranges.{index-of}
-use Rattle.fit.proofs.Laws.Variants.{any-phase, any-place, of-place}
+use Rattle.fit.proofs.Laws.Variants.{any-phase, any-place}
 
 or-true : (b : Bool) → b || true ≡ true
 or-true true = refl
@@ -47,6 +45,12 @@ oldest-small h e =
       leb-true (h .oldest) i (held (leb (h .oldest) i) (λ z. simp (z, and-false) at e)),
       leb-true i MAX-BEGUN (held (leb i MAX-BEGUN) (λ z. simp (z, and-false) at e)),
     )
+
+-- With it every party below n has a slot.
+pub parties-few : (h : Hub) → countsFit h ≡ true → h .parties ≤ PARTIES
+unfolding countsFit
+parties-few h e =
+    leb-true (h .parties) PARTIES (held (leb (h .parties) PARTIES) (λ z. simp (z, and-false) at e))
 
 ticket-fits : (h : Hub) (f : Phase)
     → ticketFits (windowed (h .issued) (h .resumed) (h .oldest)) f ≡ ticketFits h f
@@ -91,22 +95,37 @@ listed-look : (h : Hub) (p : ℕ)
 unfolding look
 listed-look h p = row (readPlace (h .places)) _ _ _ _ _ _ refl
 
-pub party-test : (h : Hub) (p t : ℕ) → t ≡ ticketOf (readPhase (h .slots) p)
-    → partyTest p (h .parties) (readPhase (h .slots) p) (readPlace (h .places) t)
-    (windowed (h .issued) (h .resumed) (h .oldest)) ≡ partyFits h p
+-- A party's clauses one by one: its place among the n, its ticket, its place's state.
+abbrev clauses : Hub → ℕ → Phase → Bool
+clauses h p f =
+    (ltb p (h .parties) || isFree f)
+    && partyTest f (readPlace (h .places) (ticketOf f)) (windowed (h .issued) (h .resumed) (h .oldest))
+
+and-assoc : (a b c : Bool) → a && (b && c) ≡ (a && b) && c
+and-assoc true b c = refl
+and-assoc false b c = refl
+
+by-clauses : (h : Hub) (p : ℕ) → clauses h p (readPhase (h .slots) p) ≡ partyFits h p
 unfolding partyFits
-party-test h p t e = rw (e, ticket-fits h (readPhase (h .slots) p), listed-look h p)
+by-clauses h p =
+    let f = readPhase (h .slots) p in
+    and-assoc (ltb p (h .parties) || isFree f)
+    (ticketFits (windowed (h .issued) (h .resumed) (h .oldest)) f)
+    (listedAt f (readPlace (h .places) (ticketOf f)))
+    ∙ rw (ticket-fits h f, listed-look h p)
+
+-- One of the n parties.
+pub party-test : (h : Hub) (p t : ℕ) → p < h .parties → t ≡ ticketOf (readPhase (h .slots) p)
+    → partyTest (readPhase (h .slots) p) (readPlace (h .places) t)
+    (windowed (h .issued) (h .resumed) (h .oldest)) ≡ partyFits h p
+party-test h p t l e = rw (e, sym (by-clauses h p), lt-ltb p (h .parties) l)
 
 -- A free party fits, whatever else is there.
 pub free-fits : (h : Hub) (p : ℕ) → isFree (readPhase (h .slots) p) ≡ true → partyFits h p ≡ true
 unfolding ticketFits listedAt step isOneOf
-free-fits h p e = sym (party-test h p _ refl) ∙ go (readPhase (h .slots) p) e
+free-fits h p e = sym (by-clauses h p) ∙ go (readPhase (h .slots) p) e
   where
-    w : Hub
-    w = windowed (h .issued) (h .resumed) (h .oldest)
-
-    go : (f : Phase) → isFree f ≡ true
-        → partyTest p (h .parties) f (readPlace (h .places) (ticketOf (readPhase (h .slots) p))) w ≡ true
+    go : (f : Phase) → isFree f ≡ true → clauses h p f ≡ true
     go Free z = rw (or-true (ltb p (h .parties)))
     go Holding z = cc
     go (Waiting t) z = cc
@@ -120,39 +139,32 @@ free-fits h p e = sym (party-test h p _ refl) ∙ go (readPhase (h .slots) p) e
     go Resuming z = cc
     go (ResumingAt t) z = cc
 
-waited : (h : Hub) (t q : ℕ) → readPlace (h .places) t ≡ WaitedBy q
-    → standsAt (readPhase (h .slots) q) t ≡ placeFits h t
-unfolding placeFits
-waited h t q e = rw e
+-- From n up only a free one does.
+pub past-parties : (h : Hub) (p : ℕ) → h .parties ≤ p → isFree (readPhase (h .slots) p) ≡ false
+    → partyFits h p ≡ false
+past-parties h p l e = rw (sym (by-clauses h p), le-ltb p (h .parties) l, e)
 
-not-waited : (h : Hub) (t : ℕ)
-    → OneOf (0 ∷ 2 ∷ 3 ∷ 4 ∷ 5 ∷ []) (tagOf place.the-type (readPlace (h .places) t))
-    → placeFits h t ≡ true
-unfolding placeFits
-not-waited h t o =
-    of-place (λ a. byWaiter true (λ q. standsAt (readPhase (h .slots) q) t) a ≡ true)
-    (0 ∷ 2 ∷ 3 ∷ 4 ∷ 5 ∷ []) (readPlace (h .places) t) o (λ q. search depth 13)
+-- Nobody has to stand at a place where nobody waits.
+pub nobody-waits : (l : List PartySlot) (t : ℕ) (a : Place) → byWaiter false (λ q. true) a ≡ false
+    → waiterFits l t a ≡ true
+nobody-waits l t Empty e = refl
+nobody-waits l t (WaitedBy q) e = cc
+nobody-waits l t Permit e = refl
+nobody-waits l t Cancelled e = refl
+nobody-waits l t Refused e = refl
+nobody-waits l t Done e = refl
 
--- The same of the place at index i, whose ticket is the one of the window.
+-- The place at index i is that of the window's ticket there.
 read-at : (l : List PlaceSlot) (o i : ℕ) → i < 256
     → readPlace l (ticketAt o i) ≡ getD l i (record { place = Empty }) .place
 unfolding readPlace
 read-at l o i b = ap (λ (n : ℕ). getD l n (record { place = Empty }) .place) (index-of o i b)
 
-pub waited-at : (h : Hub) (i q : ℕ) → i < 256
-    → getD (h .places) i (record { place = Empty }) .place ≡ WaitedBy q
-    → standsAt (readPhase (h .slots) q) (ticketAt (h .oldest) i)
+pub place-test : (h : Hub) (i t : ℕ) → i < 256 → t ≡ ticketAt (h .oldest) i
+    → waiterFits (h .slots) t (getD (h .places) i (record { place = Empty }) .place)
     ≡ placeFits h (ticketAt (h .oldest) i)
-waited-at h i q b e = waited h _ q (read-at (h .places) (h .oldest) i b ∙ e)
-
-pub not-waited-at : (h : Hub) (i : ℕ) → i < 256
-    → OneOf (0 ∷ 2 ∷ 3 ∷ 4 ∷ 5 ∷ [])
-    (tagOf place.the-type (getD (h .places) i (record { place = Empty }) .place))
-    → placeFits h (ticketAt (h .oldest) i) ≡ true
-not-waited-at h i b o =
-    not-waited h _
-    (subst (λ (a : Place). OneOf (0 ∷ 2 ∷ 3 ∷ 4 ∷ 5 ∷ []) (tagOf place.the-type a))
-    (sym (read-at (h .places) (h .oldest) i b)) o)
+unfolding placeFits
+place-test h i t b e = ap₂ (waiterFits (h .slots)) e (sym (read-at (h .places) (h .oldest) i b))
 
 -- A party that the record has no slot for stands nowhere.
 pub past-slots : (l : List PartySlot) (q t : ℕ) → length l ≡ PARTIES → PARTIES ≤ q

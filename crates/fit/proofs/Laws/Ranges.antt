@@ -1,7 +1,7 @@
 -- A loop that tests numbers in a row: what is left to test says the same, b, as the whole row.
 use Prim.Native.Nat.{ℕ, zero, suc, _+_, _-_, _%_, _≤_, _<_}
 use mathlib.Core.Path.{_≡_, refl, sym, ap, ap₂, _∙_}
-use mathlib.Core.Bool.{Bool, true, false, _&&_}
+use mathlib.Core.Bool.{Bool, true, false, and-false, _&&_}
 use native.Mathlib.Nat.{add-zero}
 use borrow.Author.Tests.{lt-ltb, le-ltb}
 use lib.Dec.{ltb}
@@ -23,6 +23,23 @@ module _ (f : ℕ → Bool) (i m : ℕ) (b : Bool) (left : allFrom f i m ≡ b) 
   pub one-passes : (j n : ℕ) → j ≡ suc i → m ≡ suc n → f i ≡ true → allFrom f j n ≡ b
   unfolding allFrom
   one-passes j n y z e = rw y (rw (z, e) at left)
+
+-- A loop that notes in x that a number failed, and goes on.
+module _ (f : ℕ → Bool) (i m : ℕ) (x b : Bool) (left : x && allFrom f i m ≡ b) where
+  pub note-fails : (y z : Bool) → 1 ≤ m → f i ≡ false → y ≡ false → y && z ≡ b
+  note-fails y z l e g =
+      ap (λ (a : Bool). a && z) g ∙ simp (sym (one-fails f i m _ refl l e), and-false) at left
+
+  pub note-passes : (y : Bool) (j n : ℕ) → j ≡ suc i → m ≡ suc n → f i ≡ true → y ≡ x
+      → y && allFrom f j n ≡ b
+  note-passes y j n p q e g = ap₂ _&&_ g (one-passes f i m _ refl j n p q e) ∙ left
+
+  pub noted : x ≡ false → false ≡ b
+  noted e = rw e at left
+
+  pub none-noted : x ≡ true → m ≡ 0 → true ≡ b
+  unfolding allFrom
+  none-noted e z = rw (e, z) at left
 
 -- Two rows that say the same, number by number.
 same-row : (f g : ℕ → Bool) (i j n : ℕ) → ((k : ℕ) → k < n → f (i + k) ≡ g (j + k))

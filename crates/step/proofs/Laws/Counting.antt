@@ -7,7 +7,11 @@ use native.Mathlib.Numerals.{add-one}
 use native.Mathlib.Omega.{arith}
 use lib.ListN.{length, getD, drop, drop-of-length-le}
 use lib.Seq.{drop-cons}
-use Rattle.hub.specs.Basics.{bit, weight}
+use Rattle.hub.specs.declared.record.PartySlot.{PartySlot}
+use Rattle.hub.specs.Basics.{bit, count, weight}
+use Rattle.hub.specs.Phases.{drawsTicket}
+use Rattle.hub.specs.Record.{phasesOf}
+use Rattle.hub.proofs.Laws.Lists.{weight-length, weight-map}
 
 pub bit-most : (b : Bool) → bit b ≤ 1
 bit-most true = omega arith
@@ -47,3 +51,13 @@ module _ {A : Type 0} (f : A → Bool) (l : List A) (N p n : ℕ) (c : Counting 
         c .left,
         ap (weight (λ x. bit (f x))) (drop-of-length-le l {i = p} (omega (arith, c .size))),
       )
+
+-- No more parties may draw a ticket than there are slots.
+pub draws-few : (l : List PartySlot) → count drawsTicket (phasesOf l) ≤ length l
+draws-few l =
+    omega (
+      arith,
+      weight-map (λ x. bit (drawsTicket x)) (λ (s : PartySlot). s .phase) l,
+      weight-length (λ (s : PartySlot). bit (drawsTicket (s .phase)))
+          (λ s. bit-most (drawsTicket (s .phase))) l,
+    )
