@@ -2,17 +2,15 @@
 -- same of them as of the whole record.
 use Prim.Native.Nat.{ℕ, _+_, _-_, _%_}
 use mathlib.Core.Bool.{Bool, true, false, _&&_}
-use mathlib.Core.List.{List, []}
+use mathlib.Core.List.{[]}
 use lib.Dec.{ltb}
 use lib.IntN.{ℤ, pos}
 use Rattle.hub.specs.declared.moves.Sight.{Sight}
 use Rattle.hub.specs.declared.record.Hub.{Hub}
-use Rattle.hub.specs.declared.record.PartySlot.{PartySlot}
 use Rattle.hub.specs.declared.record.Phase.{Phase}
 use Rattle.hub.specs.declared.record.Place.{Place}
-use Rattle.hub.specs.Fits.{ticketFits, isListed, standsAt}
-use Rattle.hub.specs.Phases.{byWaiter}
-use Rattle.hub.specs.Record.{PLACES, readPhase}
+use Rattle.hub.specs.Fits.{ticketFits, isListed}
+use Rattle.hub.specs.Record.{PLACES}
 use Rattle.hub.specs.Table.{step}
 
 -- A record's counts alone.
@@ -55,10 +53,6 @@ listedAt f a = isListed (step f a false false false blank)
 -- The clauses of one of the n parties: its phase, the place of its ticket, and the record's tickets.
 abbrev pub partyTest : Phase → Place → Hub → Bool
 partyTest f a h = ticketFits h f && listedAt f a
-
--- A place's clause: the slots, the place's ticket, and what lies there.
-abbrev pub waiterFits : List PartySlot → ℕ → Place → Bool
-waiterFits l t a = byWaiter true (λ q. standsAt (readPhase l q) t) a
 
 -- The ticket of the window whose place is at index i: the window begins at the oldest, and where
 -- the ring ends it goes on at index 0.

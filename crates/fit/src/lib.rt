@@ -4,15 +4,13 @@ use hub::opening::up_to_32;
 use hub::phases::is_free;
 use hub::phases::ticket;
 use hub::record::Hub;
-use hub::record::PartySlot;
 use hub::record::Phase;
 use hub::record::Place;
 ghost use mathlib.Core.Path.{_≡_};
-ghost use mathlib.Core.Bool.{true, false};
 ghost use Prim.Native.Nat.{_≤_, _<_};
 ghost use Rattle.hub.specs.Fits.{counterFits, countsFit, inWindow, ticketFits, standsAt};
-ghost use Rattle.hub.specs.Phases.{byWaiter, ticketOf};
-ghost use Rattle.fit.specs.Parts.{scalars, windowed, listedAt, partyTest, ticketAt, waiterFits};
+ghost use Rattle.hub.specs.Phases.{ticketOf};
+ghost use Rattle.fit.specs.Parts.{scalars, windowed, listedAt, partyTest, ticketAt};
 
 // −32 to 32.
 fn counter_fits(counter: i32) -> bool
@@ -144,30 +142,6 @@ fn stands_at(phase: Phase, t: u32) -> bool
     }
 }
 
-fn is_waiting(place: Place) -> bool
-    ensures { λ r. ⌜ r ≡ byWaiter false (λ q. true) place ⌝ }
-{
-    match place {
-        Place::Waiting(_) => true,
-        _ => false,
-    }
-}
-
-// Does the party that waits at the place of ticket t stand there?
-fn waiter_fits(place: Place, slots: [PartySlot; 32], t: u32) -> bool
-    ensures { λ r. ⌜ r ≡ waiterFits slots t place ⌝ }
-{
-    let Place::Waiting(q) = place else {
-        return true;
-    };
-    if 32 <= q {
-        return false;
-    }
-    let slot = slots[q as usize];
-    let phase = slot.phase;
-    stands_at(phase, t)
-}
-
 // The ticket whose place is at index i.
 fn ticket_at(oldest: u32, i: usize) -> u32
     requires { ⌜ (oldest ≤ 1000000) × (i < 256) ⌝ }
@@ -237,12 +211,16 @@ pub fn fits(hub: Hub) -> bool
             let i = 8 * j + k;
             let seat = hub.places[i];
             let place = seat.place;
-            if !is_waiting(place) {
+            let Place::Waiting(q) = place else {
                 k += 1;
                 continue;
+            };
+            if 32 <= q {
+                return false;
             }
-            let slots = hub.slots;
-            if !waiter_fits(place, slots, ticket_at(oldest, i)) {
+            let slot = hub.slots[q as usize];
+            let phase = slot.phase;
+            if !stands_at(phase, ticket_at(oldest, i)) {
                 return false;
             }
             k += 1;

@@ -1,12 +1,14 @@
 -- A clause over the values that it looks at says of them what it says of the whole record.
 use Prim.Native.Nat.{ℕ, _≤_, _<_}
-use mathlib.Core.Path.{_≡_, refl, sym, ap, ap₂, _∙_}
+use mathlib.Core.Path.{_≡_, refl, sym, ap, subst, _∙_}
 use mathlib.Core.Bool.{Bool, true, false, and-false, _&&_, _||_}
 use mathlib.Core.List.{List, [], _∷_, map}
 use lib.Dec.{leb, ltb}
 use lib.ListN.{length, length-map, getD, List·getD-eq-default}
 use borrow.Author.Tests.{leb-true, lt-ltb, le-ltb}
 use native.Mathlib.Omega.{arith}
+use types.Run.{OneOf}
+use denote.Enum.Declared.{tagOf}
 use Rattle.hub.specs.declared.moves.Sight.{Sight}
 use Rattle.hub.specs.declared.record.Hub.{Hub}
 use Rattle.hub.specs.declared.record.Phase.{Phase}
@@ -17,15 +19,15 @@ use Rattle.hub.specs.declared.record.Phase.the-variants.{Resuming, ResumingAt}
 use Rattle.hub.specs.declared.record.PartySlot.{PartySlot}
 use Rattle.hub.specs.declared.record.PlaceSlot.{PlaceSlot}
 use Rattle.hub.specs.declared.record.Place.{Place}
-use Rattle.hub.specs.declared.record.Place.the-variants.{Empty, Waiting as WaitedBy, Permit}
-use Rattle.hub.specs.declared.record.Place.the-variants.{Cancelled, Refused, Done}
+use Rattle.hub.specs.declared.record.Place.the-variants.{Empty, Waiting as WaitedBy}
 use Rattle.hub.specs.Fits.{look, countsFit, ticketFits, isListed, partyFits, standsAt, placeFits}
 use Rattle.hub.specs.Phases.{byTicket, byWaiter, isFree, isOneOf, ticketOf}
 use Rattle.hub.specs.Record.{PARTIES, MAX-BEGUN, readPhase, readPlace}
 use Rattle.hub.specs.Table.{step, stepOf}
-use Rattle.fit.specs.Parts.{windowed, listedAt, partyTest, ticketAt, waiterFits}
+use Rattle.hub.proofs.record.Place as place
+use Rattle.fit.specs.Parts.{windowed, listedAt, partyTest, ticketAt}
 use Rattle.fit.proofs.Laws.Ranges.{index-of}
-use Rattle.fit.proofs.Laws.Variants.{any-phase, any-place}
+use Rattle.fit.proofs.Laws.Variants.{any-phase, any-place, of-place}
 
 or-true : (b : Bool) → b || true ≡ true
 or-true true = refl
@@ -144,27 +146,39 @@ pub past-parties : (h : Hub) (p : ℕ) → h .parties ≤ p → isFree (readPhas
     → partyFits h p ≡ false
 past-parties h p l e = rw (sym (by-clauses h p), le-ltb p (h .parties) l, e)
 
--- Nobody has to stand at a place where nobody waits.
-pub nobody-waits : (l : List PartySlot) (t : ℕ) (a : Place) → byWaiter false (λ q. true) a ≡ false
-    → waiterFits l t a ≡ true
-nobody-waits l t Empty e = refl
-nobody-waits l t (WaitedBy q) e = cc
-nobody-waits l t Permit e = refl
-nobody-waits l t Cancelled e = refl
-nobody-waits l t Refused e = refl
-nobody-waits l t Done e = refl
+waited : (h : Hub) (t q : ℕ) → readPlace (h .places) t ≡ WaitedBy q
+    → standsAt (readPhase (h .slots) q) t ≡ placeFits h t
+unfolding placeFits
+waited h t q e = rw e
 
--- The place at index i is that of the window's ticket there.
+not-waited : (h : Hub) (t : ℕ)
+    → OneOf (0 ∷ 2 ∷ 3 ∷ 4 ∷ 5 ∷ []) (tagOf place.the-type (readPlace (h .places) t))
+    → placeFits h t ≡ true
+unfolding placeFits
+not-waited h t o =
+    of-place (λ a. byWaiter true (λ q. standsAt (readPhase (h .slots) q) t) a ≡ true)
+    (0 ∷ 2 ∷ 3 ∷ 4 ∷ 5 ∷ []) (readPlace (h .places) t) o (λ q. search depth 13)
+
+-- The same of the place at index i, whose ticket is the one of the window.
 read-at : (l : List PlaceSlot) (o i : ℕ) → i < 256
     → readPlace l (ticketAt o i) ≡ getD l i (record { place = Empty }) .place
 unfolding readPlace
 read-at l o i b = ap (λ (n : ℕ). getD l n (record { place = Empty }) .place) (index-of o i b)
 
-pub place-test : (h : Hub) (i t : ℕ) → i < 256 → t ≡ ticketAt (h .oldest) i
-    → waiterFits (h .slots) t (getD (h .places) i (record { place = Empty }) .place)
+pub waited-at : (h : Hub) (i q : ℕ) → i < 256
+    → getD (h .places) i (record { place = Empty }) .place ≡ WaitedBy q
+    → standsAt (readPhase (h .slots) q) (ticketAt (h .oldest) i)
     ≡ placeFits h (ticketAt (h .oldest) i)
-unfolding placeFits
-place-test h i t b e = ap₂ (waiterFits (h .slots)) e (sym (read-at (h .places) (h .oldest) i b))
+waited-at h i q b e = waited h _ q (read-at (h .places) (h .oldest) i b ∙ e)
+
+pub not-waited-at : (h : Hub) (i : ℕ) → i < 256
+    → OneOf (0 ∷ 2 ∷ 3 ∷ 4 ∷ 5 ∷ [])
+    (tagOf place.the-type (getD (h .places) i (record { place = Empty }) .place))
+    → placeFits h (ticketAt (h .oldest) i) ≡ true
+not-waited-at h i b o =
+    not-waited h _
+    (subst (λ (a : Place). OneOf (0 ∷ 2 ∷ 3 ∷ 4 ∷ 5 ∷ []) (tagOf place.the-type a))
+    (sym (read-at (h .places) (h .oldest) i b)) o)
 
 -- A party that the record has no slot for stands nowhere.
 pub past-slots : (l : List PartySlot) (q t : ℕ) → length l ≡ PARTIES → PARTIES ≤ q

@@ -6,19 +6,18 @@ use mathlib.Core.Path.{_≡_, refl, sym, ap, subst, _∙_}
 use mathlib.Core.Bool.{Bool, true, and-false, _&&_}
 use mathlib.Core.Logic.{⊎-elim}
 use native.Mathlib.Omega.{arith}
-use lib.ListN.{getD}
+use lib.ListN.{length}
 use mir.Facts.{toZ-ofZ}
 use mir.Syntax.{w32}
 use mir.Val.{SFits}
 use Rattle.hub.specs.declared.record.Hub.{Hub}
-use Rattle.hub.specs.declared.record.Place.the-variants.{Empty}
 use Rattle.hub.specs.Basics.{allFrom}
-use Rattle.hub.specs.Fits.{countsFit, fits, partyFits, placeFits}
+use Rattle.hub.specs.Fits.{countsFit, fits, partyFits, placeFits, standsAt}
 use Rattle.hub.specs.Record.{readPhase, readPlace}
 use Rattle.fit.specs.Parts.{ticketAt}
 use Rattle.fit.proofs.Laws.Bools.{failed, passed}
 use Rattle.fit.proofs.Laws.Parts.{oldest-small, parties-few, party-test, free-fits, past-parties}
-use Rattle.fit.proofs.Laws.Parts.{nobody-waits, place-test}
+use Rattle.fit.proofs.Laws.Parts.{waited-at, not-waited-at, past-slots, mapped-size}
 use Rattle.fit.proofs.Laws.Ranges.{all-pass, one-fails, one-passes, by-index}
 use Rattle.fit.proofs.Laws.Ranges.{note-fails, note-passes, noted, none-noted}
 use Rattle.fit.proofs.fits.Statement.{statement}
@@ -101,17 +100,23 @@ told c =
     ∙ party-test (hub (l .before)) _ _ (l .loop-test .taken) (c .before .before .ticket .ensures)
 
 -- The turn of the inner loop; the place's test is the definition's.
-abbrev turn : tie.After-waiter-fits Inv-loop μ-loop Inv-loop2 μ-loop2 Inv-loop4 μ-loop4 Inv-loop3 μ-loop3 → tie.At-loop4 Inv-loop μ-loop Inv-loop2 μ-loop2 Inv-loop4 μ-loop4 Inv-loop3 μ-loop3
-turn c = c .before .before .before .before .before .before .before
+abbrev turn : tie.After-stands-at Inv-loop μ-loop Inv-loop2 μ-loop2 Inv-loop4 μ-loop4 Inv-loop3 μ-loop3 → tie.At-loop4 Inv-loop μ-loop Inv-loop2 μ-loop2 Inv-loop4 μ-loop4 Inv-loop3 μ-loop3
+turn c = c .before .before .before .before .before .before .before .before .before
 
-stood : (c : tie.After-waiter-fits Inv-loop μ-loop Inv-loop2 μ-loop2 Inv-loop4 μ-loop4 Inv-loop3 μ-loop3)
-    → c .waiter-fits .result
+stood : (c : tie.After-stands-at Inv-loop μ-loop Inv-loop2 μ-loop2 Inv-loop4 μ-loop4 Inv-loop3 μ-loop3)
+    → c .stands-at .result
     ≡ placeFits (hub3 (turn c .before .before))
     (ticketAt (hub3 (turn c .before .before) .oldest) (8 * turn c .before .before .loop3 .j + turn c .loop4 .k))
+unfolding readPhase
 stood c =
     let l = turn c .before .before in
-    c .waiter-fits .ensures
-    ∙ place-test (hub3 l) (8 * l .loop3 .j + turn c .loop4 .k) _ (omega arith) (c .before .ticket-at .ensures)
+    c .stands-at .ensures
+    ∙ ap (standsAt _) (c .before .ticket-at .ensures)
+    ∙ waited-at (hub3 l) (8 * l .loop3 .j + turn c .loop4 .k) _ (omega arith)
+    (c .before .before .before .before .before .place .given .1)
+
+size : (c : tie.Start Inv-loop μ-loop Inv-loop2 μ-loop2 Inv-loop4 μ-loop4 Inv-loop3 μ-loop3) → length (c .args .t1 .slots) ≡ 32
+size c = search mapped-size
 
 counts-fit-requires : tie.Need-counts-fit-requires Inv-loop μ-loop Inv-loop2 μ-loop2 Inv-loop4 μ-loop4 Inv-loop3 μ-loop3
 counts-fit-requires c κs = search needs
@@ -250,8 +255,8 @@ mul-seat-2 c = search needs
 element-copy-out-seat-2 : tie.Need-element-copy-out-seat-2 Inv-loop μ-loop Inv-loop2 μ-loop2 Inv-loop4 μ-loop4 Inv-loop3 μ-loop3
 element-copy-out-seat-2 c = search needs
 
-is-waiting-requires : tie.Need-is-waiting-requires Inv-loop μ-loop Inv-loop2 μ-loop2 Inv-loop4 μ-loop4 Inv-loop3 μ-loop3
-is-waiting-requires c κs = search needs
+enum-known-place : tie.Need-enum-known-place Inv-loop μ-loop Inv-loop2 μ-loop2 Inv-loop4 μ-loop4 Inv-loop3 μ-loop3
+enum-known-place c = search needs
 
 add-k : tie.Need-add-k Inv-loop μ-loop Inv-loop2 μ-loop2 Inv-loop4 μ-loop4 Inv-loop3 μ-loop3
 add-k c = search needs
@@ -261,29 +266,46 @@ loop4-less c = search needs
 
 loop4-again : tie.Need-loop4-again Inv-loop μ-loop Inv-loop2 μ-loop2 Inv-loop4 μ-loop4 Inv-loop3 μ-loop3
 loop4-again c =
-    let k = c .before .before .before .before in
-    let l = k .before .before in
-    let h = hub3 l in
-    let i = 8 * l .loop3 .j + k .loop4 .k in (
+    let k = c .before .before .before in
+    let l = k .before .before in (
       omega arith,
       one-passes _ _ _ _ (k .loop4 .inv .1) _ _ (omega arith) (omega arith)
-          (sym (place-test h i _ (omega arith) refl)
-          ∙ nobody-waits (h .slots) (ticketAt (h .oldest) i)
-          (getD (h .places) i (record { place = Empty }) .place)
-          (failed (c .before .is-waiting .ensures) (c .if6 .taken))),
+          (not-waited-at (hub3 l) (8 * l .loop3 .j + k .loop4 .k) (omega arith) (c .match .keys2)),
     )
-
-ticket-at-requires : tie.Need-ticket-at-requires Inv-loop μ-loop Inv-loop2 μ-loop2 Inv-loop4 μ-loop4 Inv-loop3 μ-loop3
-ticket-at-requires c κs =
-    let l = c .before .before .before .before .before .before .before in
-    (oldest (l .before .before .before .before .before), omega arith)
-
-waiter-fits-requires : tie.Need-waiter-fits-requires Inv-loop μ-loop Inv-loop2 μ-loop2 Inv-loop4 μ-loop4 Inv-loop3 μ-loop3
-waiter-fits-requires c κs = search needs
 
 returns-4 : tie.Need-returns-4 Inv-loop μ-loop Inv-loop2 μ-loop2 Inv-loop4 μ-loop4 Inv-loop3 μ-loop3
 unfolding fits
 returns-4 c =
+    let k = c .before .before .before .before .before .before in
+    let l = k .before .before in
+    simp (
+      sym (one-fails _ _ _ _ (k .loop4 .inv .1) (omega arith)
+          (sym (waited-at (hub3 l) (8 * l .loop3 .j + k .loop4 .k) _ (omega arith)
+          (c .before .before .place .given .1))
+          ∙ past-slots _ _ _ (size (l .before .before .before .before .before .before .before .before .before)) (c .if6 .taken))),
+      and-false,
+    )
+
+cast-slot : tie.Need-cast-slot Inv-loop μ-loop Inv-loop2 μ-loop2 Inv-loop4 μ-loop4 Inv-loop3 μ-loop3
+cast-slot c = search needs
+
+mul-slot-3 : tie.Need-mul-slot-3 Inv-loop μ-loop Inv-loop2 μ-loop2 Inv-loop4 μ-loop4 Inv-loop3 μ-loop3
+mul-slot-3 c = search needs
+
+element-copy-out-slot-3 : tie.Need-element-copy-out-slot-3 Inv-loop μ-loop Inv-loop2 μ-loop2 Inv-loop4 μ-loop4 Inv-loop3 μ-loop3
+element-copy-out-slot-3 c = search needs
+
+ticket-at-requires : tie.Need-ticket-at-requires Inv-loop μ-loop Inv-loop2 μ-loop2 Inv-loop4 μ-loop4 Inv-loop3 μ-loop3
+ticket-at-requires c κs =
+    let k = c .before .before .before .before .before .before .before in
+    (oldest (k .before .before .before .before .before .before .before), omega arith)
+
+stands-at-requires : tie.Need-stands-at-requires Inv-loop μ-loop Inv-loop2 μ-loop2 Inv-loop4 μ-loop4 Inv-loop3 μ-loop3
+stands-at-requires c κs = search needs
+
+returns-5 : tie.Need-returns-5 Inv-loop μ-loop Inv-loop2 μ-loop2 Inv-loop4 μ-loop4 Inv-loop3 μ-loop3
+unfolding fits
+returns-5 c =
     let k = turn (c .before) in
     simp (
       sym (one-fails _ _ _ _ (k .loop4 .inv .1) (omega arith)
@@ -316,9 +338,9 @@ loop3-again c =
     let k = c .before in
     moved (hub3 (k .before .before)) (k .loop4 .inv .1) (omega (arith, k .loop4 .inv .0))
 
-returns-5 : tie.Need-returns-5 Inv-loop μ-loop Inv-loop2 μ-loop2 Inv-loop4 μ-loop4 Inv-loop3 μ-loop3
+returns-6 : tie.Need-returns-6 Inv-loop μ-loop Inv-loop2 μ-loop2 Inv-loop4 μ-loop4 Inv-loop3 μ-loop3
 unfolding fits
-returns-5 c =
+returns-6 c =
     let l = c .before in
     let e = l .before in
     let q = e .before .before in
@@ -375,17 +397,21 @@ fits-spec =
     add-i
     mul-seat-2
     element-copy-out-seat-2
-    is-waiting-requires
+    enum-known-place
     add-k
     loop4-less
     loop4-again
-    ticket-at-requires
-    waiter-fits-requires
     returns-4
+    cast-slot
+    mul-slot-3
+    element-copy-out-slot-3
+    ticket-at-requires
+    stands-at-requires
+    returns-5
     add-k-2
     loop4-less-2
     loop4-again-2
     add-j
     loop3-less
     loop3-again
-    returns-5)
+    returns-6)
