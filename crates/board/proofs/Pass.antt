@@ -31,10 +31,10 @@ use base.Logic.{SProp, ent, sep, emp, via, fst∗}
 use base.Fml.{GName, Lft, Share, ftrue, flft, fres}
 use prog.Model.{Model}
 use prog.Routine.{Routine, Env}
-use prog.Wp.{Heap, Calls, Loops, WpFn, Tables, Closed}
+use prog.Wp.{Heap, Calls, Loops, WpFn, Closed}
 use ghost.Atoms.{Atoms, sem}
 use contract.Notation as Notation
-use contract.Running.{GhostRules, Running, givenOf, tables, tablesOf}
+use contract.Running.{GhostRules, Running, givenOf, tables}
 use types.Kit.{
   Given,
   ‵,
@@ -85,7 +85,7 @@ use types.Run.{
   free0,
 }
 use types.Part.{agg}
-use sound.WpLaws.{FmC, fmOf, WpFn-mono}
+use sound.WpLaws.{FmC}
 use denote.RattleType.{owns}
 use denote.Laws.{Is, shows}
 use denote.Plain.{uint-vals, uint-tells, uint-makes}
@@ -98,8 +98,7 @@ use denote.Triple.Statement.{Triple}
 use denote.Triple.Call.{calls-at}
 use denote.Triple.Clauses.{Clauses, closing}
 use denote.Triple.Entry.{onEntry}
-use denote.Triple.Spec.{Meets, tripleOf}
-use denote.Triple.Table.{entered, cited}
+use denote.Triple.Spec.{Meets}
 use denote.Triple.Walked.{
   says,
   Stays,
@@ -112,7 +111,6 @@ use denote.Triple.Walked.{
   Walks,
   ends-at,
   walked,
-  walk-meets,
 }
 use denote.Exit.{yes}
 use Rattle.hub.specs.declared.moves.Op.{Op}
@@ -124,7 +122,7 @@ use Rattle.hub.proofs.moves.Op as O
 use Rattle.hub.proofs.moves.Op.Laws as O′
 use Rattle.hub.proofs.record.Hub as T
 use Rattle.hub.proofs.record.Hub.Laws as T′
-use Rattle.board.proofs.Shell.{ref, Shell, shellClauses, to-shell, takes, gives-back}
+use Rattle.board.proofs.Shell.{ref, Shell, shellClauses, to-shell, takes, gives-back, of-walk}
 use Rattle.board.proofs.call as shell
 use Rattle.board.proofs.acquire as pass
 
@@ -264,16 +262,6 @@ module _ {M : Type 1} (𝓤 : URA M) (H : Heap 𝓤) (A : Atoms 𝓤) (W : Given
       let b = goes-none 𝓤 H A W 1 (λ _. u8) yes (λ κs x f. refl) in
       (goes-gave-ref 𝓤 H A W 1 0 tt (plain (λ _. T.the-row)), (b, tt))
 
-  meets :
-      (key : Name) (𝓣 : Tables 𝓤 H) → Triple 𝓤 (𝓣 .C key) (Shell 𝓤 H A D)
-      → Meets 𝓤 H A pass.signature (WpFn 𝓤 H (𝓣 .C) (𝓣 .Λ) (passFn key k own-party))
-      (closing 𝓤 H A pass.ended (clauses 𝓤 D a))
-  meets key 𝓣 known =
-      walk-meets 𝓤 H A pass.ended stayed W goes (clauses 𝓤 D a)
-      (WpFn 𝓤 H (𝓣 .C) (𝓣 .Λ) (passFn key k own-party))
-      (WpFn-mono 𝓤 H (W .laws) 𝓣 (passFn key k own-party))
-      (walks key (𝓣 .C) (𝓣 .Λ) (fmOf 𝓤 H (W .laws) 𝓣) known)
-
 -- a call's own routine, from what is known of the shell: the tag and the party that it hands on are read
 -- off its code, and must be its operation's and its own
 pub pass-spec :
@@ -285,12 +273,10 @@ pub pass-spec :
     (closing 𝓤 H (𝓖 .A) shell.ended (shellClauses 𝓤 D))
     → Meets 𝓤 H (𝓖 .A) pass.signature (𝓡 .run (env own))
     (closing 𝓤 H (𝓖 .A) pass.ended (clauses 𝓤 D a))
-unfolding tablesOf
 pass-spec 𝓤 H 𝓜 𝓖 𝓡 D a env own key routine {k} {who} closed is-op small party calls met =
-    entered 𝓤 H
-    (tripleOf 𝓤 H (𝓖 .A) pass.signature (closing 𝓤 H (𝓖 .A) pass.ended (clauses 𝓤 D a)))
-    (tables 𝓤 H 𝓜 𝓡 env .C) (tables 𝓤 H 𝓜 𝓡 env .Λ) own (passFn key k own-party)
+    of-walk 𝓤 H 𝓜 𝓖 𝓡 pass.ended stayed (clauses 𝓤 D a) (Shell 𝓤 H (𝓖 .A) D) env own key routine
+    (passFn key k own-party)
     (subst (λ (z : Opd).
     Closed 𝓤 H (tables 𝓤 H 𝓜 𝓡 env .C) (tables 𝓤 H 𝓜 𝓡 env .Λ) own (passFn key k z)) party closed)
-    (meets 𝓤 H (𝓖 .A) (givenOf 𝓤 H 𝓜 𝓖) D a k is-op small key (tablesOf 𝓤 H 𝓜 (tables 𝓤 H 𝓜 𝓡 env))
-    (cited 𝓤 H (Shell 𝓤 H (𝓖 .A) D) 𝓜 𝓡 env key routine calls met))
+    calls met (goes 𝓤 H (𝓖 .A) (givenOf 𝓤 H 𝓜 𝓖) D a k is-op small)
+    (walks 𝓤 H (𝓖 .A) (givenOf 𝓤 H 𝓜 𝓖) D a k is-op small key)

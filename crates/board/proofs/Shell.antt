@@ -126,7 +126,7 @@ use denote.Struct.Struct.{Struct}
 use denote.Enum.Laws as EL
 use denote.Triple.Statement.{Contract, Triple}
 use denote.Triple.Call.{calls-at}
-use denote.Triple.Clauses.{Clauses, ensured, lasts, closing}
+use denote.Triple.Clauses.{Clauses, Ended, ensured, lasts, closing}
 use denote.Triple.Entry.{onEntry}
 use denote.Triple.Spec.{Meets, tripleOf}
 use denote.Triple.Table.{entered, cited}
@@ -518,14 +518,25 @@ module _ {M : Type 1} (𝓤 : URA M) (H : Heap 𝓤) (A : Atoms 𝓤) (W : Given
       let b = goes-none 𝓤 H A W 1 (λ _. u8) yes (λ κs x f. refl) in
       (goes-ref 𝓤 H A W 1 0 tt (plain (λ _. T.the-row)), (o, (b, tt)))
 
-  shell-meets :
-      (key : Name) (𝓣 : Tables 𝓤 H) → Triple 𝓤 (𝓣 .C key) (Core 𝓤 H A D)
-      → Meets 𝓤 H A shell.signature (WpFn 𝓤 H (𝓣 .C) (𝓣 .Λ) (shellFn key in-order))
-      (closing 𝓤 H A shell.ended (shellClauses 𝓤 D))
-  shell-meets key 𝓣 known =
-      walk-meets 𝓤 H A shell.ended stayed W goes (shellClauses 𝓤 D)
-      (WpFn 𝓤 H (𝓣 .C) (𝓣 .Λ) (shellFn key in-order)) (WpFn-mono 𝓤 H (W .laws) 𝓣 (shellFn key in-order))
-      (shell-walks key (𝓣 .C) (𝓣 .Λ) (fmOf 𝓤 H (W .laws) 𝓣) known)
+-- a function's own routine meets its contract, from a walk of its code over the one function that it calls
+pub of-walk :
+    {M : Type 1} (𝓤 : URA M) (H : Heap 𝓤) (𝓜 : Model 𝓤 H) (𝓖 : GhostRules 𝓤 H) (𝓡 : Running 𝓤 H 𝓜)
+    (T : Ended) (hs : Stays (T .signature .params) (T .kept)) (c : Clauses 𝓤 T) (callee : Contract 𝓤)
+    (env : Env) (own key : Name) (routine : Routine) (fn : Fn)
+    → Closed 𝓤 H (tables 𝓤 H 𝓜 𝓡 env .C) (tables 𝓤 H 𝓜 𝓡 env .Λ) own fn
+    → env key ≡ routine → Triple 𝓤 (𝓡 .run routine) callee
+    → AllGo 𝓤 H (𝓖 .A) (givenOf 𝓤 H 𝓜 𝓖) (T .signature .lifetimes) (T .signature .params) (T .kept) hs
+    → ((C : Calls 𝓤 H) (Λ : Loops 𝓤 H) → FmC 𝓤 H (givenOf 𝓤 H 𝓜 𝓖 .laws) C → Triple 𝓤 (C key) callee
+    → Walks 𝓤 H (𝓖 .A) T hs (WpFn 𝓤 H C Λ fn) c)
+    → Meets 𝓤 H (𝓖 .A) (T .signature) (𝓡 .run (env own)) (closing 𝓤 H (𝓖 .A) T c)
+unfolding tablesOf
+of-walk 𝓤 H 𝓜 𝓖 𝓡 T hs c callee env own key routine fn closed calls met goes walks =
+    let W : Given 𝓤 H (𝓖 .A) = givenOf 𝓤 H 𝓜 𝓖 in
+    let 𝓣 : Tables 𝓤 H = tablesOf 𝓤 H 𝓜 (tables 𝓤 H 𝓜 𝓡 env) in
+    entered 𝓤 H (tripleOf 𝓤 H (𝓖 .A) (T .signature) (closing 𝓤 H (𝓖 .A) T c))
+    (tables 𝓤 H 𝓜 𝓡 env .C) (tables 𝓤 H 𝓜 𝓡 env .Λ) own fn closed
+    (walk-meets 𝓤 H (𝓖 .A) T hs W goes c (WpFn 𝓤 H (𝓣 .C) (𝓣 .Λ) fn) (WpFn-mono 𝓤 H (W .laws) 𝓣 fn)
+    (walks (𝓣 .C) (𝓣 .Λ) (fmOf 𝓤 H (W .laws) 𝓣) (cited 𝓤 H callee 𝓜 𝓡 env key routine calls met)))
 
 -- the shell's own routine, from what is known of the function over the fields: which fields the shell
 -- hands over is read off its code, and they must be all of them in their order
@@ -538,11 +549,10 @@ pub shell-spec :
     (closing 𝓤 H (𝓖 .A) core.ended (coreClauses 𝓤 D))
     → Meets 𝓤 H (𝓖 .A) shell.signature (𝓡 .run (env own))
     (closing 𝓤 H (𝓖 .A) shell.ended (shellClauses 𝓤 D))
-unfolding tablesOf
 shell-spec 𝓤 H 𝓜 𝓖 𝓡 D env own key routine ks closed order calls met =
-    entered 𝓤 H (Shell 𝓤 H (𝓖 .A) D) (tables 𝓤 H 𝓜 𝓡 env .C) (tables 𝓤 H 𝓜 𝓡 env .Λ) own
+    of-walk 𝓤 H 𝓜 𝓖 𝓡 shell.ended stayed (shellClauses 𝓤 D) (Core 𝓤 H (𝓖 .A) D) env own key routine
     (shellFn key in-order)
     (subst (λ (js : List ℕ).
     Closed 𝓤 H (tables 𝓤 H 𝓜 𝓡 env .C) (tables 𝓤 H 𝓜 𝓡 env .Λ) own (shellFn key js)) order closed)
-    (shell-meets 𝓤 H (𝓖 .A) (givenOf 𝓤 H 𝓜 𝓖) D key (tablesOf 𝓤 H 𝓜 (tables 𝓤 H 𝓜 𝓡 env))
-    (cited 𝓤 H (Core 𝓤 H (𝓖 .A) D) 𝓜 𝓡 env key routine calls met))
+    calls met (goes 𝓤 H (𝓖 .A) (givenOf 𝓤 H 𝓜 𝓖) D)
+    (shell-walks 𝓤 H (𝓖 .A) (givenOf 𝓤 H 𝓜 𝓖) D key)

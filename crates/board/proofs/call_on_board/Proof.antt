@@ -29,10 +29,10 @@ use mir.Val.{Val, vint}
 use base.Logic.{SProp, ent, emp, via, fst∗}
 use base.Fml.{GName, ftrue, fat}
 use prog.Model.{Model}
-use prog.Wp.{Closed, Heap, Calls, Loops, WpFn, Tables}
+use prog.Wp.{Closed, Heap, Calls, Loops, WpFn}
 use ghost.Atoms.{Atoms}
 use contract.Notation as Notation
-use contract.Running.{GhostRules, Running, givenOf, tables, tablesOf}
+use contract.Running.{GhostRules, Running, givenOf, tables}
 use types.Kit.{
   Given,
   ‵,
@@ -84,7 +84,7 @@ use types.Run.{
   free0,
 }
 use types.Part.{agg}
-use sound.WpLaws.{FmC, fmOf, WpFn-mono}
+use sound.WpLaws.{FmC}
 use denote.RattleType.{owns}
 use denote.Laws.{Is}
 use denote.Plain.{uint-vals, uint-tells, uint-makes}
@@ -96,8 +96,7 @@ use denote.Triple.Statement.{Triple}
 use denote.Triple.Call.{calls-at}
 use denote.Triple.Clauses.{Clauses, closing}
 use denote.Triple.Entry.{onEntry}
-use denote.Triple.Spec.{Meets, tripleOf}
-use denote.Triple.Table.{entered, cited}
+use denote.Triple.Spec.{Meets}
 use denote.Triple.Walked.{
   says,
   Stays,
@@ -108,7 +107,6 @@ use denote.Triple.Walked.{
   Walks,
   ends-at,
   walked,
-  walk-meets,
 }
 use denote.Exit.{yes}
 use Rattle.hub.specs.declared.moves.Op.{Op}
@@ -122,7 +120,7 @@ use Rattle.hub.proofs.record.Hub as T
 use Rattle.hub.proofs.record.Hub.Laws as T′
 use Rattle.hub.proofs.record.Outcome as R
 use Rattle.hub.proofs.record.Outcome.Laws as R′
-use Rattle.board.proofs.Shell.{by-op, hubVal, opVal, outcomeVal, parts, ref, Shell}
+use Rattle.board.proofs.Shell.{by-op, hubVal, opVal, outcomeVal, parts, ref, Shell, of-walk}
 use Rattle.board.proofs.Lent.{handed, loan, lends, comes-back}
 use Rattle.board.proofs.call.Met.{met}
 use Rattle.board.proofs.call.Symbol as shell
@@ -264,36 +262,20 @@ module _ {M : Type 1} (𝓤 : URA M) (H : Heap 𝓤) (A : Atoms 𝓤) (W : Given
       let o = goes-none 𝓤 H A W 0 (λ _. O.the-row) yes (λ κs x f. refl) in
       (t, (o, (goes-none 𝓤 H A W 0 (λ _. u8) yes (λ κs x f. refl), tt)))
 
-  meets :
-      (key : Name) (𝓣 : Tables 𝓤 H) → Triple 𝓤 (𝓣 .C key) (Shell 𝓤 H A D)
-      → Meets 𝓤 H A on.signature (WpFn 𝓤 H (𝓣 .C) (𝓣 .Λ) (function key own-party))
-      (closing 𝓤 H A on.ended (clauses 𝓤 D))
-  meets key 𝓣 known =
-      walk-meets 𝓤 H A on.ended stayed W goes (clauses 𝓤 D)
-      (WpFn 𝓤 H (𝓣 .C) (𝓣 .Λ) (function key own-party))
-      (WpFn-mono 𝓤 H (W .laws) 𝓣 (function key own-party))
-      (walks key (𝓣 .C) (𝓣 .Λ) (fmOf 𝓤 H (W .laws) 𝓣) known)
-
-module _ {M : Type 1} (𝓤 : URA M) (H : Heap 𝓤) (𝓜 : Model 𝓤 H) (𝓖 : GhostRules 𝓤 H)
-    (𝓡 : Running 𝓤 H 𝓜) where
-  abbrev Unfolds : Opd → Type 2
-  Unfolds who =
-      Closed 𝓤 H (tables 𝓤 H 𝓜 𝓡 code.env .C) (tables 𝓤 H 𝓜 𝓡 code.env .Λ) name (function shell.name who)
-
-  -- the party that is handed on is read off the code, and must be its own
-  enters :
-      {who : Opd} → Unfolds who → who ≡ own-party
-      → Meets 𝓤 H (𝓖 .A) on.signature (𝓡 .run (code.env name))
-      (closing 𝓤 H (𝓖 .A) on.ended (clauses 𝓤 by-op))
-  unfolding tablesOf
-  enters {who} closed party =
-      entered 𝓤 H
-      (tripleOf 𝓤 H (𝓖 .A) on.signature (closing 𝓤 H (𝓖 .A) on.ended (clauses 𝓤 by-op)))
-      (tables 𝓤 H 𝓜 𝓡 code.env .C) (tables 𝓤 H 𝓜 𝓡 code.env .Λ) name (function shell.name own-party)
-      (subst Unfolds party closed)
-      (meets 𝓤 H (𝓖 .A) (givenOf 𝓤 H 𝓜 𝓖) by-op shell.name (tablesOf 𝓤 H 𝓜 (tables 𝓤 H 𝓜 𝓡 code.env))
-      (cited 𝓤 H (Shell 𝓤 H (𝓖 .A) by-op) 𝓜 𝓡 code.env shell.name shell.routine
-      code.calls-board·call (met 𝓤 H 𝓜 𝓖 𝓡)))
+-- the party that is handed on is read off the code, and must be its own
+enters :
+    {M : Type 1} (𝓤 : URA M) (H : Heap 𝓤) (𝓜 : Model 𝓤 H) (𝓖 : GhostRules 𝓤 H) (𝓡 : Running 𝓤 H 𝓜) {who : Opd}
+    → Closed 𝓤 H (tables 𝓤 H 𝓜 𝓡 code.env .C) (tables 𝓤 H 𝓜 𝓡 code.env .Λ) name (function shell.name who)
+    → who ≡ own-party
+    → Meets 𝓤 H (𝓖 .A) on.signature (𝓡 .run (code.env name))
+    (closing 𝓤 H (𝓖 .A) on.ended (clauses 𝓤 by-op))
+enters 𝓤 H 𝓜 𝓖 𝓡 {who} closed party =
+    of-walk 𝓤 H 𝓜 𝓖 𝓡 on.ended stayed (clauses 𝓤 by-op) (Shell 𝓤 H (𝓖 .A) by-op) code.env name shell.name
+    shell.routine (function shell.name own-party)
+    (subst (λ (z : Opd). Closed 𝓤 H (tables 𝓤 H 𝓜 𝓡 code.env .C) (tables 𝓤 H 𝓜 𝓡 code.env .Λ) name
+    (function shell.name z)) party closed)
+    code.calls-board·call (met 𝓤 H 𝓜 𝓖 𝓡) (goes 𝓤 H (𝓖 .A) (givenOf 𝓤 H 𝓜 𝓖) by-op)
+    (walks 𝓤 H (𝓖 .A) (givenOf 𝓤 H 𝓜 𝓖) by-op shell.name)
 
 pub call-on-board-spec : {M : Type 1} → statement M
 unfolding code.routine
