@@ -88,6 +88,7 @@ bounded =
 unfoldable pub edges : List Edge
 edges =
     opens 0 3 0x02
+    ∷ opens 0 0 0x02
     ∷ opens 33 3 0x02
     ∷ opens 32 32 0x1F
     ∷ opens 1 0 0x03

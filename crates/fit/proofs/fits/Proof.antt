@@ -68,7 +68,8 @@ counted c =
     let f : SFits w32 (c .before .before .args .t1 .counter) = search needs in
     rw (toZ-ofZ f) at (c .counts-fit .ensures)
 
-counts : (c : tie.Else1 Inv-loop μ-loop Inv-loop2 μ-loop2 Inv-loop4 μ-loop4 Inv-loop3 μ-loop3) → countsFit (c .before .before .before .args .t1) ≡ true
+counts : (c : tie.Else1 Inv-loop μ-loop Inv-loop2 μ-loop2 Inv-loop4 μ-loop4 Inv-loop3 μ-loop3)
+    → countsFit (c .before .before .before .args .t1) ≡ true
 counts c = passed (counted (c .before)) (c .if1 .left)
 
 -- The record, in each of the loops.
@@ -82,10 +83,12 @@ abbrev hub3 : tie.At-loop3 Inv-loop μ-loop Inv-loop2 μ-loop2 Inv-loop4 μ-loop
 hub3 c = hub2 (c .before .before .before)
 
 -- No party below n is past the slots, and no sum with the oldest ticket past 32 bits.
-few : (c : tie.At-loop Inv-loop μ-loop Inv-loop2 μ-loop2 Inv-loop4 μ-loop4 Inv-loop3 μ-loop3) → hub c .parties ≤ 32
+few : (c : tie.At-loop Inv-loop μ-loop Inv-loop2 μ-loop2 Inv-loop4 μ-loop4 Inv-loop3 μ-loop3)
+    → hub c .parties ≤ 32
 few c = parties-few _ (counts (c .before))
 
-oldest : (c : tie.At-loop Inv-loop μ-loop Inv-loop2 μ-loop2 Inv-loop4 μ-loop4 Inv-loop3 μ-loop3) → hub c .oldest ≤ 1000000
+oldest : (c : tie.At-loop Inv-loop μ-loop Inv-loop2 μ-loop2 Inv-loop4 μ-loop4 Inv-loop3 μ-loop3)
+    → hub c .oldest ≤ 1000000
 oldest c = oldest-small _ (counts (c .before))
 
 -- The party's test is the definition's.
@@ -100,7 +103,9 @@ told c =
     ∙ party-test (hub (l .before)) _ _ (l .loop-test .taken) (c .before .before .ticket .ensures)
 
 -- The turn of the inner loop; the place's test is the definition's.
-abbrev turn : tie.After-stands-at Inv-loop μ-loop Inv-loop2 μ-loop2 Inv-loop4 μ-loop4 Inv-loop3 μ-loop3 → tie.At-loop4 Inv-loop μ-loop Inv-loop2 μ-loop2 Inv-loop4 μ-loop4 Inv-loop3 μ-loop3
+abbrev turn :
+    tie.After-stands-at Inv-loop μ-loop Inv-loop2 μ-loop2 Inv-loop4 μ-loop4 Inv-loop3 μ-loop3
+    → tie.At-loop4 Inv-loop μ-loop Inv-loop2 μ-loop2 Inv-loop4 μ-loop4 Inv-loop3 μ-loop3
 turn c = c .before .before .before .before .before .before .before .before .before
 
 stood : (c : tie.After-stands-at Inv-loop μ-loop Inv-loop2 μ-loop2 Inv-loop4 μ-loop4 Inv-loop3 μ-loop3)
@@ -115,7 +120,8 @@ stood c =
     ∙ waited-at (hub3 l) (8 * l .loop3 .j + turn c .loop4 .k) _ (omega arith)
     (c .before .before .before .before .before .place .given .1)
 
-size : (c : tie.Start Inv-loop μ-loop Inv-loop2 μ-loop2 Inv-loop4 μ-loop4 Inv-loop3 μ-loop3) → length (c .args .t1 .slots) ≡ 32
+size : (c : tie.Start Inv-loop μ-loop Inv-loop2 μ-loop2 Inv-loop4 μ-loop4 Inv-loop3 μ-loop3)
+    → length (c .args .t1 .slots) ≡ 32
 size c = search mapped-size
 
 counts-fit-requires : tie.Need-counts-fit-requires Inv-loop μ-loop Inv-loop2 μ-loop2 Inv-loop4 μ-loop4 Inv-loop3 μ-loop3
@@ -134,7 +140,8 @@ loop-holds c = refl
 mul-slot : tie.Need-mul-slot Inv-loop μ-loop Inv-loop2 μ-loop2 Inv-loop4 μ-loop4 Inv-loop3 μ-loop3
 mul-slot c = search needs
 
-element-copy-out-slot : tie.Need-element-copy-out-slot Inv-loop μ-loop Inv-loop2 μ-loop2 Inv-loop4 μ-loop4 Inv-loop3 μ-loop3
+element-copy-out-slot :
+    tie.Need-element-copy-out-slot Inv-loop μ-loop Inv-loop2 μ-loop2 Inv-loop4 μ-loop4 Inv-loop3 μ-loop3
 element-copy-out-slot c = omega (arith, few (c .before), c .loop-test .taken)
 
 is-free-requires : tie.Need-is-free-requires Inv-loop μ-loop Inv-loop2 μ-loop2 Inv-loop4 μ-loop4 Inv-loop3 μ-loop3
@@ -162,7 +169,8 @@ cast-i c = search needs
 mul-seat : tie.Need-mul-seat Inv-loop μ-loop Inv-loop2 μ-loop2 Inv-loop4 μ-loop4 Inv-loop3 μ-loop3
 mul-seat c = search needs
 
-element-copy-out-seat : tie.Need-element-copy-out-seat Inv-loop μ-loop Inv-loop2 μ-loop2 Inv-loop4 μ-loop4 Inv-loop3 μ-loop3
+element-copy-out-seat :
+    tie.Need-element-copy-out-seat Inv-loop μ-loop Inv-loop2 μ-loop2 Inv-loop4 μ-loop4 Inv-loop3 μ-loop3
 element-copy-out-seat c = search needs
 
 party-fits-requires : tie.Need-party-fits-requires Inv-loop μ-loop Inv-loop2 μ-loop2 Inv-loop4 μ-loop4 Inv-loop3 μ-loop3
@@ -196,7 +204,8 @@ loop2-holds c = (omega (arith, c .loop-test .left), c .before .loop .inv)
 mul-slot-2 : tie.Need-mul-slot-2 Inv-loop μ-loop Inv-loop2 μ-loop2 Inv-loop4 μ-loop4 Inv-loop3 μ-loop3
 mul-slot-2 c = search needs
 
-element-copy-out-slot-2 : tie.Need-element-copy-out-slot-2 Inv-loop μ-loop Inv-loop2 μ-loop2 Inv-loop4 μ-loop4 Inv-loop3 μ-loop3
+element-copy-out-slot-2 :
+    tie.Need-element-copy-out-slot-2 Inv-loop μ-loop Inv-loop2 μ-loop2 Inv-loop4 μ-loop4 Inv-loop3 μ-loop3
 element-copy-out-slot-2 c = search needs
 
 is-free-requires-2 : tie.Need-is-free-requires-2 Inv-loop μ-loop Inv-loop2 μ-loop2 Inv-loop4 μ-loop4 Inv-loop3 μ-loop3
@@ -219,7 +228,8 @@ loop2-again c =
       ⊎-elim
           (λ w. note-fails f p (32 - p) (l .loop2 .free) (allFrom f 0 32) (i .1) (c .if4 .free) _ (omega arith)
           (past-parties _ _ (i .0) (failed (c .before .is-free2 .ensures) (w .0 .taken))) (w .1))
-          (λ w. note-passes f p (32 - p) (l .loop2 .free) (allFrom f 0 32) (i .1) (c .if4 .free) _ _ (omega arith) (omega arith)
+          (λ w. note-passes f p (32 - p) (l .loop2 .free) (allFrom f 0 32) (i .1) (c .if4 .free) _ _
+          (omega arith) (omega arith)
           (free-fits _ _ (passed (c .before .is-free2 .ensures) (w .0 .left))) (w .1))
           (c .if4 .came),
     )
@@ -252,7 +262,8 @@ add-i c = search needs
 mul-seat-2 : tie.Need-mul-seat-2 Inv-loop μ-loop Inv-loop2 μ-loop2 Inv-loop4 μ-loop4 Inv-loop3 μ-loop3
 mul-seat-2 c = search needs
 
-element-copy-out-seat-2 : tie.Need-element-copy-out-seat-2 Inv-loop μ-loop Inv-loop2 μ-loop2 Inv-loop4 μ-loop4 Inv-loop3 μ-loop3
+element-copy-out-seat-2 :
+    tie.Need-element-copy-out-seat-2 Inv-loop μ-loop Inv-loop2 μ-loop2 Inv-loop4 μ-loop4 Inv-loop3 μ-loop3
 element-copy-out-seat-2 c = search needs
 
 enum-known-place : tie.Need-enum-known-place Inv-loop μ-loop Inv-loop2 μ-loop2 Inv-loop4 μ-loop4 Inv-loop3 μ-loop3
@@ -282,7 +293,8 @@ returns-4 c =
       sym (one-fails _ _ _ _ (k .loop4 .inv .1) (omega arith)
           (sym (waited-at (hub3 l) (8 * l .loop3 .j + k .loop4 .k) _ (omega arith)
           (c .before .before .place .given .1))
-          ∙ past-slots _ _ _ (size (l .before .before .before .before .before .before .before .before .before)) (c .if6 .taken))),
+          ∙ past-slots _ _ _
+          (size (l .before .before .before .before .before .before .before .before .before)) (c .if6 .taken))),
       and-false,
     )
 
@@ -292,7 +304,8 @@ cast-slot c = search needs
 mul-slot-3 : tie.Need-mul-slot-3 Inv-loop μ-loop Inv-loop2 μ-loop2 Inv-loop4 μ-loop4 Inv-loop3 μ-loop3
 mul-slot-3 c = search needs
 
-element-copy-out-slot-3 : tie.Need-element-copy-out-slot-3 Inv-loop μ-loop Inv-loop2 μ-loop2 Inv-loop4 μ-loop4 Inv-loop3 μ-loop3
+element-copy-out-slot-3 :
+    tie.Need-element-copy-out-slot-3 Inv-loop μ-loop Inv-loop2 μ-loop2 Inv-loop4 μ-loop4 Inv-loop3 μ-loop3
 element-copy-out-slot-3 c = search needs
 
 ticket-at-requires : tie.Need-ticket-at-requires Inv-loop μ-loop Inv-loop2 μ-loop2 Inv-loop4 μ-loop4 Inv-loop3 μ-loop3
@@ -348,7 +361,8 @@ returns-6 c =
     let p = q .loop2 .p in
     simp (
       counts (q .before .before .before),
-      sym (none-noted f p (32 - p) (q .loop2 .free) (allFrom f 0 32) (q .loop2 .inv .1) (not-false _ (e .if5 .left)) (omega arith)),
+      sym (none-noted f p (32 - p) (q .loop2 .free) (allFrom f 0 32) (q .loop2 .inv .1)
+          (not-false _ (e .if5 .left)) (omega arith)),
       sym (all-pass _ _ _ _ (l .loop3 .inv) (omega arith)),
     )
 
