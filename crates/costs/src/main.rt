@@ -1,59 +1,60 @@
-// One call, chosen by a letter on standard input, so that its instructions can be counted: the
-// count with the letter less the count with a dot. docs/SPEED.md has the method and the figures.
+// One call in place, chosen by a letter on standard input, so that its instructions can be counted:
+// the count with the letter less the count with a dot or a comma. docs/SPEED.md has the method and
+// the figures. Nothing else calls the by-value core here: so it is compiled as it is on a board.
 
 use board::call_on_board;
-use fit::fits;
 use hub::answers::Answer;
 use hub::moves::Op;
 use hub::record::Hub;
 use hub::record::Outcome;
 use line::answer::print_of;
-use step::calls::acquire;
-use step::calls::cancel;
-use step::calls::release;
-use step::calls::step;
 use step::counts::counts;
 
-// One permit: party 0 holds it, party 1 waits, party 2 has asked, party 3 is free.
-fn prepared() -> Hub {
-    let o = acquire(Hub::open(1, 4), 0);
-    let o = step(o.hub, 0);
-    let o = acquire(o.hub, 1);
-    let o = step(o.hub, 1);
-    let o = step(o.hub, 1);
-    let o = step(o.hub, 1);
-    let o = acquire(o.hub, 2);
+// The record after an ask and three steps: with the permit held, the party waits.
+fn waits(hub: Hub, party: u8) -> Hub {
+    let o = call_on_board(hub, Op::Acquire, party);
+    let o = call_on_board(o.hub, Op::Step, party);
+    let o = call_on_board(o.hub, Op::Step, party);
+    let o = call_on_board(o.hub, Op::Step, party);
     o.hub
 }
 
-// Small letters: by value. Capitals: in place. f: the check alone.
-fn measured(letter: u8, h: Hub) -> Outcome {
+// One permit: party 0 holds it, 1 waits, 2 has asked, 3 is free, and if there are 32 parties the
+// others wait too.
+fn prepared(parties: u8) -> Hub {
+    let o = call_on_board(Hub::open(1, parties), Op::Acquire, 0);
+    let o = call_on_board(o.hub, Op::Step, 0);
+    let mut hub = waits(o.hub, 1);
+    let mut p: u8 = 4;
+    while p < parties {
+        let next = waits(hub, p);
+        hub = next;
+        p += 1;
+    }
+    let o = call_on_board(hub, Op::Acquire, 2);
+    o.hub
+}
+
+// Small letters: one party waits. Capitals: 29 do.
+fn measured(letter: u8) -> Outcome {
     match letter {
-        b'a' => acquire(h, 3),
-        b's' => step(h, 2),
-        b'c' => cancel(h, 1),
-        b'r' => release(h, 0),
-        b'x' => release(h, 3),
-        b'A' => call_on_board(h, Op::Acquire, 3),
-        b'S' => call_on_board(h, Op::Step, 2),
-        b'C' => call_on_board(h, Op::Cancel, 1),
-        b'R' => call_on_board(h, Op::Release, 0),
-        b'X' => call_on_board(h, Op::Release, 3),
-        b'f' => {
-            if fits(h) {
-                return Outcome {
-                    answer: Answer::Accepted,
-                    hub: h,
-                };
-            }
-            Outcome {
-                answer: Answer::Opened,
-                hub: h,
-            }
-        }
+        b'a' => call_on_board(prepared(4), Op::Acquire, 3),
+        b's' => call_on_board(prepared(4), Op::Step, 2),
+        b'c' => call_on_board(prepared(4), Op::Cancel, 1),
+        b'r' => call_on_board(prepared(4), Op::Release, 0),
+        b'x' => call_on_board(prepared(4), Op::Release, 3),
+        b'.' => Outcome {
+            answer: Answer::Opened,
+            hub: prepared(4),
+        },
+        b'A' => call_on_board(prepared(32), Op::Acquire, 3),
+        b'S' => call_on_board(prepared(32), Op::Step, 2),
+        b'C' => call_on_board(prepared(32), Op::Cancel, 1),
+        b'R' => call_on_board(prepared(32), Op::Release, 0),
+        b'X' => call_on_board(prepared(32), Op::Release, 3),
         _ => Outcome {
             answer: Answer::Opened,
-            hub: h,
+            hub: prepared(32),
         },
     }
 }
@@ -61,7 +62,7 @@ fn measured(letter: u8, h: Hub) -> Outcome {
 fn main() {
     let mut input = [b'.'; 1];
     libc::read(0, &mut input);
-    let o = measured(input[0], prepared());
+    let o = measured(input[0]);
     // the answer and the record are both printed, so that neither can be left out
     let answer = o.answer;
     let p = print_of(answer);
