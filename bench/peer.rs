@@ -4,6 +4,9 @@
 //! holder asks and waits. Every turn leaves as many in line as it found, and is checked.
 //! Usage: peer hub|tokio give-up|hand-over WAITERS TURNS
 
+#[path = "../tests/compare/library.rs"]
+mod library;
+
 use std::collections::VecDeque;
 use std::env;
 use std::process::ExitCode;
@@ -15,18 +18,8 @@ enum Turn {
 }
 
 mod hub {
+    use super::library::hub_run;
     use super::{Turn, VecDeque};
-
-    extern "C" {
-        fn hub_run(
-            permits: u8,
-            parties: u8,
-            calls: *const u8,
-            calls_len: usize,
-            out: *mut u8,
-            out_len: usize,
-        ) -> u8;
-    }
 
     /// Calls, and the code that each must be answered by.
     #[derive(Default)]
@@ -80,11 +73,7 @@ mod hub {
         }
         let calls = schedule.calls.as_flattened();
         let mut out = vec![[0; 7]; schedule.calls.len()];
-        let room = out.as_flattened_mut();
-        // SAFETY: each address goes with the length of what it points to.
-        let code = unsafe {
-            hub_run(1, waiters + 1, calls.as_ptr(), calls.len(), room.as_mut_ptr(), room.len())
-        };
+        let code = hub_run(1, waiters + 1, calls, out.as_flattened_mut());
         assert_eq!(code, 0);
         let codes: Vec<u8> = out.iter().map(|answer| answer[0]).collect();
         assert_eq!(codes, schedule.codes);

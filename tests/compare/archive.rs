@@ -2,23 +2,14 @@
 //! same calls to both, and every answer must agree. Usage: archive SECOND SCHEDULES. Links
 //! librun.a.
 
+mod library;
 mod process;
 mod schedules;
 
+use library::hub_run;
 use schedules::{hex, schedule, Random, Schedule, Seen};
 use std::env;
 use std::process::ExitCode;
-
-extern "C" {
-    fn hub_run(
-        permits: u8,
-        parties: u8,
-        calls: *const u8,
-        calls_len: usize,
-        out: *mut u8,
-        out_len: usize,
-    ) -> u8;
-}
 
 const ANSWER: usize = 7;
 
@@ -26,12 +17,7 @@ const ANSWER: usize = 7;
 fn proved(schedule: &Schedule) -> Vec<[u8; ANSWER]> {
     let calls = schedule.calls.concat();
     let mut out = vec![[0; ANSWER]; schedule.calls.len()];
-    let room = out.as_flattened_mut();
-    let (permits, parties) = (schedule.permits, schedule.parties);
-    // SAFETY: each address goes with the length of what it points to.
-    let code = unsafe {
-        hub_run(permits, parties, calls.as_ptr(), calls.len(), room.as_mut_ptr(), room.len())
-    };
+    let code = hub_run(schedule.permits, schedule.parties, &calls, out.as_flattened_mut());
     if code != 0 {
         return vec![[code, 255, 255, 255, 255, 255, 255]];
     }

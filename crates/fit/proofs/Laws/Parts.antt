@@ -26,6 +26,7 @@ use Rattle.hub.specs.Record.{PARTIES, MAX-BEGUN, readPhase, readPlace}
 use Rattle.hub.specs.Table.{step, stepOf}
 use Rattle.hub.proofs.record.Place as place
 use Rattle.fit.specs.Parts.{windowed, listedAt, partyTest, ticketAt}
+use Rattle.fit.proofs.Laws.Bools.{and-assoc}
 use Rattle.fit.proofs.Laws.Ranges.{index-of}
 use Rattle.fit.proofs.Laws.Variants.{any-phase, any-place, of-place}
 
@@ -102,10 +103,6 @@ abbrev clauses : Hub → ℕ → Phase → Bool
 clauses h p f =
     (ltb p (h .parties) || isFree f)
     && partyTest f (readPlace (h .places) (ticketOf f)) (windowed (h .issued) (h .resumed) (h .oldest))
-
-and-assoc : (a b c : Bool) → a && (b && c) ≡ (a && b) && c
-and-assoc true b c = refl
-and-assoc false b c = refl
 
 by-clauses : (h : Hub) (p : ℕ) → clauses h p (readPhase (h .slots) p) ≡ partyFits h p
 unfolding partyFits

@@ -8,6 +8,7 @@ use lib.Dec.{ltb}
 use native.Mathlib.Omega.{arith}
 use Rattle.hub.specs.Basics.{allFrom}
 use Rattle.fit.specs.Parts.{ticketIf, ticketAt}
+use Rattle.fit.proofs.Laws.Bools.{and-assoc}
 
 module _ (f : ℕ → Bool) (i m : ℕ) (b : Bool) (left : allFrom f i m ≡ b) where
   pub all-pass : m ≡ 0 → true ≡ b
@@ -54,10 +55,6 @@ same-row f g i j (suc n) h =
   where
     moved : (x k : ℕ) → suc x + k ≡ x + suc k
     moved x k = omega arith
-
-and-assoc : (a b c : Bool) → a && (b && c) ≡ (a && b) && c
-and-assoc true b c = refl
-and-assoc false b c = refl
 
 and-comm : (a b : Bool) → a && b ≡ b && a
 and-comm true true = refl
