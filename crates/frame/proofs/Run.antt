@@ -11,12 +11,12 @@ use Rattle.hub.specs.Opening.{fresh, openingIf}
 use Rattle.hub.specs.Calls.{checked, apply}
 use Rattle.line.specs.Hex.{digitOf}
 use Rattle.line.specs.Requests.{allDigits, bytesOf, requested, requestOf}
-use Rattle.line.specs.Program.{opens, calls, turn, replies, after, linesFrom, outputOf}
+use Rattle.line.specs.Program.{opens, calls, turn, repliesIn, after, linesFrom, outputOf}
 use Rattle.frame.specs.Run.{inDigits, inputs, outputs, RunHolds}
 
 pub run-holds : RunHolds
 unfolding RunHolds inDigits inputs outputs digitOf allDigits bytesOf requested requestOf
-    opens calls turn replies after linesFrom outputOf checked apply fresh openingIf
+    opens calls turn repliesIn after linesFrom outputOf checked apply fresh openingIf
     look counterFits countsFit ticketFits partyFits placeFits fits skip retire reclaimed
     step acquire cancel release decide isOneOf isPlace readPhase writePhase readPlace writePlace
     kindOf weight allFrom

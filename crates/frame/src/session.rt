@@ -4,6 +4,7 @@ use crate::closing::put_closing;
 use crate::reader::Reader;
 use crate::reader::read_piece;
 use hub::Hub;
+use line::form::TEXT;
 use line::request::read_line;
 use live::answer_requests;
 ghost use mathlib.Core.Path.{_≡_};
@@ -56,7 +57,7 @@ pub fn feed(session: Session, piece: &[u8], requests: &mut [u8], out: &mut [u8])
     let read = read_piece(reader, piece, requests);
     let lines = read.count;
     let house = session.hub;
-    let hub = answer_requests(house, requests, lines, out);
+    let hub = answer_requests(house, requests, lines, TEXT, out);
     let past = read.reader;
     Fed {
         session: Session { hub, reader: past },
@@ -82,7 +83,7 @@ pub fn finish(session: Session, out: &mut [u8]) -> usize
     let line = reader.line;
     let asks = read_line(&line[0..len]);
     let request = [asks.code, asks.first, asks.second];
-    let hub = answer_requests(house, &request, 1, out);
+    let hub = answer_requests(house, &request, 1, TEXT, out);
     put_closing(hub, &mut out[15..30]);
     2
 }

@@ -4,3 +4,4 @@ pub mod Parts
 pub mod Codes
 pub mod Digits
 pub mod Lines
+pub mod Schedules

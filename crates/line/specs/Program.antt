@@ -13,6 +13,7 @@ use Rattle.hub.specs.Opening.{fresh, opening}
 use Rattle.hub.specs.Phases.{holds, isWaiting}
 use Rattle.hub.specs.Record.{phasesOf}
 use Rattle.line.specs.declared.request.Request.{Request}
+use Rattle.line.specs.Form.{Form, asText, inForm}
 use Rattle.line.specs.Frame.{isCall, opOf, frameOf, twosComplement}
 use Rattle.line.specs.Hex.{textOf}
 use Rattle.line.specs.Requests.{requestOf}
@@ -55,12 +56,17 @@ turn h r =
     (opens (isOpen h) (upTo32 (r .first) && upTo32 (r .second)) h (r .first) (r .second))
     (turnedDown 0xFF 12 h))
 
--- The answers to requests from a record on, and the record that they leave.
-unfoldable pub replies : Hub → List Request → List ℕ
-replies h [] = []
-replies h (r ∷ rs) =
-    textOf (frameOf (turn h r .party) (turn h r .answer)) ++ replies (turn h r .hub) rs
+-- The answers to requests from a record on, in a form.
+unfoldable pub repliesIn : Form → Hub → List Request → List ℕ
+repliesIn form h [] = []
+repliesIn form h (r ∷ rs) =
+    inForm form (frameOf (turn h r .party) (turn h r .answer)) ++ repliesIn form (turn h r .hub) rs
 
+-- The same as lines.
+abbrev pub replies : Hub → List Request → List ℕ
+replies = repliesIn asText
+
+-- The record that they leave.
 unfoldable pub after : Hub → List Request → Hub
 after h [] = h
 after h (r ∷ rs) = after (turn h r .hub) rs

@@ -4,4 +4,5 @@ pub mod answer; // an answer as bytes
 pub mod hex; // hexadecimal digits
 pub mod request; // what a line asks
 pub mod text; // an answer as a line
+pub mod form; // text or bytes
 pub mod signed; // the counter as four bytes

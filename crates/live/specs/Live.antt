@@ -1,5 +1,5 @@
 -- Requests as bytes, and the records that an input can lead to.
-use Prim.Native.Nat.{ℕ, zero, suc, _+_, _*_}
+use Prim.Native.Nat.{ℕ, zero, suc, _-_, _*_}
 use mathlib.Core.Path.{_≡_}
 use mathlib.Core.List.{List, [], _∷_, _++_}
 use mathlib.Core.Logic.{_⊎_}
@@ -10,20 +10,24 @@ use Rattle.hub.specs.declared.record.Hub.{Hub}
 use Rattle.hub.specs.Opening.{opening}
 use Rattle.hub.specs.Schedule.{run}
 use Rattle.line.specs.declared.request.Request.{Request}
-use Rattle.line.specs.Program.{unopened, replies}
+use Rattle.line.specs.Form.{Form, requestSize, replySize}
+use Rattle.line.specs.Program.{unopened, repliesIn}
 
--- Three bytes are a request.
-abbrev pub requestAt : List ℕ → Request
-requestAt l = record { code = getD l 0 0; first = getD l 1 0; second = getD l 2 0 }
+-- The request that some bytes begin with: its code, its first byte and its last. In two bytes
+-- these are one, the party: a call needs no more.
+abbrev pub requestAt : Form → List ℕ → Request
+requestAt form l =
+    record { code = getD l 0 0; first = getD l 1 0; second = getD l (requestSize form - 1) 0 }
 
 -- The first n requests of some bytes.
-unfoldable pub requestsIn : ℕ → List ℕ → List Request
-requestsIn zero l = []
-requestsIn (suc n) l = requestAt l ∷ requestsIn n (drop 3 l)
+unfoldable pub requestsIn : Form → ℕ → List ℕ → List Request
+requestsIn form zero l = []
+requestsIn form (suc n) l = requestAt form l ∷ requestsIn form n (drop (requestSize form) l)
 
 -- The replies, in front of what the buffer holds past them.
-abbrev pub replied : Hub → ℕ → List ℕ → List ℕ → List ℕ
-replied h n requests out = replies h (requestsIn n requests) ++ drop (15 * n) out
+abbrev pub replied : Form → Hub → ℕ → List ℕ → List ℕ → List ℕ
+replied form h n requests out =
+    repliesIn form h (requestsIn form n requests) ++ drop (replySize form * n) out
 
 -- What an accepted opening and a list of calls lead to.
 pub record Opened (h : Hub) : Type 0 where

@@ -1,4 +1,4 @@
-// Requests answered one after the other. The record's arrays and figures are locals while they
+// Requests answered one after the other, in text or in bytes. The record's arrays and figures are locals while they
 // are, altered in place. A record that an input can lead to fits, and that is proved: so there is
 // no check of the whole record here.
 
@@ -19,7 +19,9 @@ use hub::record::Place;
 use hub::record::PlaceSlot;
 use line::answer::Print;
 use line::answer::print_of;
-use line::text::put_line;
+use line::form::put_reply;
+use line::form::reply_size;
+use line::form::request_size;
 use room::is_full;
 use room::near_full;
 use table::sight::by_ticket;
@@ -29,16 +31,17 @@ use tidy::can_skip;
 ghost use mathlib.Core.Path.{_≡_};
 ghost use Prim.Native.Nat.{_*_, _≤_};
 ghost use lib.ListN.{length};
+ghost use Rattle.line.specs.Form.{replySize, requestSize};
 ghost use Rattle.line.specs.Program.{after};
 ghost use Rattle.live.specs.Live.{Reached, replied, requestsIn};
 
-// Answers the first `count` requests, three bytes each, by a line of fifteen characters each.
-pub fn answer_requests(house: Hub, requests: &[u8], count: usize, out: &mut [u8]) -> Hub
+// Answers the first `count` requests, in the form that they are in.
+pub fn answer_requests(house: Hub, requests: &[u8], count: usize, form: bool, out: &mut [u8]) -> Hub
     requires { ⌜ Reached house ⌝ }
-    requires { ⌜ 3 * count ≤ length (now requests) ⌝ }
-    requires { ⌜ 15 * count ≤ length (now out) ⌝ }
-    ensures { λ r. ⌜ (r ≡ after house (requestsIn count (now (requests .entry))))
-        × (now (out .exit) ≡ replied house count (now (requests .entry)) (now (out .entry))) ⌝ }
+    requires { ⌜ requestSize form * count ≤ length (now requests) ⌝ }
+    requires { ⌜ replySize form * count ≤ length (now out) ⌝ }
+    ensures { λ r. ⌜ (r ≡ after house (requestsIn form count (now (requests .entry))))
+        × (now (out .exit) ≡ replied form house count (now (requests .entry)) (now (out .entry))) ⌝ }
 {
     let mut figures = Figures {
         permits: house.permits,
@@ -51,13 +54,16 @@ pub fn answer_requests(house: Hub, requests: &[u8], count: usize, out: &mut [u8]
     };
     let mut places = house.places;
     let mut slots = house.slots;
+    let size = request_size(form);
+    let width = reply_size(form);
     let mut i: usize = 0;
     while i < count {
-        let code = requests[3 * i];
-        let first = requests[3 * i + 1];
-        let second = requests[3 * i + 2];
-        let at = 15 * i;
-        let end = at + 15;
+        let from = size * i;
+        let code = requests[from];
+        let first = requests[from + 1];
+        let second = requests[from + size - 1];
+        let at = width * i;
+        let end = at + width;
         i += 1;
         let d = at_door(code, first, second, figures);
         if !d.admitted {
@@ -66,7 +72,7 @@ pub fn answer_requests(house: Hub, requests: &[u8], count: usize, out: &mut [u8]
                 woken: 0xFF,
                 number: 0xFFFFFFFF,
             };
-            put_line(&mut out[at..end], d.party, p);
+            put_reply(&mut out[at..end], form, d.party, p);
             let next = d.figures;
             figures = next;
             continue;
@@ -92,7 +98,7 @@ pub fn answer_requests(house: Hub, requests: &[u8], count: usize, out: &mut [u8]
         };
         let e = called(code, full, first, phase, place, waiter, figures);
         let answer = e.answer;
-        put_line(&mut out[at..end], first, print_of(answer));
+        put_reply(&mut out[at..end], form, first, print_of(answer));
         let turns = e.turns;
         let next = e.figures;
         figures = next;

@@ -1,4 +1,4 @@
 -- What the proofs of this crate share.
 pub mod Pairs
-pub mod Turns
+pub mod Answers
 pub mod Endings

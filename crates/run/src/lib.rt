@@ -4,22 +4,12 @@
 use hub::answers::Answer;
 use hub::answers::Refusal;
 use hub::opening::open_hub;
-use hub::record::Hub;
-use hub::record::Outcome;
-use line::answer::print_of;
-use line::answer::put;
 use line::answer::refusal_code;
-use step::calls::acquire;
-use step::calls::cancel;
-use step::calls::release;
-use step::calls::step;
+use line::form::BYTES;
+use live::answer_requests;
 ghost use mathlib.Core.Path.{_≡_};
-ghost use Prim.Native.Nat.{_/_, _≤_};
-ghost use lib.ListN.{length};
-ghost use Rattle.hub.specs.Calls.{called};
-ghost use Rattle.line.specs.Frame.{opOf};
 ghost use Rattle.run.specs.Bytes.{wellFormed};
-ghost use Rattle.run.specs.Run.{ranCode, runOf, written};
+ghost use Rattle.run.specs.Run.{ranCode, runOf};
 
 // How a run ended. Only a run that is done writes to the buffer.
 pub enum Ran {
@@ -27,22 +17,6 @@ pub enum Ran {
     Malformed, // an odd number of bytes, or a code that is none of the four calls
     NoRoom, // fewer than seven bytes of room for each call
     Done,
-}
-
-// One call, by its code; give back is what is left of the four.
-fn called(hub: Hub, code: u8, party: u8) -> Outcome
-    ensures { λ r. ⌜ r ≡ called hub (record { op = opOf code; party = party }) ⌝ }
-{
-    if code == 0x10 {
-        return acquire(hub, party);
-    }
-    if code == 0x11 {
-        return step(hub, party);
-    }
-    if code == 0x12 {
-        return cancel(hub, party);
-    }
-    release(hub, party)
 }
 
 // Is each pair of bytes a call?
@@ -67,30 +41,8 @@ fn well_formed(calls: &[u8]) -> bool
     true
 }
 
-// Each call on the record that the one before it left.
-fn run_all(opened: Hub, calls: &[u8], out: &mut [u8])
-    requires { ⌜ length (now calls) / 2 ≤ length (now out) / 7 ⌝ }
-    ensures { λ r. ⌜ now (out .exit) ≡ written opened (now (calls .entry)) (now (out .entry)) ⌝ }
-{
-    let mut hub = opened;
-    let total = calls.len() / 2;
-    let mut i: usize = 0;
-    while i < total {
-        let code = calls[2 * i];
-        let party = calls[2 * i + 1];
-        let at = 7 * i;
-        let end = at + 7;
-        let o = called(hub, code, party);
-        let answer = o.answer;
-        let p = print_of(answer);
-        put(&mut out[at..end], party, p);
-        let next = o.hub;
-        hub = next;
-        i += 1;
-    }
-}
-
-// Opens a hub, and runs the calls if they are well formed and there is room for the answers.
+// Opens a hub, and runs the calls if they are well formed and there is room for the answers. What
+// an opening leads to needs no check, so that `live` answers them.
 pub fn run_calls(permits: u8, parties: u8, calls: &[u8], out: &mut [u8]) -> Ran
     ensures { λ r. ⌜ (r ≡ runOf permits parties (now (calls .entry)) (now (out .entry)) .ran)
         × (now (out .exit) ≡ runOf permits parties (now (calls .entry)) (now (out .entry)) .out) ⌝ }
@@ -103,11 +55,12 @@ pub fn run_calls(permits: u8, parties: u8, calls: &[u8], out: &mut [u8]) -> Ran
     if !well_formed(calls) {
         return Ran::Malformed;
     }
-    if out.len() / 7 < calls.len() / 2 {
+    let total = calls.len() / 2;
+    if out.len() / 7 < total {
         return Ran::NoRoom;
     }
     let hub = o.hub;
-    run_all(hub, calls, out);
+    answer_requests(hub, calls, total, BYTES, out);
     Ran::Done
 }
 

@@ -12,8 +12,9 @@ use lib.Dec.{eqb, ltb}
 use lib.ListN.{length, take, drop, set, length-append, length-drop, length-set, length-replicate}
 use Rattle.hub.specs.declared.record.Hub.{Hub}
 use Rattle.hub.proofs.Laws.Bools.{if-true, if-false}
+use Rattle.line.specs.Form.{asText}
 use Rattle.line.specs.declared.request.Request.{Request}
-use Rattle.line.specs.Program.{unopened, turn, replies, after, closing, linesOf}
+use Rattle.line.specs.Program.{unopened, turn, repliesIn, replies, after, closing, linesOf}
 use Rattle.line.specs.Requests.{requestOf}
 use Rattle.live.specs.Live.{requestsIn, replied, Reached}
 use Rattle.live.proofs.Laws.Reached.{turn-reached}
@@ -27,7 +28,7 @@ use Rattle.frame.specs.Reading.{lineIn, pushed, emptied, next, past, ask
 use Rattle.frame.specs.Session.{atStart, fed, told, rest, finished, Sound, EveryInput}
 
 -- The requests that were written are read.
-requests-back : (rs : List Request) (l : List ℕ) → requestsIn (length rs) (requestBytes rs ++ l) ≡ rs
+requests-back : (rs : List Request) (l : List ℕ) → requestsIn asText (length rs) (requestBytes rs ++ l) ≡ rs
 unfolding requestsIn requestBytes
 requests-back [] l = refl
 requests-back (r ∷ rs) l = ap (λ (q : List Request). r ∷ q) (requests-back rs l)
@@ -98,11 +99,11 @@ module _ (s : Session) (piece spare : List ℕ) (read : Read) (bytes : List ℕ)
   abbrev rs : List Request
   rs = asked (s .reader) piece
 
-  read-back : requestsIn (read .count) bytes ≡ rs
+  read-back : requestsIn asText (read .count) bytes ≡ rs
   read-back =
-      (λ i. requestsIn (e i .count) (f i)) ∙ requests-back rs (drop (3 * length rs) spare)
+      (λ i. requestsIn asText (e i .count) (f i)) ∙ requests-back rs (drop (3 * length rs) spare)
 
-  pub feed-gives : (h : Hub) → h ≡ after (s .hub) (requestsIn (read .count) bytes)
+  pub feed-gives : (h : Hub) → h ≡ after (s .hub) (requestsIn asText (read .count) bytes)
       → _≡_ {A = Fed} (record { session = record { hub = h; reader = read .reader }; lines = read .count })
       (record { session = fed s piece; lines = length rs })
   unfolding fed
@@ -113,7 +114,7 @@ module _ (s : Session) (piece spare : List ℕ) (read : Read) (bytes : List ℕ)
       })
 
   pub feed-prints : (out : List ℕ)
-      → replied (s .hub) (read .count) bytes out ≡ told s piece ++ drop (15 * length rs) out
+      → replied asText (s .hub) (read .count) bytes out ≡ told s piece ++ drop (15 * length rs) out
   unfolding told
   feed-prints out =
       (λ i. replies (s .hub) (read-back i) ++ drop (15 * e i .count) out)
@@ -136,7 +137,7 @@ module _ (s : Session) (out : List ℕ) where
   pub finish-one : (part : List ℕ) → 15 ≤ length out → s .reader .len ≡ 0 → part ≡ closing (s .hub)
       → (_≡_ {A = ℕ} 1 (suc (length (rest (s .reader)))))
       × (putMid 0 15 out part ≡ finished s ++ drop (15 * suc (length (rest (s .reader)))) out)
-  unfolding finished replies after
+  unfolding finished repliesIn after
   finish-one part l e f = (
     sym (ap (λ (q : List Request). suc (length q)) (none-left e)),
     parts out part 0 15 l (ap length f)
@@ -150,7 +151,7 @@ module _ (s : Session) (out : List ℕ) where
   module _ (request : Request) (e : request ≡ requestOf (lineIn (s .reader)))
       (some : s .reader .len ≡ 0 → ⊥) where
     abbrev qs : List Request
-    qs = requestsIn 1 (threeOf request)
+    qs = requestsIn asText 1 (threeOf request)
 
     asked-last : qs ≡ rest (s .reader)
     unfolding requestsIn

@@ -10,7 +10,7 @@ use Rattle.hub.specs.declared.record.Hub.{Hub}
 use Rattle.line.specs.declared.request.Request.{Request}
 use Rattle.line.specs.Frame.{frameOf}
 use Rattle.line.specs.Hex.{textOf}
-use Rattle.line.specs.Program.{turn, replies, after, closing, linesOf, outputOf}
+use Rattle.line.specs.Program.{turn, repliesIn, replies, after, closing, linesOf, outputOf}
 use Rattle.line.specs.Requests.{requestOf}
 use Rattle.frame.specs.declared.reader.Reader.{Reader}
 use Rattle.frame.specs.declared.session.Session.{Session}
@@ -21,7 +21,7 @@ use Rattle.frame.proofs.Laws.Lines.{lines-read}
 -- Requests in two parts.
 pub replies-append : (rs qs : List Request) (h : Hub)
     → replies h (rs ++ qs) ≡ replies h rs ++ replies (after h rs) qs
-unfolding replies after
+unfolding repliesIn after
 replies-append [] qs h = refl
 replies-append (r ∷ rs) qs h =
     let t = turn h r in
@@ -73,7 +73,7 @@ told-append s a b =
     ∙ replies-append (asked (s .reader) a) (asked (past (s .reader) a) b) (s .hub)
 
 pub one-piece : (s : Session) → finished s ≡ wholly s []
-unfolding told fed replies asked past after
+unfolding told fed repliesIn asked past after
 one-piece s = refl
 
 pub wholly-append : (s : Session) (a b : List ℕ) → wholly s (a ++ b) ≡ told s a ++ wholly (fed s a) b

@@ -12,13 +12,14 @@ use lib.Seq.{drop-cons}
 use Rattle.hub.specs.declared.record.Hub.{Hub}
 use Rattle.hub.proofs.Laws.Bools.{if-true, if-false}
 use Rattle.line.specs.declared.request.Request.{Request}
-use Rattle.line.specs.Program.{turn, replies, after, closing, linesFrom, linesOf, outputOf, unopened}
+use Rattle.line.specs.Program.{turn, repliesIn, replies, after, closing, linesFrom, linesOf, outputOf}
+use Rattle.line.specs.Program.{unopened}
 use Rattle.line.specs.Requests.{requestOf}
 use Rattle.frame.specs.declared.reader.Reader.{Reader}
 use Rattle.frame.specs.Reading.{next, past, asked}
 
 pub replies-size : (rs : List Request) (h : Hub) → length (replies h rs) ≡ 15 * length rs
-unfolding replies
+unfolding repliesIn
 replies-size [] h = refl
 replies-size (r ∷ rs) h = omega (arith, replies-size rs (turn h r .hub))
 

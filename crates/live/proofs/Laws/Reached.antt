@@ -18,7 +18,7 @@ use Rattle.hub.specs.Basics.{allFrom, upTo32}
 use Rattle.hub.specs.Calls.{called}
 use Rattle.hub.specs.Demand3.{ReachedFits}
 use Rattle.hub.specs.Fits.{fits, countsFit, counterFits, partyFits, placeFits}
-use Rattle.hub.specs.Opening.{fresh, opening, openingIf}
+use Rattle.hub.specs.Opening.{fresh, opening}
 use Rattle.hub.specs.Record.{PLACES, PARTIES, MAX-BEGUN}
 use Rattle.hub.specs.Schedule.{run}
 use Rattle.hub.proofs.Demand3.{every-record-fits}
@@ -115,11 +115,9 @@ called-reached h c false e r = r
 called-reached h c true e (inl u) = absurd (not-both e (never-open h u))
 called-reached h c true e (inr o) = inr (one-more h o c)
 
-opens-reached : (h : Hub) (k n : ℕ) (o a b : Bool) → upTo32 k ≡ a → upTo32 n ≡ b → Reached h
-    → Reached (opens o (a && b) h k n .hub)
-unfolding opens run openingIf
-opens-reached h k n true a b e f r = r
-opens-reached h k n false true true e f r =
+pub opening-reached : (k n : ℕ) → upTo32 k ≡ true → upTo32 n ≡ true → Reached (opening k n .hub)
+unfolding run
+opening-reached k n e f =
     inr (record {
       permits = k;
       parties = n;
@@ -127,6 +125,12 @@ opens-reached h k n false true true e f r =
       accepted = ap (λ (o : Outcome). o .answer) (accepted (upTo32 k) (upTo32 n) k n e f);
       same = refl;
     })
+
+opens-reached : (h : Hub) (k n : ℕ) (o a b : Bool) → upTo32 k ≡ a → upTo32 n ≡ b → Reached h
+    → Reached (opens o (a && b) h k n .hub)
+unfolding opens
+opens-reached h k n true a b e f r = r
+opens-reached h k n false true true e f r = opening-reached k n e f
 opens-reached h k n false true false e f r = r
 opens-reached h k n false false b e f r = r
 

@@ -7,7 +7,7 @@ use mathlib.Core.Bool.{Bool}
 use mathlib.Core.List.{List, map}
 use mathlib.Core.Logic.{⊎-elim}
 use native.Mathlib.Omega.{arith}
-use Prim.Native.Nat.{ℕ, _+_, _-_, _*_, _≤_, _<_}
+use Prim.Native.Nat.{ℕ, _+_, _-_, _*_, _≤_}
 use lib.ListN.{length, getD, length-map}
 use mir.Facts.{toZ-ofZ}
 use mir.Syntax.{w32}
@@ -24,7 +24,7 @@ use Rattle.hub.specs.Reclaim.{canSkip, skip, canRetire, retire}
 use Rattle.hub.specs.Record.{readPhase, writePhase, readPlace, writePlace}
 use Rattle.hub.specs.Table.{decide}
 use Rattle.line.specs.Frame.{opOf, frameOf, paper}
-use Rattle.line.specs.Hex.{textOf}
+use Rattle.line.specs.Form.{inForm}
 use Rattle.line.specs.Program.{after, turn}
 use Rattle.live.specs.declared.effect.Effect.{Effect}
 use Rattle.live.specs.Live.{Reached, requestsIn, replied}
@@ -39,39 +39,45 @@ use Rattle.step.proofs.Laws.Loops.{retiring-end}
 use Rattle.live.proofs.Laws.Reached.{same-counter}
 use Rattle.live.proofs.Laws.Stored.{nobody, still, keeps-oldest, few-turns}
 use Rattle.live.proofs.Laws.Tabled.{Read, small-sight, left, said}
-use Rattle.live.proofs.Laws.Turns.{Upto, theRequest, start, turned, ended}
+use Rattle.live.proofs.Laws.Turns.{Upto, theRequest, start, two-bytes, whole-request}
+use Rattle.live.proofs.Laws.Turns.{whole-reply, reply-part, turned, ended}
 use Rattle.live.proofs.answer_requests.Statement.{statement}
 use Rattle.live.proofs.answer_requests.Tie as tie
 
 abbrev Inv-loop2 : tie.InvT-loop2
-Inv-loop2 l k out figures₀ places₀ slots i c x y a b p t w f turns q limit n₀ figures places n =
+Inv-loop2 l k form out figures₀ places₀ slots z v i o c x y a b p t w f turns q limit n₀ figures places n =
     Skipping turns (hubOf figures₀ places₀ slots) (hubOf figures places slots) n
     × (limit ≡ figures₀ .oldest + 256) × (figures₀ .oldest ≤ 1000000)
 
 abbrev μ-loop2 : tie.MeasureT-loop2
-μ-loop2 l k out figures₀ places₀ slots i c x y a b p t w f turns q limit n₀ figures places n =
+μ-loop2 l k form out figures₀ places₀ slots z v i o c x y a b p t w f turns q limit n₀ figures places n =
     turns - n
 
 abbrev Inv-loop3 : tie.InvT-loop3
-Inv-loop3 l k out figures₀ places₀ slots i c x y a b p t w f turns q limit n m₀ figures places m =
+Inv-loop3 l k form out figures₀ places₀ slots z v i o c x y a b p t w f turns q limit n m₀ figures places m =
     Retiring turns (hubOf figures₀ places₀ slots) (hubOf figures places slots) m
     × (figures₀ .oldest + turns ≤ 1000256)
 
 abbrev μ-loop3 : tie.MeasureT-loop3
-μ-loop3 l k out figures₀ places₀ slots i c x y a b p t w f turns q limit n m₀ figures places m =
+μ-loop3 l k form out figures₀ places₀ slots z v i o c x y a b p t w f turns q limit n m₀ figures places m =
     turns - m
 
 abbrev Inv-loop : tie.InvT-loop
-Inv-loop requests count out₀ figures₀ places₀ slots₀ i₀ out figures places slots i =
-    Upto (hubOf figures₀ places₀ slots₀) count requests out₀ (hubOf figures places slots) out i
+Inv-loop requests count form out₀ figures₀ places₀ slots₀ size width i₀ out figures places slots i =
+    Upto form size width (hubOf figures₀ places₀ slots₀) count requests out₀
+    (hubOf figures places slots) out i
     × (length slots ≡ 32)
 
 abbrev μ-loop : tie.MeasureT-loop
-μ-loop requests count out₀ figures₀ places₀ slots₀ i₀ out figures places slots i = count - i
+μ-loop requests count form out₀ figures₀ places₀ slots₀ size width i₀ out figures places slots i =
+    count - i
 
 -- The contexts that the facts below speak of.
 abbrev Head : Type 0
 Head = tie.At-loop Inv-loop2 μ-loop2 Inv-loop3 μ-loop3 Inv-loop μ-loop
+
+abbrev Turning : Type 0
+Turning = tie.In-loop Inv-loop2 μ-loop2 Inv-loop3 μ-loop3 Inv-loop μ-loop
 
 abbrev Entered : Type 0
 Entered = tie.Else1 Inv-loop2 μ-loop2 Inv-loop3 μ-loop3 Inv-loop μ-loop
@@ -85,8 +91,11 @@ Called = tie.After-called Inv-loop2 μ-loop2 Inv-loop3 μ-loop3 Inv-loop μ-loop
 abbrev Tidying : Type 0
 Tidying = tie.At-loop2 Inv-loop2 μ-loop2 Inv-loop3 μ-loop3 Inv-loop μ-loop
 
+abbrev turning : Entered → Turning
+turning c = c .before .before .before .before .before .before
+
 abbrev head : Entered → Head
-head c = c .before .before .before .before .before .before .before
+head c = turning c .before
 
 abbrev entered : Joined → Entered
 entered c = c .before .before .before .before .before .before .before .before
@@ -98,20 +107,35 @@ called c = c .before .before .before .before .before .before .before .before .be
 abbrev hub : Head → Hub
 hub c = hubOf (c .loop .figures) (c .loop .places) (c .loop .slots)
 
+abbrev begun : Head → tie.Start Inv-loop2 μ-loop2 Inv-loop3 μ-loop3 Inv-loop μ-loop
+begun c = c .before .before .before .before .before .before .before .before
+
 abbrev bytes : Head → List ℕ
-bytes c = c .before .before .before .before .before .before .args .requests .now
+bytes c = begun c .args .requests .now
+
+abbrev size : Head → ℕ
+size c = c .before .before .request-size .result
+
+abbrev width : Head → ℕ
+width c = c .before .reply-size .result
 
 abbrev code : Head → ℕ
-code c = getD (bytes c) (3 * c .loop .i) 0
+code c = getD (bytes c) (size c * c .loop .i) 0
 
 abbrev party : Head → ℕ
-party c = getD (bytes c) (3 * c .loop .i + 1) 0
+party c = getD (bytes c) (size c * c .loop .i + 1) 0
 
-abbrev many : Head → ℕ
-many c = c .before .before .before .before .before .before .args .count
+-- There is still a request to read, and room for its reply.
+two : (c : Turning) → 2 ≤ size (c .before)
+two c = two-bytes _ _ _ _ _ _ _ _ _ _ (c .before .loop .inv .0) (c .loop-test .taken)
 
-taken : (c : Entered) → head c .loop .i < many (head c)
-taken c = c .before .before .before .before .before .before .loop-test .taken
+asks : (c : Turning)
+    → size (c .before) * c .before .loop .i + size (c .before) ≤ length (bytes (c .before))
+asks c = whole-request _ _ _ _ _ _ _ _ _ _ (c .before .loop .inv .0) (c .loop-test .taken)
+
+room : (c : Turning)
+    → width (c .before) * c .before .loop .i + width (c .before) ≤ length (c .before .loop .out)
+room c = whole-reply _ _ _ _ _ _ _ _ _ _ (c .before .loop .inv .0) (c .loop-test .taken)
 
 -- The door let the call in.
 pass : (c : Entered) → Passed (code (head c)) (party (head c)) (head c .loop .figures)
@@ -172,7 +196,7 @@ move h = decide (opOf (code h)) (isFull (hub h)) (look (hub h) (party h))
 
 answered : (c : Entered)
     → let h = head c in
-    turn (hub h) (theRequest (bytes h) (h .loop .i))
+    turn (hub h) (theRequest (bytes h) (size h * h .loop .i) (size h))
     ≡ record {
       party = party h;
       answer = printed (answerOf (move h));
@@ -256,48 +280,54 @@ worded t =
     said _ _ _ _ _ _ _ (reading j) (code (head (entered j))) (j .if3 .full) (effect t) (fullness j _)
     (called t .called .ensures) (print t .print-of .ensures)
 
+request-size-requires :
+    tie.Need-request-size-requires Inv-loop2 μ-loop2 Inv-loop3 μ-loop3 Inv-loop μ-loop
+request-size-requires c κs = search needs
+
+reply-size-requires :
+    tie.Need-reply-size-requires Inv-loop2 μ-loop2 Inv-loop3 μ-loop3 Inv-loop μ-loop
+reply-size-requires c κs = search needs
+
 loop-holds : tie.Need-loop-holds Inv-loop2 μ-loop2 Inv-loop3 μ-loop3 Inv-loop μ-loop
 loop-holds c =
-    let a = c .before .before .before .before .before in
+    let a = c .before .before .before .before .before .before .before in
     let f : SFits w32 (a .args .house .counter) = search needs in
     let same = ap (counting (a .args .house)) (sym (toZ-ofZ f)) in (
-      start _ _ _ _ (subst Reached same (a .pre .0)) (omega (arith, a .pre))
-          (omega (arith, a .pre)),
+      start _ _ _ _ _ _ _ (c .before .request-size .ensures) (c .reply-size .ensures)
+          (subst Reached same (a .pre .0)) (a .pre .1 .0) (a .pre .1 .1),
       full-house a,
     )
 
-mul-code : tie.Need-mul-code Inv-loop2 μ-loop2 Inv-loop3 μ-loop3 Inv-loop μ-loop
-mul-code c = search needs
+mul-from : tie.Need-mul-from Inv-loop2 μ-loop2 Inv-loop3 μ-loop3 Inv-loop μ-loop
+mul-from c = omega (arith, asks c)
 
 shared-slice-read-code :
     tie.Need-shared-slice-read-code Inv-loop2 μ-loop2 Inv-loop3 μ-loop3 Inv-loop μ-loop
-shared-slice-read-code c = search needs
-
-mul-first : tie.Need-mul-first Inv-loop2 μ-loop2 Inv-loop3 μ-loop3 Inv-loop μ-loop
-mul-first c = search needs
+shared-slice-read-code c = omega (arith, two (c .before), asks (c .before))
 
 add-first : tie.Need-add-first Inv-loop2 μ-loop2 Inv-loop3 μ-loop3 Inv-loop μ-loop
-add-first c = search needs
+add-first c = omega (arith, two (c .before), asks (c .before))
 
 shared-slice-read-first :
     tie.Need-shared-slice-read-first Inv-loop2 μ-loop2 Inv-loop3 μ-loop3 Inv-loop μ-loop
-shared-slice-read-first c = search needs
-
-mul-second : tie.Need-mul-second Inv-loop2 μ-loop2 Inv-loop3 μ-loop3 Inv-loop μ-loop
-mul-second c = search needs
+shared-slice-read-first c = omega (arith, two (c .before .before), asks (c .before .before))
 
 add-second : tie.Need-add-second Inv-loop2 μ-loop2 Inv-loop3 μ-loop3 Inv-loop μ-loop
-add-second c = search needs
+add-second c = omega (arith, asks (c .before .before))
+
+sub-second : tie.Need-sub-second Inv-loop2 μ-loop2 Inv-loop3 μ-loop3 Inv-loop μ-loop
+sub-second c = omega (arith, two (c .before .before))
 
 shared-slice-read-second :
     tie.Need-shared-slice-read-second Inv-loop2 μ-loop2 Inv-loop3 μ-loop3 Inv-loop μ-loop
-shared-slice-read-second c = search needs
+shared-slice-read-second c =
+    omega (arith, two (c .before .before .before), asks (c .before .before .before))
 
 mul-at : tie.Need-mul-at Inv-loop2 μ-loop2 Inv-loop3 μ-loop3 Inv-loop μ-loop
-mul-at c = search needs
+mul-at c = omega (arith, room (c .before .before .before))
 
 add-end : tie.Need-add-end Inv-loop2 μ-loop2 Inv-loop3 μ-loop3 Inv-loop μ-loop
-add-end c = search needs
+add-end c = omega (arith, room (c .before .before .before))
 
 add-i : tie.Need-add-i Inv-loop2 μ-loop2 Inv-loop3 μ-loop3 Inv-loop μ-loop
 add-i c = search needs
@@ -305,18 +335,18 @@ add-i c = search needs
 at-door-requires : tie.Need-at-door-requires Inv-loop2 μ-loop2 Inv-loop3 μ-loop3 Inv-loop μ-loop
 at-door-requires c κs = search needs
 
-sub-put-line : tie.Need-sub-put-line Inv-loop2 μ-loop2 Inv-loop3 μ-loop3 Inv-loop μ-loop
-sub-put-line c = search needs
+sub-put-reply : tie.Need-sub-put-reply Inv-loop2 μ-loop2 Inv-loop3 μ-loop3 Inv-loop μ-loop
+sub-put-reply c = search needs
 
-part-put-line-start :
-    tie.Need-part-put-line-start Inv-loop2 μ-loop2 Inv-loop3 μ-loop3 Inv-loop μ-loop
-part-put-line-start c = search needs
+part-put-reply-start :
+    tie.Need-part-put-reply-start Inv-loop2 μ-loop2 Inv-loop3 μ-loop3 Inv-loop μ-loop
+part-put-reply-start c = search needs
 
-part-put-line-end : tie.Need-part-put-line-end Inv-loop2 μ-loop2 Inv-loop3 μ-loop3 Inv-loop μ-loop
-part-put-line-end c = search needs
+part-put-reply-end : tie.Need-part-put-reply-end Inv-loop2 μ-loop2 Inv-loop3 μ-loop3 Inv-loop μ-loop
+part-put-reply-end c = omega (arith, room (c .before .before .before .before .before .before))
 
-put-line-requires : tie.Need-put-line-requires Inv-loop2 μ-loop2 Inv-loop3 μ-loop3 Inv-loop μ-loop
-put-line-requires c κs = search needs
+put-reply-requires : tie.Need-put-reply-requires Inv-loop2 μ-loop2 Inv-loop3 μ-loop3 Inv-loop μ-loop
+put-reply-requires c κs = search needs
 
 loop-less : tie.Need-loop-less Inv-loop2 μ-loop2 Inv-loop3 μ-loop3 Inv-loop μ-loop
 loop-less c = search needs
@@ -327,9 +357,9 @@ loop-again c =
     let d = p .before .before in
     let h = d .before .before .before .before .before in
     let u = h .loop .inv .0 in (
-      turned _ _ _ _ _ _ _ u _ _ _ (d .before .before .before .before .loop-test .taken)
+      turned _ _ _ _ _ _ _ _ _ _ u (d .before .before .before .before .loop-test .taken) _ _ _
           (door-turn _ _ _ _ _ _ (u .reached) _ (d .at-door .ensures) (not-true _ (p .if1 .taken)))
-          (c .before .before .before .put-line .ensures) refl,
+          (c .before .before .before .put-reply .ensures) refl,
       h .loop .inv .1,
     )
 
@@ -389,25 +419,26 @@ called-requires : tie.Need-called-requires Inv-loop2 μ-loop2 Inv-loop3 μ-loop3
 unfolding readPhase
 called-requires c κs = small-sight _ _ _ _ _ _ _ (reading c) (admitted (entered c) .counts)
 
-sub-put-line-2 : tie.Need-sub-put-line-2 Inv-loop2 μ-loop2 Inv-loop3 μ-loop3 Inv-loop μ-loop
-sub-put-line-2 c = search needs
+sub-put-reply-2 : tie.Need-sub-put-reply-2 Inv-loop2 μ-loop2 Inv-loop3 μ-loop3 Inv-loop μ-loop
+sub-put-reply-2 c = search needs
 
-part-put-line-start-2 :
-    tie.Need-part-put-line-start-2 Inv-loop2 μ-loop2 Inv-loop3 μ-loop3 Inv-loop μ-loop
-part-put-line-start-2 c = search needs
+part-put-reply-start-2 :
+    tie.Need-part-put-reply-start-2 Inv-loop2 μ-loop2 Inv-loop3 μ-loop3 Inv-loop μ-loop
+part-put-reply-start-2 c = search needs
 
-part-put-line-end-2 :
-    tie.Need-part-put-line-end-2 Inv-loop2 μ-loop2 Inv-loop3 μ-loop3 Inv-loop μ-loop
-part-put-line-end-2 c =
-    let e = entered (c .before) in
-    omega (arith, head e .loop .inv .0 .room, taken e)
+part-put-reply-end-2 :
+    tie.Need-part-put-reply-end-2 Inv-loop2 μ-loop2 Inv-loop3 μ-loop3 Inv-loop μ-loop
+part-put-reply-end-2 c =
+    omega (arith, room (turning (entered (c .before))))
 
 print-of-requires : tie.Need-print-of-requires Inv-loop2 μ-loop2 Inv-loop3 μ-loop3 Inv-loop μ-loop
 print-of-requires c κs = search needs
 
-put-line-requires-2 :
-    tie.Need-put-line-requires-2 Inv-loop2 μ-loop2 Inv-loop3 μ-loop3 Inv-loop μ-loop
-put-line-requires-2 c κs = search needs
+put-reply-requires-2 :
+    tie.Need-put-reply-requires-2 Inv-loop2 μ-loop2 Inv-loop3 μ-loop3 Inv-loop μ-loop
+put-reply-requires-2 c κs =
+    let e = turning (entered (c .before .before .before)) in
+    reply-part _ _ _ _ _ _ _ _ _ _ (e .before .loop .inv .0) (e .loop-test .taken)
 
 by-ticket-requires-2 :
     tie.Need-by-ticket-requires-2 Inv-loop2 μ-loop2 Inv-loop3 μ-loop3 Inv-loop μ-loop
@@ -480,7 +511,13 @@ add-figures c =
     omega (arith, in-window _ _ _ _ (s .0) (e ∙ not-false _ (c .if5 .left)), s .2)
 
 add-n : tie.Need-add-n Inv-loop2 μ-loop2 Inv-loop3 μ-loop3 Inv-loop μ-loop
-add-n c = search needs
+add-n c =
+    let d = called (c .before .before .before .before) in
+    omega (
+      arith,
+      c .before .before .before .loop2-test .taken,
+      few-turns _ _ _ _ (d .called .result) (d .called .ensures),
+    )
 
 loop2-less : tie.Need-loop2-less Inv-loop2 μ-loop2 Inv-loop3 μ-loop3 Inv-loop μ-loop
 loop2-less c = omega (arith, c .before .before .before .loop2-test .taken)
@@ -502,7 +539,7 @@ loop3-holds c =
     )
 
 loop-less-2 : tie.Need-loop-less-2 Inv-loop2 μ-loop2 Inv-loop3 μ-loop3 Inv-loop μ-loop
-loop-less-2 c = omega (arith, taken (entered (called (c .before .before .before) .before)))
+loop-less-2 c = omega (arith, turning (entered (called (c .before .before .before) .before)) .loop-test .taken)
 
 loop-again-2 : tie.Need-loop-again-2 Inv-loop2 μ-loop2 Inv-loop3 μ-loop3 Inv-loop μ-loop
 unfolding readPlace writePlace writePhase
@@ -511,11 +548,12 @@ loop-again-2 c =
     let e = entered (called t .before) in
     let h = head e in
     let line =
-    t .before .before .before .before .before .before .before .put-line2 .ensures
-    ∙ ap (λ (q : Printed). textOf (frameOf (party h) q)) (worded t) in
+    t .before .before .before .before .before .before .before .put-reply2 .ensures
+    ∙ ap (λ (q : Printed). inForm (begun h .args .form) (frameOf (party h) q)) (worded t) in
     let long = still (h .loop .slots) _ (effect t .woken) _ Phase.Holding _ (woken-slots t) in
     let last = retiring-end _ _ _ _ (c .before .loop3 .inv .0) (c .loop3-test .left) in (
-      turned _ _ _ _ _ _ _ (h .loop .inv .0) _ _ _ (taken e) (answered e) line (done (c .before) _ last),
+      turned _ _ _ _ _ _ _ _ _ _ (h .loop .inv .0) (turning e .loop-test .taken) _ _ _
+          (answered e) line (done (c .before) _ last),
       long ∙ h .loop .inv .1,
     )
 
@@ -536,7 +574,7 @@ is-done-requires c κs = search needs
 loop-less-3 : tie.Need-loop-less-3 Inv-loop2 μ-loop2 Inv-loop3 μ-loop3 Inv-loop μ-loop
 loop-less-3 c =
     let t = c .before .before .before .before .before .before in
-    omega (arith, taken (entered (called t .before)))
+    omega (arith, turning (entered (called t .before)) .loop-test .taken)
 
 loop-again-3 : tie.Need-loop-again-3 Inv-loop2 μ-loop2 Inv-loop3 μ-loop3 Inv-loop μ-loop
 unfolding readPlace writePlace writePhase
@@ -546,13 +584,14 @@ loop-again-3 c =
     let e = entered (called t .before) in
     let h = head e in
     let line =
-    t .before .before .before .before .before .before .before .put-line2 .ensures
-    ∙ ap (λ (q : Printed). textOf (frameOf (party h) q)) (worded t) in
+    t .before .before .before .before .before .before .before .put-reply2 .ensures
+    ∙ ap (λ (q : Printed). inForm (begun h .args .form) (frameOf (party h) q)) (worded t) in
     let long = still (h .loop .slots) _ (effect t .woken) _ Phase.Holding _ (woken-slots t) in
     let last =
     retiring-stop _ _ _ _ (l .loop3 .inv .0)
     (sym (c .before .is-done .ensures) ∙ not-true _ (c .if6 .taken)) in (
-      turned _ _ _ _ _ _ _ (h .loop .inv .0) _ _ _ (taken e) (answered e) line (done l _ last),
+      turned _ _ _ _ _ _ _ _ _ _ (h .loop .inv .0) (turning e .loop-test .taken) _ _ _
+          (answered e) line (done l _ last),
       long ∙ h .loop .inv .1,
     )
 
@@ -569,7 +608,12 @@ add-figures-2 c =
     omega (arith, s .0 .low, s .1, c .before .before .before .loop3-test .taken)
 
 add-m : tie.Need-add-m Inv-loop2 μ-loop2 Inv-loop3 μ-loop3 Inv-loop μ-loop
-add-m c = search needs
+add-m c =
+    omega (
+      arith,
+      c .before .before .before .before .loop3 .inv .1,
+      c .before .before .before .loop3-test .taken,
+    )
 
 loop3-less : tie.Need-loop3-less Inv-loop2 μ-loop2 Inv-loop3 μ-loop3 Inv-loop μ-loop
 loop3-less c = omega (arith, c .before .before .before .loop3-test .taken)
@@ -589,14 +633,14 @@ same-length c = search needs
 returns : tie.Need-returns Inv-loop2 μ-loop2 Inv-loop3 μ-loop3 Inv-loop μ-loop
 returns c =
     let l = c .before .before in
-    let a = l .before .before .before .before .before .before .args in
+    let a = begun l .args in
     let u = l .loop .inv .0 in
-    let e = ended _ _ _ _ _ _ _ u (c .before .loop-test .left) in
+    let e = ended _ _ _ _ _ _ _ _ _ _ u (c .before .loop-test .left) in
     let f : SFits w32 (a .house .counter) = search needs in
     let same = ap (counting (a .house)) (toZ-ofZ f) in (
       ap (counting (hub l)) (same-counter (hub l) (u .reached)) ∙ e .0
-          ∙ ap (λ (h : Hub). after h (requestsIn (a .count) (a .requests .now))) same,
-      e .1 ∙ ap (λ (h : Hub). replied h (a .count) (a .requests .now) (a .out .now)) same,
+          ∙ ap (λ (h : Hub). after h (requestsIn (a .form) (a .count) (a .requests .now))) same,
+      e .1 ∙ ap (λ (h : Hub). replied (a .form) h (a .count) (a .requests .now) (a .out .now)) same,
     )
 
 pub answer-requests-spec : {M : Type 1} → statement M
@@ -609,23 +653,24 @@ answer-requests-spec =
     μ-loop3
     Inv-loop
     μ-loop
+    request-size-requires
+    reply-size-requires
     loop-holds
-    mul-code
+    mul-from
     shared-slice-read-code
-    mul-first
     add-first
     shared-slice-read-first
-    mul-second
     add-second
+    sub-second
     shared-slice-read-second
     mul-at
     add-end
     add-i
     at-door-requires
-    sub-put-line
-    part-put-line-start
-    part-put-line-end
-    put-line-requires
+    sub-put-reply
+    part-put-reply-start
+    part-put-reply-end
+    put-reply-requires
     loop-less
     loop-again
     cast-party
@@ -643,11 +688,11 @@ answer-requests-spec =
     near-full-requires
     is-full-requires
     called-requires
-    sub-put-line-2
-    part-put-line-start-2
-    part-put-line-end-2
+    sub-put-reply-2
+    part-put-reply-start-2
+    part-put-reply-end-2
     print-of-requires
-    put-line-requires-2
+    put-reply-requires-2
     by-ticket-requires-2
     mul-places
     array-set-from-places

@@ -15,9 +15,15 @@ use Rattle.hub.specs.declared.record.Hub.{Hub}
 use Rattle.hub.specs.declared.record.Outcome.{Outcome}
 use Rattle.hub.specs.Basics.{upTo32}
 use Rattle.hub.specs.Opening.{fresh, openingIf, opening}
+use Rattle.line.specs.Form.{asBytes}
+use Rattle.line.specs.Program.{isOpen}
+use Rattle.line.proofs.Laws.Schedules.{opening-open}
+use Rattle.live.specs.Live.{replied, Reached}
+use Rattle.live.proofs.Laws.Reached.{opening-reached}
 use Rattle.run.specs.Bytes.{wellFormed}
 use Rattle.run.specs.Run.{written, runIf, runOf}
 use Rattle.run.specs.declared.Ran.{Ran}
+use Rattle.run.proofs.Laws.Answers.{all-answered}
 
 -- The tags of all answers but a refusal.
 abbrev others : List ℕ
@@ -66,9 +72,19 @@ module _ (k n : ℕ) (calls out : List ℕ) where
     unfolding runIf
     no-room w l = rw (opened .0, opened .1, w, lt-leb _ _ l) (refl, refl)
 
+    -- The record needs no check.
+    pub reached : Reached (o .hub)
+    reached = rw e (opening-reached k n (opened .0) (opened .1))
+
+    is-open : isOpen (o .hub) ≡ true
+    is-open = rw e (opening-open k n (opened .0) (opened .1))
+
     pub done : (l : List ℕ) → wellFormed calls ≡ true → length calls / 2 ≤ length out / 7
-        → l ≡ written (o .hub) calls out → Ends Ran.Done l
+        → l ≡ replied asBytes (o .hub) (length calls / 2) calls out → Ends Ran.Done l
     unfolding runIf
     done l w m f =
-        rw (opened .0, opened .1, w, le-leb _ _ m)
-        (refl, f ∙ ap (λ (h : Hub). written h calls out) (opened .2))
+        rw (opened .0, opened .1, w, le-leb _ _ m) (
+          refl,
+          f ∙ all-answered calls out (o .hub) w is-open
+              ∙ ap (λ (h : Hub). written h calls out) (opened .2),
+        )

@@ -1,7 +1,8 @@
 -- `run_calls` meets its contract: its tests, in order, are those of the definition.
 use borrow.Author.Tests.{not-true, not-false}
 use mathlib.Core.Path.{sym, _∙_}
-use Rattle.run.proofs.Laws.Endings.{refused, malformed, no-room, done}
+use native.Mathlib.Omega.{arith}
+use Rattle.run.proofs.Laws.Endings.{refused, malformed, no-room, reached, done}
 use borrow.Author.Needs.{needs}
 use Rattle.run.proofs.run_calls.Statement.{statement}
 use Rattle.run.proofs.run_calls.Tie as tie
@@ -38,8 +39,16 @@ returns-3 c =
     no-room (a .permits) (a .parties) _ _ _ (o .open-hub .ensures) (w .before .match .keys2)
     (sym (w .well-formed .ensures) ∙ not-false _ (c .before .if1 .left)) (c .if2 .taken)
 
-run-all-requires : tie.Need-run-all-requires
-run-all-requires c κs = search needs
+answer-requests-requires : tie.Need-answer-requests-requires
+answer-requests-requires c κs =
+    let e = c .before .before in
+    let w = e .before .before in
+    let o = w .before .before in
+    let a = o .before .before .before .args in (
+      reached (a .permits) (a .parties) (a .calls .now) (a .out .now) _ (o .open-hub .ensures)
+          (w .before .match .keys2),
+      (omega arith, omega (arith, e .if2 .left)),
+    )
 
 same-length : tie.Need-same-length
 same-length c = search needs
@@ -52,7 +61,7 @@ returns-4 c =
     let a = o .before .before .before .args in
     done (a .permits) (a .parties) _ _ _ (o .open-hub .ensures) (w .before .match .keys2) _
     (sym (w .well-formed .ensures) ∙ not-false _ (e .before .if1 .left)) (e .if2 .left)
-    (c .before .before .run-all .ensures)
+    (c .before .before .answer-requests .ensures .1)
 
 pub run-calls-spec : {M : Type 1} → statement M
 run-calls-spec =
@@ -64,6 +73,6 @@ run-calls-spec =
     well-formed-requires
     returns-2
     returns-3
-    run-all-requires
+    answer-requests-requires
     same-length
     returns-4)

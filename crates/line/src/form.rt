@@ -1,0 +1,44 @@
+// The two forms in which requests come and answers go: text, or bytes.
+
+use crate::answer::Print;
+use crate::answer::put;
+use crate::text::put_line;
+ghost use mathlib.Core.Path.{_≡_};
+ghost use lib.ListN.{length};
+ghost use Rattle.line.specs.Form.{inForm, replySize, requestSize};
+ghost use Rattle.line.specs.Frame.{frameOf, paper};
+
+// A form is a bool and no enum: an enum is passed by its address, and then the compiler does not
+// see that a program uses one form only. A line cost a twelfth more.
+pub const TEXT: bool = true; // a request of three bytes, answered by a line
+
+pub const BYTES: bool = false; // a call of two bytes, answered by seven
+
+pub fn request_size(form: bool) -> usize
+    ensures { λ r. ⌜ r ≡ requestSize form ⌝ }
+{
+    if form {
+        return 3;
+    }
+    2
+}
+
+pub fn reply_size(form: bool) -> usize
+    ensures { λ r. ⌜ r ≡ replySize form ⌝ }
+{
+    if form {
+        return 15;
+    }
+    7
+}
+
+pub fn put_reply(out: &mut [u8], form: bool, party: u8, p: Print)
+    requires { ⌜ length (now out) ≡ replySize form ⌝ }
+    ensures { λ r. ⌜ now (out .exit) ≡ inForm form (frameOf party (paper p)) ⌝ }
+{
+    if form {
+        put_line(out, party, p);
+        return;
+    }
+    put(out, party, p);
+}
