@@ -5,7 +5,6 @@
 mod figures; // a record but for its arrays
 mod door; // what is answered before the table is asked
 mod effect; // what the table decides
-mod room; // refusal 7
 mod tidy; // a test of the tidying
 
 use door::at_door;
@@ -22,8 +21,7 @@ use line::answer::print_of;
 use line::form::put_reply;
 use line::form::reply_size;
 use line::form::request_size;
-use room::is_full;
-use room::near_full;
+use step::room::is_full;
 use table::sight::by_ticket;
 use table::sight::is_done;
 use table::sight::waiter_at;
@@ -91,8 +89,8 @@ pub fn answer_requests(house: Hub, requests: &[u8], count: usize, form: bool, ou
         } else {
             Phase::Free
         };
-        let full = if near_full(code, figures) {
-            is_full(figures, slots)
+        let full = if code == 0x10 {
+            is_full(figures.oldest, figures.issued, slots)
         } else {
             false
         };

@@ -2,7 +2,7 @@
 
 mod sight; // what a call looks at
 pub mod counts; // what a record shows
-mod room; // refusal 7
+pub mod room; // refusal 7
 mod moves; // what a call decides, taken apart
 mod reclaim; // the tidying
 pub mod calls; // the four calls

@@ -7,7 +7,7 @@ ghost use mathlib.Core.Path.{_≡_};
 ghost use Prim.Native.Nat.{_≤_};
 ghost use Rattle.step.specs.Moves.{fullOf};
 
-pub(crate) fn is_full(oldest: u32, issued: u32, slots: [PartySlot; 32]) -> bool
+pub fn is_full(oldest: u32, issued: u32, slots: [PartySlot; 32]) -> bool
     requires { ⌜ (oldest ≤ 1000000) × (issued ≤ 1000000) ⌝ }
     ensures { λ r. ⌜ r ≡ fullOf oldest issued slots ⌝ }
 {

@@ -1,11 +1,10 @@
 -- What a call looks at, from what the code reads.
-use Prim.Native.Nat.{ℕ, _+_, _≤_, _<_}
+use Prim.Native.Nat.{ℕ, _≤_, _<_}
 use mathlib.Core.Path.{_≡_, refl, sym, ap, _∙_}
-use mathlib.Core.Bool.{Bool, true, false, cond, _&&_}
+use mathlib.Core.Bool.{Bool, true, false, cond}
 use mathlib.Core.List.{List}
 use native.Mathlib.Omega.{arith}
-use borrow.Author.Tests.{leb-false, lt-leb}
-use lib.Dec.{eqb, leb}
+use lib.Dec.{eqb}
 use lib.ListN.{length, List·getD-eq-default}
 use Rattle.hub.specs.declared.moves.Op.{Op}
 use Rattle.hub.specs.declared.moves.Sight.{Sight}
@@ -14,13 +13,10 @@ use Rattle.hub.specs.declared.record.Phase.{Phase}
 use Rattle.hub.specs.declared.record.Place.{Place}
 use Rattle.hub.specs.declared.record.Place.the-variants.{Empty, Waiting as WaitedBy, Permit}
 use Rattle.hub.specs.declared.record.Place.the-variants.{Cancelled, Refused, Done}
-use Rattle.hub.specs.Basics.{bit, count}
-use Rattle.hub.specs.Phases.{byWaiter, drawsTicket}
-use Rattle.hub.specs.Record.{readPhase, phasesOf}
+use Rattle.hub.specs.Phases.{byWaiter}
+use Rattle.hub.specs.Record.{readPhase}
 use Rattle.hub.specs.Table.{decide, stepOf}
-use Rattle.hub.proofs.Laws.Lists.{weight-length, weight-map}
 use Rattle.line.specs.Frame.{opOf}
-use Rattle.step.proofs.Laws.Counting.{bit-most}
 
 -- Only an ask can be refused because there is no place.
 pub other-step : (s : Sight) (b : Bool) → stepOf s ≡ decide Op.Step b s
@@ -34,6 +30,19 @@ other-cancel s b = refl
 pub other-release : (s : Sight) (b : Bool) → decide Op.Release false s ≡ decide Op.Release b s
 unfolding decide
 other-release s b = refl
+
+-- To a call that is no ask it does not matter.
+pub not-asked : (c : ℕ) (b : Bool) (s : Sight) → eqb c 16 ≡ false
+    → decide (opOf c) false s ≡ decide (opOf c) b s
+not-asked c b s = go (eqb c 16) (eqb c 17) (eqb c 18)
+  where
+    go : (x y z : Bool) → x ≡ false
+        → let op = cond x Op.Acquire (cond y Op.Step (cond z Op.Cancel Op.Release)) in
+        decide op false s ≡ decide op b s
+    go true y z e = let e : _≡_ {A = ℕ} 0 1 = cc in absurd (omega arith)
+    go false true z e = sym (other-step s false) ∙ other-step s b
+    go false false true e = other-cancel s b
+    go false false false e = other-release s b
 
 module _ (slots : List PartySlot) (size : length slots ≡ 32) where
   beyond : (q : ℕ) → 32 ≤ q → Phase.Free ≡ readPhase slots q
@@ -61,32 +70,3 @@ module _ (slots : List PartySlot) (size : length slots ≡ 32) where
   nobody-waits Cancelled q w e l f = f
   nobody-waits Refused q w e l f = f
   nobody-waits Done q w e l f = f
-
-  few : count drawsTicket (phasesOf slots) ≤ 32
-  few =
-      omega (
-        arith,
-        size,
-        weight-map (λ x. bit (drawsTicket x)) (λ (s : PartySlot). s .phase) slots,
-        weight-length (λ (s : PartySlot). bit (drawsTicket (s .phase)))
-            (λ s. bit-most (drawsTicket (s .phase))) slots,
-      )
-
-  -- An ask that is not near full is not full; to another call it does not matter.
-  pub not-full : (c o i : ℕ) (s : Sight) → eqb c 16 && leb (o + 256) (i + 32) ≡ false
-      → decide (opOf c) false s
-      ≡ decide (opOf c) (leb (o + 256) (i + count drawsTicket (phasesOf slots))) s
-  not-full c o i s =
-      go (eqb c 16) (eqb c 17) (eqb c 18) (leb (o + 256) (i + 32)) refl
-    where
-      go : (a b d x : Bool) → leb (o + 256) (i + 32) ≡ x → a && x ≡ false
-          → let op = cond a Op.Acquire (cond b Op.Step (cond d Op.Cancel Op.Release)) in
-          decide op false s ≡ decide op (leb (o + 256) (i + count drawsTicket (phasesOf slots))) s
-      go true b d true e z = let z : _≡_ {A = ℕ} 0 1 = cc in let y : ⊥ = omega arith in absurd y
-      go true b d false e z =
-          ap (λ (x : Bool). decide Op.Acquire x s)
-          (sym (lt-leb (o + 256) (i + count drawsTicket (phasesOf slots))
-          (omega (arith, few, leb-false (o + 256) (i + 32) e))))
-      go false true d x e z = sym (other-step s false) ∙ other-step s _
-      go false false true x e z = other-cancel s _
-      go false false false x e z = other-release s _

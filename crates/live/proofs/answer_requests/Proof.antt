@@ -1,7 +1,7 @@
 -- `answer_requests` meets its contract: the record made of the locals is that of the requests so
 -- far, and what is written with what is still to come is the whole.
 use borrow.Author.Needs.{needs}
-use borrow.Author.Tests.{not-true, not-false}
+use borrow.Author.Tests.{not-true, not-false, ne-eqb}
 use mathlib.Core.Path.{_≡_, refl, sym, ap, subst, _∙_}
 use mathlib.Core.Bool.{Bool}
 use mathlib.Core.List.{List, map}
@@ -31,7 +31,7 @@ use Rattle.live.specs.Live.{Reached, requestsIn, replied}
 use Rattle.live.proofs.Laws.Answered.{Passed, passed, door-turn, LetIn, let-in}
 use Rattle.live.proofs.Laws.Answered.{call-turn}
 use Rattle.live.proofs.Laws.Hubs.{hubOf, counting}
-use Rattle.live.proofs.Laws.Looked.{waits, nobody-waits, not-full}
+use Rattle.live.proofs.Laws.Looked.{waits, nobody-waits, not-asked}
 use Rattle.step.proofs.Laws.Loops.{Skipping, skipping, can-skip, in-window, skipping-on}
 use Rattle.step.proofs.Laws.Loops.{skipping-stop, skipping-end}
 use Rattle.step.proofs.Laws.Loops.{Retiring, retiring, retiring-on, retiring-stop}
@@ -98,7 +98,7 @@ abbrev head : Entered → Head
 head c = turning c .before
 
 abbrev entered : Joined → Entered
-entered c = c .before .before .before .before .before .before .before .before
+entered c = c .before .before .before .before .before .before .before
 
 abbrev called : Tidying → Called
 called c = c .before .before .before .before .before .before .before .before .before .before
@@ -146,29 +146,29 @@ admitted c = let-in _ _ _ _ _ 0 (head c .loop .inv .0 .reached) (pass c)
 
 -- What the code read for it.
 abbrev number : Joined → ℕ
-number c = c .before .before .before .before .before .before .ticket .result
+number c = c .before .before .before .before .before .ticket .result
 
 abbrev Reading : Joined → Type 0
 Reading c =
     let h = head (entered c) in
     Read (h .loop .figures) (h .loop .places) (h .loop .slots) (party h)
-    (number c) (c .before .before .before .before .by-ticket .result) (c .before .before .if2 .waiter)
+    (number c) (c .before .before .before .by-ticket .result) (c .before .if2 .waiter)
 
 reading : (c : Joined) → Reading c
 unfolding readPhase readPlace
 reading c =
     let l = head (entered c) .loop .slots in
     let size = head (entered c) .loop .inv .1 in
-    let a = c .before .before .before .before .by-ticket .result in
-    let q = c .before .before .before .waiter-at .ensures in
+    let a = c .before .before .before .by-ticket .result in
+    let q = c .before .before .waiter-at .ensures in
     record {
-      ticket = c .before .before .before .before .before .before .ticket .ensures;
-      place = c .before .before .before .before .by-ticket .ensures;
+      ticket = c .before .before .before .before .before .ticket .ensures;
+      place = c .before .before .before .by-ticket .ensures;
       waiter =
           ⊎-elim
           (λ w. waits l size a _ _ q (w .0 .taken) (w .2))
           (λ w. nobody-waits l size a _ _ q (w .0 .left) (w .1))
-          (c .before .before .if2 .came);
+          (c .before .if2 .came);
     }
 
 fullness : (c : Joined) (s : Sight)
@@ -178,8 +178,7 @@ fullness c s =
     let h = head (entered c) in
     ⊎-elim (λ w. ap (λ (b : Bool). decide (opOf (code h)) b s) (w .2 ∙ w .1 .ensures))
     (λ w. ap (λ (b : Bool). decide (opOf (code h)) b s) (w .1)
-    ∙ not-full (h .loop .slots) (h .loop .inv .1) (code h) (h .loop .figures .oldest)
-    (h .loop .figures .issued) s (sym (c .before .near-full .ensures) ∙ w .0 .left))
+    ∙ not-asked (code h) (isFull (hub h)) s (ne-eqb _ _ (w .0 .left)))
     (c .if3 .came)
 
 long-unmapped : (X Y : Type 0) (f : X → Y) (l : List X) (n : ℕ) → length (map f l) ≡ n
@@ -404,15 +403,9 @@ array-copy-out-seen :
     tie.Need-array-copy-out-seen Inv-loop2 μ-loop2 Inv-loop3 μ-loop3 Inv-loop μ-loop
 array-copy-out-seen c = search needs
 
-near-full-requires :
-    tie.Need-near-full-requires Inv-loop2 μ-loop2 Inv-loop3 μ-loop3 Inv-loop μ-loop
-near-full-requires c κs =
-    let a = admitted (c .before .before .before .before .before .before) in
-    (a .counts .oldest, a .counts .issued)
-
 is-full-requires : tie.Need-is-full-requires Inv-loop2 μ-loop2 Inv-loop3 μ-loop3 Inv-loop μ-loop
 is-full-requires c κs =
-    let a = admitted (c .before .before .before .before .before .before .before .before) in
+    let a = admitted (c .before .before .before .before .before .before .before) in
     (a .counts .oldest, a .counts .issued)
 
 called-requires : tie.Need-called-requires Inv-loop2 μ-loop2 Inv-loop3 μ-loop3 Inv-loop μ-loop
@@ -685,7 +678,6 @@ answer-requests-spec =
     cast-seen
     mul-seen
     array-copy-out-seen
-    near-full-requires
     is-full-requires
     called-requires
     sub-put-reply-2
