@@ -80,7 +80,6 @@ mod hub {
     }
 }
 
-#[cfg(tokio)]
 mod peer {
     use super::Turn;
     use std::future::Future;
@@ -162,7 +161,6 @@ fn main() -> ExitCode {
     let turns: usize = turns.parse().expect("TURNS is a number");
     match which.as_str() {
         "hub" => hub::run(turn, waiters, turns),
-        #[cfg(tokio)]
         "tokio" => peer::run(turn, waiters, turns),
         _ => {
             eprintln!("peer: no {which} here");

@@ -1,4 +1,4 @@
-// The four calls on a record in place. One shell takes the hub by reference, hands its fields to a
+// The four calls on a record in place. A shell takes the hub by reference, hands its fields to a
 // function over them, which calls the by-value core, and stores the record that comes back.
 
 use hub::Answer;
@@ -7,7 +7,7 @@ use hub::Op;
 use hub::Outcome;
 use hub::PartySlot;
 use hub::PlaceSlot;
-use step::calls;
+use step::calls::call;
 ghost use mathlib.Core.Path.{_≡_};
 ghost use Rattle.hub.specs.declared.moves.Op.{Op};
 ghost use Rattle.hub.specs.Calls.{called};
@@ -41,16 +41,15 @@ fn call_fields(
         places,
         slots,
     };
-    calls::call(hub, op, party)
+    call(hub, op, party)
 }
 
-// Any of the four calls on the record in place.
-pub fn call(hub: &mut Hub, op: Op, party: u8) -> Answer
-    ensures { λ r. ⌜ (r ≡ called (now (hub .entry)) (record { op = op; party = party }) .answer)
-        × (now (hub .exit) ≡ called (now (hub .entry)) (record { op = op; party = party }) .hub) ⌝ }
+pub fn acquire(hub: &mut Hub, party: u8) -> Answer
+    ensures { λ r. ⌜ (r ≡ called (now (hub .entry)) (record { op = Op.Acquire; party = party }) .answer)
+        × (now (hub .exit) ≡ called (now (hub .entry)) (record { op = Op.Acquire; party = party }) .hub) ⌝ }
 {
     let o = call_fields(
-        op,
+        Op::Acquire,
         party,
         hub.permits,
         hub.parties,
@@ -66,32 +65,67 @@ pub fn call(hub: &mut Hub, op: Op, party: u8) -> Answer
     o.answer
 }
 
-pub fn acquire(hub: &mut Hub, party: u8) -> Answer
-    ensures { λ r. ⌜ (r ≡ called (now (hub .entry)) (record { op = Op.Acquire; party = party }) .answer)
-        × (now (hub .exit) ≡ called (now (hub .entry)) (record { op = Op.Acquire; party = party }) .hub) ⌝ }
-{
-    call(hub, Op::Acquire, party)
-}
-
 pub fn step(hub: &mut Hub, party: u8) -> Answer
     ensures { λ r. ⌜ (r ≡ called (now (hub .entry)) (record { op = Op.Step; party = party }) .answer)
         × (now (hub .exit) ≡ called (now (hub .entry)) (record { op = Op.Step; party = party }) .hub) ⌝ }
 {
-    call(hub, Op::Step, party)
+    let o = call_fields(
+        Op::Step,
+        party,
+        hub.permits,
+        hub.parties,
+        hub.counter,
+        hub.issued,
+        hub.resumed,
+        hub.begun,
+        hub.oldest,
+        hub.places,
+        hub.slots,
+    );
+    *hub = o.hub;
+    o.answer
 }
 
 pub fn cancel(hub: &mut Hub, party: u8) -> Answer
     ensures { λ r. ⌜ (r ≡ called (now (hub .entry)) (record { op = Op.Cancel; party = party }) .answer)
         × (now (hub .exit) ≡ called (now (hub .entry)) (record { op = Op.Cancel; party = party }) .hub) ⌝ }
 {
-    call(hub, Op::Cancel, party)
+    let o = call_fields(
+        Op::Cancel,
+        party,
+        hub.permits,
+        hub.parties,
+        hub.counter,
+        hub.issued,
+        hub.resumed,
+        hub.begun,
+        hub.oldest,
+        hub.places,
+        hub.slots,
+    );
+    *hub = o.hub;
+    o.answer
 }
 
 pub fn release(hub: &mut Hub, party: u8) -> Answer
     ensures { λ r. ⌜ (r ≡ called (now (hub .entry)) (record { op = Op.Release; party = party }) .answer)
         × (now (hub .exit) ≡ called (now (hub .entry)) (record { op = Op.Release; party = party }) .hub) ⌝ }
 {
-    call(hub, Op::Release, party)
+    let o = call_fields(
+        Op::Release,
+        party,
+        hub.permits,
+        hub.parties,
+        hub.counter,
+        hub.issued,
+        hub.resumed,
+        hub.begun,
+        hub.oldest,
+        hub.places,
+        hub.slots,
+    );
+    *hub = o.hub;
+    o.answer
 }
 
 // A call for those who have the record by value: what calls this needs no walk by hand.
@@ -99,6 +133,11 @@ pub fn call_on_board(hub: Hub, op: Op, party: u8) -> Outcome
     ensures { λ r. ⌜ r ≡ called hub (record { op = op; party = party }) ⌝ }
 {
     let mut h = hub;
-    let answer = call(&mut h, op, party);
+    let answer = match op {
+        Op::Acquire => acquire(&mut h, party),
+        Op::Step => step(&mut h, party),
+        Op::Cancel => cancel(&mut h, party),
+        Op::Release => release(&mut h, party),
+    };
     Outcome { answer, hub: h }
 }

@@ -1,4 +1,5 @@
--- "Edges": the paper's marked cases as one table, with one test over all of it.
+-- "Edges": the paper's marked cases as one table, with one test over all of it. Some rows more
+-- are there for what stands beside an edge: 2 before 3, an opening that is accepted.
 use Prim.Native.Nat.{ℕ}
 use mathlib.Core.Path.{_≡_}
 use mathlib.Core.Bool.{Bool, true, false, _&&_}

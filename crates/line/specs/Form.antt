@@ -1,4 +1,5 @@
--- The two forms of requests and answers: the program's are text, those of a list of calls bytes.
+-- The two forms of answers: the program's are lines of text, those of a list of calls bytes. What
+-- was asked has three bytes in the one, two in the other.
 use Prim.Native.Nat.{ℕ}
 use mathlib.Core.Bool.{Bool, true, false}
 use mathlib.Core.List.{List}

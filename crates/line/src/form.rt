@@ -1,4 +1,4 @@
-// The two forms in which requests come and answers go: text, or bytes.
+// The two forms of answers: lines of text to requests of three bytes, or seven bytes to calls of two.
 
 use crate::answer::Print;
 use crate::answer::put;

@@ -14,7 +14,8 @@ use Rattle.line.specs.Form.{Form, requestSize, replySize}
 use Rattle.line.specs.Program.{unopened, repliesIn}
 
 -- The request that some bytes begin with: its code, its first byte and its last. In two bytes
--- these are one, the party: a call needs no more.
+-- these are one, the party of a call. An opening takes three; in two, which nobody sends, its n
+-- would be its K.
 abbrev pub requestAt : Form → List ℕ → Request
 requestAt form l =
     record { code = getD l 0 0; first = getD l 1 0; second = getD l (requestSize form - 1) 0 }

@@ -1,6 +1,6 @@
-// Requests answered one after the other, in text or in bytes. The record's arrays and figures are locals while they
-// are, altered in place. A record that an input can lead to fits, and that is proved: so there is
-// no check of the whole record here.
+// Requests answered one after the other, by lines of text or by bytes. The record's arrays and
+// figures are locals while they are, altered in place. A record that an input can lead to fits, and
+// that is proved: so there is no check of the whole record here.
 
 mod figures; // a record but for its arrays
 mod door; // what is answered before the table is asked

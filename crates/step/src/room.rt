@@ -11,8 +11,9 @@ pub fn is_full(oldest: u32, issued: u32, slots: [PartySlot; 32]) -> bool
     requires { ⌜ (oldest ≤ 1000000) × (issued ≤ 1000000) ⌝ }
     ensures { λ r. ⌜ r ≡ fullOf oldest issued slots ⌝ }
 {
-    // with room for 32 more nobody need be counted
-    if issued + 32 < oldest + Hub::PLACES {
+    // with room for more than all parties nobody need be counted
+    let parties = Hub::PARTIES as u32;
+    if issued + parties < oldest + Hub::PLACES {
         return false;
     }
     // asked and unnumbered

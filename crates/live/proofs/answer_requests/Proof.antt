@@ -176,7 +176,8 @@ fullness : (c : Joined) (s : Sight)
     decide (opOf (code h)) (c .if3 .full) s ≡ decide (opOf (code h)) (isFull (hub h)) s
 fullness c s =
     let h = head (entered c) in
-    ⊎-elim (λ w. ap (λ (b : Bool). decide (opOf (code h)) b s) (w .2 ∙ w .1 .ensures))
+    ⊎-elim {C = decide (opOf (code h)) (c .if3 .full) s ≡ decide (opOf (code h)) (isFull (hub h)) s}
+    (λ w. ap (λ (b : Bool). decide (opOf (code h)) b s) (w .2 ∙ w .1 .ensures))
     (λ w. ap (λ (b : Bool). decide (opOf (code h)) b s) (w .1)
     ∙ not-asked (code h) (isFull (hub h)) s (ne-eqb _ _ (w .0 .left)))
     (c .if3 .came)

@@ -14,6 +14,9 @@ use Rattle.step.proofs.Laws.Counting.{draws-few}
 use Rattle.step.proofs.room.is_full.Statement.{statement}
 use Rattle.step.proofs.room.is_full.Tie as tie
 
+cast-parties : tie.Need-cast-parties
+cast-parties c = search needs
+
 add-if1 : tie.Need-add-if1
 add-if1 c = search needs
 
@@ -45,4 +48,4 @@ returns-2 c =
 pub is-full-spec : {M : Type 1} → statement M
 is-full-spec =
     tie.close
-    (tie.spec add-if1 add-if1-2 returns count-phases-requires add-result add-result-2 returns-2)
+    (tie.spec cast-parties add-if1 add-if1-2 returns count-phases-requires add-result add-result-2 returns-2)
