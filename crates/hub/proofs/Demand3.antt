@@ -6,102 +6,96 @@ use mathlib.Core.List.{List, [], _∷_}
 use native.Mathlib.Omega.{arith}
 use borrow.Author.Tests.{leb-true, eqb-true, lt-ltb}
 use lib.Dec.{leb}
-use lib.IntN.{pos}
-use lib.ListN.{length, getD, replicate, length-map}
+use lib.ListN.{length, getD, replicate}
 use Rattle.hub.specs.declared.answers.Answer.{Answer}
-use Rattle.hub.specs.declared.answers.Refusal.{Refusal}
 use Rattle.hub.specs.declared.moves.Call.{Call}
+use Rattle.hub.specs.declared.opening.Opening.{Opening}
+use Rattle.hub.specs.declared.record.Figures.{Figures}
 use Rattle.hub.specs.declared.record.Hub.{Hub}
-use Rattle.hub.specs.declared.record.Outcome.{Outcome}
 use Rattle.hub.specs.declared.record.Phase.{Phase}
 use Rattle.hub.specs.declared.record.Place.{Place}
 use Rattle.hub.specs.declared.record.PlaceSlot.{PlaceSlot}
 use Rattle.hub.specs.Answers.{printed}
 use Rattle.hub.specs.Basics.{weight, count, upTo32}
-use Rattle.hub.specs.Calls.{called, moveOf, answerOf, apply}
+use Rattle.hub.specs.Calls.{called, moveOf}
 use Rattle.hub.specs.Counts.{countsOf, CountsAddUp}
 use Rattle.hub.specs.Demand3.{Accounts, Calm, Demand3, ReachedFits}
-use Rattle.hub.specs.Fits.{fits, look}
 use Rattle.hub.specs.Ledger.{Ledger, opened, phaseIn, enter, ledger, atCounter}
+use Rattle.hub.specs.Look.{look}
 use Rattle.hub.specs.Opening.{fresh, openingIf, opening}
-use Rattle.hub.specs.Phases.{isOneOf, isPlace, holds, resumes, refuses}
-use Rattle.hub.specs.Queue.{Queue}
+use Rattle.hub.specs.Phases.{isOneOf, isPlaceOf, holds, resumes, refuses}
+use Rattle.hub.specs.Queue.{Queue, phases}
 use Rattle.hub.specs.Queue as queue
-use Rattle.hub.specs.Record.{PLACES, PARTIES, readPlace, phasesOf, placesOf}
+use Rattle.hub.specs.Record.{PARTIES, emptySeat, phasesOf, placesOf}
 use Rattle.hub.specs.Refinement.{Window, Shows, isSeven, heard, withoutSevens, Refines}
+use Rattle.hub.specs.Ring.{PLACES, readSeat}
 use Rattle.hub.specs.Schedule.{run, answers, entries}
 use Rattle.hub.proofs.Laws.Bools.{first, second, if-true}
 use Rattle.hub.proofs.Laws.Lists.{weight-replicate, weight-map}
-use Rattle.hub.proofs.Laws.Places.{next-round}
 use Rattle.hub.proofs.Laws.Ranges.{sumFrom, sum-zero, sum-same, sum-split, sum-rotate}
 use Rattle.hub.proofs.Laws.Ranges.{sum-list}
-use Rattle.hub.proofs.Invariant.Weights.{up, pick, one, count-pick, holding, resuming}
-use Rattle.hub.proofs.Invariant.Weights.{refusing, drawing, permitCell, refusedCell, sum}
-use Rattle.hub.proofs.Invariant.Weights.{cellSum, TICKETS}
-use Rattle.hub.proofs.Invariant.Keep.{Inv}
-use Rattle.hub.proofs.Invariant.Rows.{near}
+use Rattle.hub.proofs.Laws.Seats.{next-round}
+use Rattle.hub.proofs.Invariant.Weights.{up, pick, count-pick, holding, resuming, refusing}
+use Rattle.hub.proofs.Invariant.Weights.{drawing, permitCell, refusedCell, sum, total, TICKETS}
+use Rattle.hub.proofs.Invariant.Tickets.{near}
+use Rattle.hub.proofs.Invariant.Keep.{permits}
 use Rattle.hub.proofs.Invariant.Walk.{all-more}
+use Rattle.hub.proofs.Invariant.Rest.{standing}
 use Rattle.hub.proofs.Invariant.Schedules.{Agrees, entered, next-good}
 use Rattle.hub.proofs.Invariant.Schedules.{fresh-inv, fresh-agrees}
-use Rattle.hub.proofs.Invariant.Rest.{held-most, way-whole, standing, all-held}
+use Rattle.hub.proofs.Invariant.Held.{held-most, way-whole, all-held}
 use Rattle.hub.proofs.Window.Shown.{Reached, low}
 use Rattle.hub.proofs.Window.Reached.{reached-fits}
 use Rattle.hub.proofs.Window.Followed.{Follows, follows}
 
 -- An opening that is accepted is within bounds, and its record is fresh.
-pub record Opened (k n : ℕ) : Type 0 where
-  pub permits : (1 ≤ k) × (k ≤ 32)
-  pub parties : (1 ≤ n) × (n ≤ 32)
-  pub hub : opening k n .hub ≡ fresh k n
+pub record InRange (o : Opening) : Type 0 where
+  pub permits : (1 ≤ o .permits) × (o .permits ≤ 32)
+  pub parties : (1 ≤ o .parties) × (o .parties ≤ 32)
+  pub hub : opening o .hub ≡ fresh o
 
-accepted : (k n : ℕ) → opening k n .answer ≡ Answer.Opened → Opened k n
+pub in-range : (o : Opening) → opening o .answer ≡ Answer.Opened → InRange o
 unfolding openingIf
-accepted k n = go (upTo32 k) (upTo32 n) refl refl
+in-range o = go (upTo32 (o .permits)) (upTo32 (o .parties)) refl refl
   where
     range : (x : ℕ) → upTo32 x ≡ true → (1 ≤ x) × (x ≤ 32)
     range x e = (leb-true 1 x (first (leb 1 x) _ e), leb-true x 32 (second (leb 1 x) _ e))
 
-    go : (a b : Bool) → upTo32 k ≡ a → upTo32 n ≡ b
-        → openingIf a b k n .answer ≡ Answer.Opened → Opened k n
+    go : (a b : Bool) → upTo32 (o .permits) ≡ a → upTo32 (o .parties) ≡ b
+        → openingIf a b o .answer ≡ Answer.Opened → InRange o
     go false b x y e = let z : _≡_ {A = ℕ} 0 1 = cc in let w : ⊥ = omega arith in absurd w
     go true false x y e = let z : _≡_ {A = ℕ} 0 1 = cc in let w : ⊥ = omega arith in absurd w
     go true true x y e =
         record {
-          permits = range k x;
-          parties = range n y;
-          hub = ap₂ (λ (a b : Bool). openingIf a b k n .hub) x y;
+          permits = range (o .permits) x;
+          parties = range (o .parties) y;
+          hub = ap₂ (λ (a b : Bool). openingIf a b o .hub) x y;
         }
 
 -- A fresh record shows a fresh queue.
-fresh-reached : (k n : ℕ) → 1 ≤ n → n ≤ PARTIES → Reached k (fresh k n) (queue.fresh k n)
-unfolding fresh queue.fresh readPlace pick isOneOf
-fresh-reached k n a b =
+fresh-reached : (o : Opening) → 1 ≤ o .parties → o .parties ≤ PARTIES
+    → Reached (o .permits) (fresh o) (queue.fresh o)
+unfolding fresh queue.fresh readSeat pick isOneOf
+fresh-reached o a b =
     record {
       permits = refl;
       size = refl;
-      inv = fresh-inv k n a b;
+      inv = fresh-inv o a b;
       room = omega (arith, weight-replicate drawing Phase.Free refl PARTIES);
       shows =
           record {
-            parties = refl;
-            counter = refl;
-            issued = refl;
-            resumed = refl;
-            begun = refl;
-            phases = refl;
+            figures = refl;
+            slots = refl;
             window =
                 record {
                   before = λ t i. (let z : ⊥ = omega arith in absurd z);
-                  within = λ t i j. ap (λ (s : PlaceSlot). s .place) (sym (bare PLACES (t % PLACES)));
+                  within = λ t i j. sym (bare PLACES (t % PLACES));
                   beyond = λ t i. refl;
                 };
           };
     }
   where
-    empty : PlaceSlot
-    empty = record { place = Place.Empty }
-
-    bare : (n i : ℕ) → getD (replicate n empty) i empty ≡ empty
+    bare : (n i : ℕ) → getD (replicate n emptySeat) i emptySeat ≡ emptySeat
     bare zero i = refl
     bare (suc n) zero = refl
     bare (suc n) (suc i) = bare n i
@@ -156,31 +150,33 @@ module _ (k : ℕ) (k₁ : 1 ≤ k) (k₂ : k ≤ 32) where
   every-call h e (c ∷ cs) x = every-call (called h c .hub) _ cs (one-call h e c x)
 
 -- A count of cells that are neither empty nor done is the count over the places.
-ring-sum : (o : ℕ) (l : List PlaceSlot) (g : ℕ → Place) → Window o l g → length l ≡ PLACES
+ring-sum : (o : ℕ) (l : List PlaceSlot) (g : ℕ → PlaceSlot) → Window o l g → length l ≡ PLACES
     → o + PLACES ≤ TICKETS → (w : Place → ℕ) → w Place.Empty ≡ 0 → w Place.Done ≡ 0
-    → sumFrom (λ t. w (g t)) 0 TICKETS ≡ weight w (placesOf l)
-unfolding readPlace
+    → total w (λ t. g t .place) ≡ weight w (placesOf l)
+unfolding readSeat
 ring-sum o l g v s b w x y =
     omega (
       arith,
       sum-split f 0 o (PLACES + rest) TICKETS (omega arith),
       sum-split f (0 + o) PLACES rest (PLACES + rest) refl,
       sum-zero f 0 o (λ t i j. ap w (v .before t (omega arith)) ∙ y),
-      sum-zero f (0 + o + PLACES) rest (λ t i j. ap w (v .beyond t (omega arith)) ∙ x),
-      sum-same f z (0 + o) PLACES (λ t i j. ap w (v .within t (omega arith) (omega arith))),
-      sum-rotate z PLACES (λ t. ap w (next-round l t)) (0 + o),
-      subst (λ (n : ℕ). sumFrom z 0 n ≡ weight (λ (q : PlaceSlot). w (q .place)) l) s
-          (sum-list (λ (q : PlaceSlot). w (q .place)) (record { place = Place.Empty }) l 0 z
-          (λ j i. ap (λ (n : ℕ). w ((getD l n (record { place = Place.Empty })) .place))
-          (small j (subst (λ (n : ℕ). j < n) s i)))),
+      sum-zero f (0 + o + PLACES) rest (λ t i j. ap at (v .beyond t (omega arith)) ∙ x),
+      sum-same f z (0 + o) PLACES (λ t i j. ap at (v .within t (omega arith) (omega arith))),
+      sum-rotate z PLACES (λ t. ap at (next-round l t)) (0 + o),
+      subst (λ (n : ℕ). sumFrom z 0 n ≡ weight at l) s
+          (sum-list at emptySeat l 0 z
+          (λ j i. ap (λ (n : ℕ). at (getD l n emptySeat)) (small j (subst (λ (n : ℕ). j < n) s i)))),
       weight-map w (λ (q : PlaceSlot). q .place) l,
     )
   where
+    at : PlaceSlot → ℕ
+    at q = w (q .place)
+
     f : ℕ → ℕ
-    f t = w (g t)
+    f t = w (g t .place)
 
     z : ℕ → ℕ
-    z t = w (readPlace l t)
+    z t = w (readSeat l t .place)
 
     rest : ℕ
     rest = TICKETS - (o + PLACES)
@@ -191,17 +187,17 @@ ring-sum o l g v s b w x y =
 -- What the account of a schedule comes to.
 accounts : (k : ℕ) (h : Hub) (m : Queue) (e : Ledger) → Reached k h m → Agrees e m
     → Accounts k e h
-unfolding isPlace
+unfolding isPlaceOf
 accounts k h m e r a =
-    let near-end : h .oldest + PLACES ≤ TICKETS = omega (arith, low k h m r, near k m (r .inv)) in
+    let near-end : h .oldest + PLACES ≤ TICKETS = omega (arith, low k h m r, near (r .inv .tickets)) in
     let bring : count (isOneOf (Phase.Resuming ∷ Phase.ResumingAt 0 ∷ [])) (e .phases)
     ≡ sum resuming m =
-    count-pick _ (e .phases) ∙ ap (weight resuming) (a .phases) in
+    count-pick _ (e .phases) ∙ ap (weight resuming) (a .replayed) in
     let decline : count (isOneOf (Phase.Refusing 0 ∷ [])) (e .phases) ≡ sum refusing m =
-    count-pick _ (e .phases) ∙ ap (weight refusing) (a .phases) in
+    count-pick _ (e .phases) ∙ ap (weight refusing) (a .replayed) in
     let hold : count (isOneOf (Phase.Holding ∷ Phase.Releasing ∷ [])) (e .phases)
     ≡ sum holding m =
-    count-pick _ (e .phases) ∙ ap (weight holding) (a .phases) in
+    count-pick _ (e .phases) ∙ ap (weight holding) (a .replayed) in
     let whole = way-whole k m (r .inv) in
     record {
       sum =
@@ -210,7 +206,7 @@ accounts k h m e r a =
             a .held,
             a .permits,
             a .refusals,
-            r .inv .permits,
+            permits k m (r .inv),
             bring,
             decline,
             ap up (a .counter),
@@ -220,8 +216,8 @@ accounts k h m e r a =
       permitsWhole = omega (arith, a .permits);
       refusedWhole = omega (arith, a .refusals);
       wayWhole = omega (arith, a .permits, a .refusals, bring, decline, whole);
-      phases = r .shows .phases ∙ sym (a .phases);
-      counter = r .shows .counter ∙ sym (a .counter);
+      phases = ap phasesOf (r .shows .slots) ∙ sym (a .replayed);
+      counter = ap (λ (f : Figures). f .counter) (r .shows .figures) ∙ sym (a .counter);
       permits =
           omega (
             arith,
@@ -239,44 +235,44 @@ accounts k h m e r a =
       holders = omega (arith, a .held, hold);
       most = omega (arith, a .held, held-most k m (r .inv));
       calm = λ q p t i.
-          let rest : Calm (m .phases) = subst Calm (a .phases) q in
-          let z : phaseIn (m .phases) p ≡ Phase.Waiting t =
-          ap (λ (l : List Phase). phaseIn l p) (sym (a .phases)) ∙ i in (
+          let rest : Calm (phases m) = subst Calm (a .replayed) q in
+          let z : phaseIn (phases m) p ≡ Phase.Waiting t =
+          ap (λ (l : List Phase). phaseIn l p) (sym (a .replayed)) ∙ i in (
             omega (arith, a .held, all-held k m (r .inv) rest p t z),
-            all-more (m .resumed) t (standing k m (r .inv) rest p t z) (e .served) (a .served),
+            all-more (m .figures .resumed) t (standing (r .inv .tickets) rest p t z) (e .served) (a .served),
           );
     }
 
 -- From an accepted opening.
-module _ (k n : ℕ) (o : opening k n .answer ≡ Answer.Opened) where
-  start : Opened k n
-  start = accepted k n o
+module _ (o : Opening) (e : opening o .answer ≡ Answer.Opened) where
+  start : InRange o
+  start = in-range o e
 
-  first-reached : Reached k (opening k n .hub) (queue.fresh k n)
+  first-reached : Reached (o .permits) (opening o .hub) (queue.fresh o)
   first-reached =
-      subst (λ (h : Hub). Reached k h (queue.fresh k n)) (sym (start .hub))
-      (fresh-reached k n (start .parties .0) (start .parties .1))
+      subst (λ (h : Hub). Reached (o .permits) h (queue.fresh o)) (sym (start .hub))
+      (fresh-reached o (start .parties .0) (start .parties .1))
 
   schedule : (cs : List Call)
-      → Account k (start .permits .0) (start .permits .1) (run (opening k n .hub) cs)
-      (ledger (opened k) (entries (opening k n .hub) cs))
+      → Account (o .permits) (start .permits .0) (start .permits .1) (run (opening o .hub) cs)
+      (ledger (opened o) (entries (opening o .hub) cs))
   schedule cs =
-      every-call k (start .permits .0) (start .permits .1) (opening k n .hub) (opened k) cs
+      every-call (o .permits) (start .permits .0) (start .permits .1) (opening o .hub) (opened o) cs
       (record
-      { queue = queue.fresh k n; reached = first-reached; agrees = fresh-agrees k n })
+      { queue = queue.fresh o; reached = first-reached; agrees = fresh-agrees o })
 
 pub demand3 : Demand3
 unfolding Demand3
-demand3 k n o cs =
-    let x = schedule k n o cs in
-    accounts k _ (x .queue) _ (x .reached) (x .agrees)
+demand3 o e cs =
+    let x = schedule o e cs in
+    accounts (o .permits) _ (x .queue) _ (x .reached) (x .agrees)
 
 pub every-record-fits : ReachedFits
 unfolding ReachedFits
-every-record-fits k n o cs =
-    let x = schedule k n o cs in
-    let s = start k n o in
-    reached-fits k _ (x .queue) (x .reached) (s .permits .0) (s .permits .1)
+every-record-fits o e cs =
+    let x = schedule o e cs in
+    let s = start o e in
+    reached-fits (o .permits) _ (x .queue) (x .reached) (s .permits .0) (s .permits .1)
 
 -- The queue on the calls that were heard gives the other answers, and the record shows it.
 module _ (k : ℕ) (k₁ : 1 ≤ k) (k₂ : k ≤ 32) where
@@ -313,18 +309,18 @@ module _ (k : ℕ) (k₁ : 1 ≤ k) (k₂ : k ≤ 32) where
 
 pub refines : Refines
 unfolding Refines
-refines k n o cs =
-    let s = start k n o in
-    refined k (s .permits .0) (s .permits .1) (opening k n .hub) (queue.fresh k n) cs
-    (first-reached k n o)
+refines o e cs =
+    let s = start o e in
+    refined (o .permits) (s .permits .0) (s .permits .1) (opening o .hub) (queue.fresh o) cs
+    (first-reached o e)
 
 -- What the record shows is what the ledger says.
 pub counts-add-up : CountsAddUp
 unfolding CountsAddUp countsOf Demand3
-counts-add-up k n o cs =
-    let d = demand3 k n o cs in
-    let h = run (opening k n .hub) cs in
-    let e = ledger (opened k) (entries (opening k n .hub) cs) in
+counts-add-up o i cs =
+    let d = demand3 o i cs in
+    let h = run (opening o .hub) cs in
+    let e = ledger (opened o) (entries (opening o .hub) cs) in
     let hold : count holds (phasesOf (h .slots)) ≡ count holds (e .phases) =
     ap (count holds) (d .phases) in
     let bring : count resumes (phasesOf (h .slots)) ≡ count resumes (e .phases) =

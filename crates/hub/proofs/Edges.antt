@@ -1,19 +1,25 @@
 -- The paper's edges hold: the table's test computes to true.
 use mathlib.Core.Path.{refl}
-use Rattle.hub.specs.Basics.{weight, allFrom}
+use Rattle.hub.specs.Basics.{weight, allFrom, allOf}
 use Rattle.hub.specs.Kinds.{kindOf}
-use Rattle.hub.specs.Record.{readPhase, writePhase, readPlace, writePlace}
-use Rattle.hub.specs.Phases.{isOneOf, isPlace}
-use Rattle.hub.specs.Table.{step, acquire, cancel, release, decide}
-use Rattle.hub.specs.Reclaim.{skip, retire, reclaimed}
-use Rattle.hub.specs.Fits.{look, counterFits, countsFit, ticketFits, partyFits, placeFits, fits}
+use Rattle.hub.specs.Record.{readSlot, writeSlot}
+use Rattle.hub.specs.Ring.{readSeat, writeSeat, skip, retire}
+use Rattle.hub.specs.Phases.{isOneOf, isPlaceOf}
+use Rattle.hub.specs.Look.{seenBy}
+use Rattle.hub.specs.Table.{acquire, cancel, release, decide, stepIn, stepAcquiring}
+use Rattle.hub.specs.Table.{stepSuspending, stepTicketed, stepReleasing, stepResuming}
+use Rattle.hub.specs.Table.{resumeWaiter, stepResumingAt, stepAborting, stepCancelling}
+use Rattle.hub.specs.Table.{stepRefusing}
+use Rattle.hub.specs.Fits.{counterFits, figuresFit, inWindow, ticketFits, placeListed}
+use Rattle.hub.specs.Fits.{partyFits, placeFits, fits}
 use Rattle.hub.specs.Opening.{fresh, openingIf}
-use Rattle.hub.specs.Calls.{checked, apply}
+use Rattle.hub.specs.Calls.{checked, apply, tidied}
 use Rattle.hub.specs.Edges.{EdgesHold, edges, goes, holdsAt, allHold}
 
 pub edges-hold : EdgesHold
-unfolding EdgesHold edges goes holdsAt allHold checked apply fresh openingIf
-    look counterFits countsFit ticketFits partyFits placeFits fits skip retire reclaimed
-    step acquire cancel release decide isOneOf isPlace readPhase writePhase readPlace writePlace
-    kindOf weight allFrom
+unfolding EdgesHold edges goes holdsAt allHold checked apply tidied fresh openingIf
+    seenBy counterFits figuresFit inWindow ticketFits placeListed partyFits placeFits fits skip retire
+    acquire cancel release decide stepIn stepAcquiring stepSuspending stepTicketed stepReleasing
+    stepResuming resumeWaiter stepResumingAt stepAborting stepCancelling stepRefusing
+    isOneOf isPlaceOf readSlot writeSlot readSeat writeSeat kindOf weight allFrom allOf
 edges-hold = refl

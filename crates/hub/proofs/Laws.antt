@@ -1,9 +1,10 @@
 -- Laws of the definitions, by which callers know them.
 pub mod Bools
-pub mod Tags
+pub mod Phases
 pub mod Lists
 pub mod Ranges
 pub mod Slots
-pub mod Places
-pub mod Reclaim
+pub mod Seats
+pub mod Ring
 pub mod Opening
+pub mod Table

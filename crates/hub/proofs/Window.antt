@@ -1,4 +1,5 @@
 -- Why the hub answers as the unbounded queue does, and why every record that it reaches fits.
+pub mod Ring
 pub mod Shown
 pub mod Moved
 pub mod Reached

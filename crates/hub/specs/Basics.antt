@@ -23,6 +23,16 @@ unfoldable pub allFrom : (ℕ → Bool) → ℕ → ℕ → Bool
 allFrom f i zero = true
 allFrom f i (suc n) = f i && allFrom f (suc i) n
 
+-- Where the first holds, so does the second.
+abbrev pub implies : Bool → Bool → Bool
+implies true b = b
+implies false b = true
+
+-- Are all tests of a list passed?
+unfoldable pub allOf : List Bool → Bool
+allOf [] = true
+allOf (b ∷ bs) = b && allOf bs
+
 -- Is x in a list?
 abbrev pub among : List ℕ → ℕ → Bool
 among [] x = false

@@ -8,22 +8,24 @@ use Rattle.hub.specs.declared.answers.Refusal.{Refusal}
 use Rattle.hub.specs.declared.moves.Call.{Call}
 use Rattle.hub.specs.declared.moves.Change.{Change}
 use Rattle.hub.specs.declared.moves.Move.{Move}
-use Rattle.hub.specs.declared.moves.Move.the-variants.{Refuse, Act, Wake}
+use Rattle.hub.specs.declared.moves.Move.the-variants.{Refuse, Act, Put, Wake}
 use Rattle.hub.specs.declared.moves.Sight.{Sight}
 use Rattle.hub.specs.declared.record.Hub.{Hub}
 use Rattle.hub.specs.declared.record.Outcome.{Outcome}
 use Rattle.hub.specs.declared.record.PartySlot.{PartySlot}
 use Rattle.hub.specs.declared.record.Phase.{Phase}
+use Rattle.hub.specs.declared.record.PlaceSlot.{PlaceSlot}
 use Rattle.hub.specs.Basics.{count}
-use Rattle.hub.specs.Record.{PLACES, writePhase, writePlace, phasesOf}
+use Rattle.hub.specs.Fits.{fits}
+use Rattle.hub.specs.Look.{look}
 use Rattle.hub.specs.Phases.{byTicket, drawsTicket}
-use Rattle.hub.specs.Table.{decide}
-use Rattle.hub.specs.Reclaim.{reclaimed}
-use Rattle.hub.specs.Fits.{fits, look}
+use Rattle.hub.specs.Record.{phasesOf, writeSlot}
+use Rattle.hub.specs.Ring.{PLACES, Ring, reclaimed, writeSeat}
+use Rattle.hub.specs.Table.{decide, withResumed}
 
--- 7: the tickets issued, and those that may yet be drawn, fill the 256 places.
-abbrev pub isFull : Hub → Bool
-isFull h = leb (h .oldest + PLACES) (h .issued + count drawsTicket (phasesOf (h .slots)))
+-- 7: the tickets issued, i of them, and those that may yet be drawn, fill the 256 places from o on.
+abbrev pub isFull : ℕ → ℕ → List PartySlot → Bool
+isFull o i l = leb (o + PLACES) (i + count drawsTicket (phasesOf l))
 
 -- 1, then 4, then the call's own.
 unfoldable pub checked : Bool → Bool → Move → Move
@@ -33,35 +35,69 @@ checked true true m = m
 
 abbrev pub moveOf : Hub → Call → Move
 moveOf h c =
-    checked (fits h) (ltb (c .party) (h .parties))
-    (decide (c .op) (isFull h) (look h (c .party)))
+    checked (fits h) (ltb (c .party) (h .figures .parties))
+    (decide (c .op) (isFull (h .oldest) (h .figures .issued) (h .slots)) (look h (c .party)))
 
--- The party that was seen makes its change; l are the slots, any woken party's set.
-abbrev pub changed : Hub → List PartySlot → Sight → Change → Hub
-changed h l s c =
+-- The slot of party p and the figures change.
+abbrev pub acted : Hub → ℕ → Change → Hub
+acted h p c =
     record {
-      permits = h .permits;
-      parties = h .parties;
-      counter = c .counter;
-      issued = c .issued;
-      resumed = c .resumed;
-      begun = c .begun;
+      figures = c .figures;
       oldest = h .oldest;
-      places = byTicket (h .places) (λ t. writePlace (h .places) t (c .place)) (s .phase);
-      slots = writePhase l (s .party) (c .phase);
+      places = h .places;
+      slots = writeSlot (h .slots) p (c .slot);
     }
+
+-- The place of the ticket of a phase f becomes a.
+abbrev pub placed : Hub → Phase → PlaceSlot → Hub
+placed h f a =
+    record {
+      figures = h .figures;
+      oldest = h .oldest;
+      places = byTicket (h .places) (λ t. writeSeat (h .places) t a) f;
+      slots = h .slots;
+    }
+
+-- The slot of the waiter q becomes s.
+abbrev pub woken : Hub → ℕ → PartySlot → Hub
+woken h q s =
+    record {
+      figures = h .figures;
+      oldest = h .oldest;
+      places = h .places;
+      slots = writeSlot (h .slots) q s;
+    }
+
+-- The tidying.
+abbrev pub ringOf : Hub → Ring
+ringOf h = record { resumed = h .figures .resumed; oldest = h .oldest; places = h .places }
+
+abbrev pub withRing : Hub → Ring → Hub
+withRing h r =
+    record {
+      figures = withResumed (r .resumed) (h .figures);
+      oldest = r .oldest;
+      places = r .places;
+      slots = h .slots;
+    }
+
+unfoldable pub tidied : Hub → Hub
+tidied h = withRing h (reclaimed (ringOf h))
 
 -- What a move answers.
 abbrev pub answerOf : Move → Answer
 answerOf (Refuse r) = Answer.Refused r
 answerOf (Act c) = c .answer
-answerOf (Wake q c) = c .answer
+answerOf (Put a c) = c .answer
+answerOf (Wake q s a c) = c .answer
 
 -- The record that it leaves. A refusal leaves it as it was; all else ends with the tidying.
 unfoldable pub apply : Hub → Sight → Move → Hub
 apply h s (Refuse r) = h
-apply h s (Act c) = reclaimed (changed h (h .slots) s c)
-apply h s (Wake q c) = reclaimed (changed h (writePhase (h .slots) q Phase.Holding) s c)
+apply h s (Act c) = tidied (acted h (s .party) c)
+apply h s (Put a c) = tidied (acted (placed h (s .slot .phase) a) (s .party) c)
+apply h s (Wake q x a c) =
+    tidied (acted (placed (woken h q x) (s .slot .phase) a) (s .party) c)
 
 -- What a call answers, and the record that it leaves.
 abbrev pub called : Hub → Call → Outcome

@@ -5,6 +5,7 @@ use mathlib.Core.List.{List}
 use Rattle.hub.specs.declared.answers.Answer.{Answer}
 use Rattle.hub.specs.declared.counts.Counts.{Counts}
 use Rattle.hub.specs.declared.moves.Call.{Call}
+use Rattle.hub.specs.declared.opening.Opening.{Opening}
 use Rattle.hub.specs.declared.record.Hub.{Hub}
 use Rattle.hub.specs.Basics.{count}
 use Rattle.hub.specs.Ledger.{atCounter}
@@ -21,7 +22,7 @@ countsOf h =
     let declined = count refuses phases + count isRefused places in
     record {
       held = count holds phases;
-      available = atCounter (h .counter);
+      available = atCounter (h .figures .counter);
       coming = coming;
       declined = declined;
       onway = coming - declined;
@@ -31,6 +32,6 @@ countsOf h =
 -- On every schedule from an accepted opening they add up to K, and nothing is cut off.
 unfoldable pub CountsAddUp : Type 0
 CountsAddUp =
-    (k n : ℕ) → opening k n .answer ≡ Answer.Opened → (cs : List Call)
-    → let c = countsOf (run (opening k n .hub) cs) in
-    (c .held + c .available + c .onway ≡ k) × (c .onway + c .declined ≡ c .coming)
+    (o : Opening) → opening o .answer ≡ Answer.Opened → (cs : List Call)
+    → let c = countsOf (run (opening o .hub) cs) in
+    (c .held + c .available + c .onway ≡ o .permits) × (c .onway + c .declined ≡ c .coming)

@@ -5,6 +5,7 @@ use mathlib.Core.Bool.{Bool, true}
 use mathlib.Core.List.{List, [], _∷_}
 use Rattle.hub.specs.declared.answers.Answer.{Answer}
 use Rattle.hub.specs.declared.moves.Call.{Call}
+use Rattle.hub.specs.declared.opening.Opening.{Opening}
 use Rattle.hub.specs.declared.record.Hub.{Hub}
 use Rattle.hub.specs.declared.record.Phase.{Phase}
 use Rattle.hub.specs.Basics.{count}
@@ -36,7 +37,7 @@ pub record Accounts (k : ℕ) (e : Ledger) (h : Hub) : Type 0 where
   pub wayWhole : takenBack e ≤ coming e
   -- The record shows the same: its phases, its counter, its link and refused places.
   pub phases : phasesOf (h .slots) ≡ e .phases
-  pub counter : h .counter ≡ e .counter
+  pub counter : h .figures .counter ≡ e .counter
   pub permits : count isPermit (placesOf (h .places)) ≡ permitPlaces e
   pub refusals : count isRefused (placesOf (h .places)) ≡ refusedPlaces e
   -- The parties that hold are as many as the permits held, and at most K.
@@ -50,11 +51,12 @@ pub record Accounts (k : ℕ) (e : Ledger) (h : Hub) : Type 0 where
 -- For every opening that is accepted and every list of calls.
 unfoldable pub Demand3 : Type 0
 Demand3 =
-    (k n : ℕ) → opening k n .answer ≡ Answer.Opened → (cs : List Call)
-    → Accounts k (ledger (opened k) (entries (opening k n .hub) cs)) (run (opening k n .hub) cs)
+    (o : Opening) → opening o .answer ≡ Answer.Opened → (cs : List Call)
+    → let h = opening o .hub in
+    Accounts (o .permits) (ledger (opened o) (entries h cs)) (run h cs)
 
 -- And every record reached fits, so that no schedule meets refusal 1.
 unfoldable pub ReachedFits : Type 0
 ReachedFits =
-    (k n : ℕ) → opening k n .answer ≡ Answer.Opened → (cs : List Call)
-    → fits (run (opening k n .hub) cs) ≡ true
+    (o : Opening) → opening o .answer ≡ Answer.Opened → (cs : List Call)
+    → fits (run (opening o .hub) cs) ≡ true

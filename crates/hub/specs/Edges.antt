@@ -9,6 +9,7 @@ use lib.IntN.{ℤ, pos, negsuc}
 use Rattle.hub.specs.declared.moves.Call.{Call}
 use Rattle.hub.specs.declared.moves.Op.{Op}
 use Rattle.hub.specs.declared.moves.Op.the-variants.{Acquire, Step, Cancel, Release}
+use Rattle.hub.specs.declared.opening.Opening.{Opening}
 use Rattle.hub.specs.declared.record.Hub.{Hub}
 use Rattle.hub.specs.Answers.{Printed, printed, plain, withNumber}
 use Rattle.hub.specs.Calls.{called}
@@ -26,11 +27,15 @@ pub record Row : Type 0 where
 abbrev pub at : ℤ → Op → ℕ → Printed → Row
 at z o p r = record { counter = z; call = record { op = o; party = p }; answer = r }
 
+-- K and n.
+abbrev pub sized : ℕ → ℕ → Opening
+sized k n = record { permits = k; parties = n }
+
 pub data Edge : Type 0 where
-  -- An opening with K and n, and its code.
-  opens : ℕ → ℕ → ℕ → Edge
-  -- K, n and a run; at its end the holders, those waiting and the counter.
-  runs : ℕ → ℕ → List Row → ℕ → ℕ → ℤ → Edge
+  -- An opening, and its code.
+  opens : Opening → ℕ → Edge
+  -- An opening and a run; at its end the holders, those waiting and the counter.
+  runs : Opening → List Row → ℕ → ℕ → ℤ → Edge
 
 -- The run of "Frames", without its opening. Asked at 1 and at 0, giving back at −1 and giving up
 -- at 0 are in it.
@@ -88,17 +93,17 @@ bounded =
 
 unfoldable pub edges : List Edge
 edges =
-    opens 0 3 0x02
-    ∷ opens 0 0 0x02
-    ∷ opens 33 3 0x02
-    ∷ opens 32 32 0x1F
-    ∷ opens 1 0 0x03
-    ∷ opens 1 3 0x1F
-    ∷ runs 1 3 frames 0 0 (pos 1)
-    ∷ runs 1 3 returned 0 0 (pos 1)
-    ∷ runs 1 3 withdrawn 1 0 (pos 0)
-    ∷ runs 1 3 bounded 1 0 (pos 0)
-    ∷ runs 32 32 (at (pos 32) Acquire 32 (plain 0x04) ∷ at (pos 32) Acquire 31 (plain 0x20) ∷ []) 0 0
+    opens (sized 0 3) 0x02
+    ∷ opens (sized 0 0) 0x02
+    ∷ opens (sized 33 3) 0x02
+    ∷ opens (sized 32 32) 0x1F
+    ∷ opens (sized 1 0) 0x03
+    ∷ opens (sized 1 3) 0x1F
+    ∷ runs (sized 1 3) frames 0 0 (pos 1)
+    ∷ runs (sized 1 3) returned 0 0 (pos 1)
+    ∷ runs (sized 1 3) withdrawn 1 0 (pos 0)
+    ∷ runs (sized 1 3) bounded 1 0 (pos 0)
+    ∷ runs (sized 32 32) (at (pos 32) Acquire 32 (plain 0x04) ∷ at (pos 32) Acquire 31 (plain 0x20) ∷ []) 0 0
     (pos 32)
     ∷ []
 
@@ -116,15 +121,15 @@ sameAnswer a b = eqb (a .code) (b .code) && eqb (a .woken) (b .woken) && eqb (a 
 unfoldable pub goes : ℕ → ℕ → ℤ → Hub → List Row → Bool
 goes a b z h [] =
     eqb (count holds (phasesOf (h .slots))) a && eqb (count isWaiting (phasesOf (h .slots))) b
-    && sameℤ (h .counter) z
+    && sameℤ (h .figures .counter) z
 goes a b z h (r ∷ rs) =
     let o = called h (r .call) in
-    sameℤ (h .counter) (r .counter) && sameAnswer (printed (o .answer)) (r .answer)
+    sameℤ (h .figures .counter) (r .counter) && sameAnswer (printed (o .answer)) (r .answer)
     && goes a b z (o .hub) rs
 
 unfoldable pub holdsAt : Edge → Bool
-holdsAt (opens k n c) = eqb (printed (opening k n .answer) .code) c
-holdsAt (runs k n rs a b z) = goes a b z (opening k n .hub) rs
+holdsAt (opens o c) = eqb (printed (opening o .answer) .code) c
+holdsAt (runs o rs a b z) = goes a b z (opening o .hub) rs
 
 unfoldable pub allHold : List Edge → Bool
 allHold [] = true

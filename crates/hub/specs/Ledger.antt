@@ -6,6 +6,7 @@ use lib.Dec.{ltb, eqb}
 use lib.IntN.{ℤ, pos, negsuc, sucℤ, predℤ}
 use lib.ListN.{getD, set, replicate}
 use Rattle.hub.specs.declared.moves.Op.{Op}
+use Rattle.hub.specs.declared.opening.Opening.{Opening}
 use Rattle.hub.specs.declared.record.Phase.{Phase}
 use Rattle.hub.specs.Answers.{Printed}
 use Rattle.hub.specs.Basics.{bit, count, among}
@@ -24,14 +25,14 @@ pub record Ledger : Type 0 where
   pub met : ℕ  -- and that a resumption met
   pub served : List ℕ  -- tickets of the waits that got a permit
 
--- At an opening with k permits.
-abbrev pub opened : ℕ → Ledger
-opened k =
+-- At an opening.
+abbrev pub opened : Opening → Ledger
+opened o =
     record {
       phases = replicate PARTIES Phase.Free;
       gave = 0;
       took = 0;
-      counter = pos k;
+      counter = pos (o .permits);
       left = 0;
       cleared = 0;
       refused = 0;
@@ -49,21 +50,48 @@ accepted Op.Step f = f
 accepted Op.Cancel f = Phase.Aborting (ticketOf f)
 accepted Op.Release f = Phase.Releasing
 
+-- The phase that an answer leads to, but for 20. The ticket of the phase before is t, and the
+-- number in the answer n.
+pub record Leads : Type 0 where
+  pub code : ℕ
+  pub phase : Phase
+
+abbrev pub to : ℕ → Phase → Leads
+to c x = record { code = c; phase = x }
+
+abbrev pub leads : ℕ → ℕ → List Leads
+leads t n =
+    to 0x21 Phase.Holding
+    ∷ to 0x22 Phase.Suspending
+    ∷ to 0x23 (Phase.Ticketed n)
+    ∷ to 0x24 (Phase.Waiting t)
+    ∷ to 0x25 Phase.Holding
+    ∷ to 0x26 Phase.Free
+    ∷ to 0x27 Phase.Resuming
+    ∷ to 0x28 (Phase.ResumingAt n)
+    ∷ to 0x29 Phase.Free
+    ∷ to 0x2A Phase.Free
+    ∷ to 0x2B Phase.Free
+    ∷ to 0x2C Phase.Resuming
+    ∷ to 0x2D Phase.Free
+    ∷ to 0x2E (Phase.Cancelling t)
+    ∷ to 0x2F (Phase.Refusing t)
+    ∷ to 0x30 Phase.Free
+    ∷ to 0x31 Phase.Resuming
+    ∷ to 0x32 Phase.Free
+    ∷ to 0x33 Phase.Free
+    ∷ []
+
+-- What a list says of code c; f where it says nothing.
+abbrev pub ledTo : ℕ → List Leads → Phase → Phase
+ledTo c [] f = f
+ledTo c (x ∷ xs) f = cond (eqb c (x .code)) (x .phase) (ledTo c xs f)
+
 -- The phase of the calling party after its answer; f is the one before.
 unfoldable pub phaseAfter : Op → Phase → Printed → Phase
 phaseAfter o f r =
-    let c = r .code in
-    cond (eqb c 0x20) (accepted o f)
-    (cond (among (0x21 ∷ 0x25 ∷ []) c) Phase.Holding
-    (cond (eqb c 0x22) Phase.Suspending
-    (cond (eqb c 0x23) (Phase.Ticketed (r .number))
-    (cond (eqb c 0x24) (Phase.Waiting (ticketOf f))
-    (cond (among (0x27 ∷ 0x2C ∷ 0x31 ∷ []) c) Phase.Resuming
-    (cond (eqb c 0x28) (Phase.ResumingAt (r .number))
-    (cond (eqb c 0x2E) (Phase.Cancelling (ticketOf f))
-    (cond (eqb c 0x2F) (Phase.Refusing (ticketOf f))
-    (cond (among (0x26 ∷ 0x29 ∷ 0x2A ∷ 0x2B ∷ 0x2D ∷ 0x30 ∷ 0x32 ∷ 0x33 ∷ []) c) Phase.Free
-    f)))))))))
+    cond (eqb (r .code) 0x20) (accepted o f)
+    (ledTo (r .code) (leads (ticketOf f) (r .number)) f)
 
 -- A 2A makes the woken party holding.
 unfoldable pub phasesAfter : Op → ℕ → Printed → List Phase → List Phase

@@ -5,8 +5,9 @@ pub mod Answers  -- codes, woken party and number
 pub mod Kinds
 pub mod Record  -- "The hub's record"
 pub mod Phases
+pub mod Ring  -- the places, and the tidying
+pub mod Look  -- what a call looks at
 pub mod Table  -- "Four calls"
-pub mod Reclaim  -- the tidying
 pub mod Fits  -- "A record that fits"
 pub mod Opening  -- "When the hub says no"
 pub mod Calls

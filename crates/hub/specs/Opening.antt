@@ -5,37 +5,47 @@ use lib.ListN.{replicate}
 use lib.IntN.{pos}
 use Rattle.hub.specs.declared.answers.Answer.{Answer}
 use Rattle.hub.specs.declared.answers.Refusal.{Refusal}
+use Rattle.hub.specs.declared.opening.Opening.{Opening}
+use Rattle.hub.specs.declared.record.Figures.{Figures}
 use Rattle.hub.specs.declared.record.Hub.{Hub}
 use Rattle.hub.specs.declared.record.Outcome.{Outcome}
-use Rattle.hub.specs.declared.record.Phase.{Phase}
-use Rattle.hub.specs.declared.record.Place.{Place}
 use Rattle.hub.specs.Basics.{upTo32}
-use Rattle.hub.specs.Record.{PLACES, PARTIES}
+use Rattle.hub.specs.Record.{PARTIES, emptySeat, freeSlot}
+use Rattle.hub.specs.Ring.{PLACES}
 
--- The record of a hub just opened, with k permits for n parties.
-unfoldable pub fresh : ℕ → ℕ → Hub
-fresh k n =
+abbrev pub figuresAt : Opening → Figures
+figuresAt o =
     record {
-      permits = k;
-      parties = n;
-      counter = pos k;
+      permits = o .permits;
+      parties = o .parties;
+      counter = pos (o .permits);
       issued = 0;
       resumed = 0;
       begun = 0;
+    }
+
+-- The record of a hub just opened.
+unfoldable pub fresh : Opening → Hub
+fresh o =
+    record {
+      figures = figuresAt o;
       oldest = 0;
-      places = replicate PLACES (record { place = Place.Empty });
-      slots = replicate PARTIES (record { phase = Phase.Free });
+      places = replicate PLACES emptySeat;
+      slots = replicate PARTIES freeSlot;
     }
 
 -- A refused opening makes no record; what stands in its place refuses every call by 1.
+abbrev pub nobody : Opening
+nobody = record { permits = 0; parties = 0 }
+
 abbrev pub notOpened : Refusal → Outcome
-notOpened r = record { answer = Answer.Refused r; hub = fresh 0 0 }
+notOpened r = record { answer = Answer.Refused r; hub = fresh nobody }
 
 -- 2, then 3.
-unfoldable pub openingIf : Bool → Bool → ℕ → ℕ → Outcome
-openingIf false b k n = notOpened Refusal.BadPermits
-openingIf true false k n = notOpened Refusal.BadParties
-openingIf true true k n = record { answer = Answer.Opened; hub = fresh k n }
+unfoldable pub openingIf : Bool → Bool → Opening → Outcome
+openingIf false b o = notOpened Refusal.BadPermits
+openingIf true false o = notOpened Refusal.BadParties
+openingIf true true o = record { answer = Answer.Opened; hub = fresh o }
 
-abbrev pub opening : ℕ → ℕ → Outcome
-opening k n = openingIf (upTo32 k) (upTo32 n) k n
+abbrev pub opening : Opening → Outcome
+opening o = openingIf (upTo32 (o .permits)) (upTo32 (o .parties)) o

@@ -2,7 +2,6 @@
 use Prim.Native.Nat.{ℕ}
 use mathlib.Core.Bool.{Bool, true, false}
 use mathlib.Core.List.{List, [], _∷_, map}
-use lib.Dec.{eqb}
 use Rattle.hub.specs.declared.record.Phase.{Phase}
 use Rattle.hub.specs.declared.record.Phase.the-variants.{Free, Holding, Waiting, Acquiring}
 use Rattle.hub.specs.declared.record.Phase.the-variants.{Suspending, Ticketed, Aborting}
@@ -100,22 +99,23 @@ byWaiter z f =
       | Done ↦ z
     ]
 
--- The index of a state in the list of states, and whether two states have the same.
+-- The index of a state in the list of states.
 abbrev pub placeRank : Place → ℕ
 placeRank =
     elim [ Empty ↦ 0 | WaitedBy q ↦ 1 | Permit ↦ 2 | Cancelled ↦ 3 | Refused ↦ 4 | Done ↦ 5 ]
 
-unfoldable pub isPlace : Place → Place → Bool
-isPlace a b = eqb (placeRank a) (placeRank b)
+-- Is a place in one of a list of states, whoever waits there?
+unfoldable pub isPlaceOf : List Place → Place → Bool
+isPlaceOf l a = among (map placeRank l) (placeRank a)
 
 abbrev pub isPermit : Place → Bool
-isPermit = isPlace Permit
+isPermit = isPlaceOf (Permit ∷ [])
 
 abbrev pub isCancelled : Place → Bool
-isCancelled = isPlace Cancelled
+isCancelled = isPlaceOf (Cancelled ∷ [])
 
 abbrev pub isRefused : Place → Bool
-isRefused = isPlace Refused
+isRefused = isPlaceOf (Refused ∷ [])
 
 abbrev pub isDone : Place → Bool
-isDone = isPlace Done
+isDone = isPlaceOf (Done ∷ [])

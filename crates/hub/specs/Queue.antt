@@ -5,100 +5,96 @@ use Prim.Native.Nat.{ℕ, zero, suc, _+_}
 use mathlib.Core.Bool.{Bool, true, false, cond}
 use mathlib.Core.List.{List, [], _∷_}
 use lib.Dec.{eqb, ltb}
-use lib.IntN.{ℤ, pos}
-use lib.ListN.{set, replicate}
+use lib.ListN.{replicate}
 use Rattle.hub.specs.declared.answers.Answer.{Answer}
-use Rattle.hub.specs.declared.answers.Refusal.{Refusal}
 use Rattle.hub.specs.declared.moves.Call.{Call}
 use Rattle.hub.specs.declared.moves.Change.{Change}
 use Rattle.hub.specs.declared.moves.Move.{Move}
-use Rattle.hub.specs.declared.moves.Move.the-variants.{Refuse, Act, Wake}
+use Rattle.hub.specs.declared.moves.Move.the-variants.{Refuse, Act, Put, Wake}
 use Rattle.hub.specs.declared.moves.Sight.{Sight}
+use Rattle.hub.specs.declared.opening.Opening.{Opening}
+use Rattle.hub.specs.declared.record.Figures.{Figures}
+use Rattle.hub.specs.declared.record.PartySlot.{PartySlot}
 use Rattle.hub.specs.declared.record.Phase.{Phase}
 use Rattle.hub.specs.declared.record.Place.{Place}
+use Rattle.hub.specs.declared.record.PlaceSlot.{PlaceSlot}
 use Rattle.hub.specs.Calls.{answerOf, checked}
-use Rattle.hub.specs.Kinds.{kindOf}
-use Rattle.hub.specs.Ledger.{phaseIn}
-use Rattle.hub.specs.Phases.{byTicket, byWaiter, isCancelled}
-use Rattle.hub.specs.Record.{PARTIES}
-use Rattle.hub.specs.Table.{decide}
+use Rattle.hub.specs.Look.{seenBy}
+use Rattle.hub.specs.Opening.{figuresAt}
+use Rattle.hub.specs.Phases.{byTicket, isCancelled}
+use Rattle.hub.specs.Record.{PARTIES, emptySeat, freeSlot, phasesOf, readSlot, withPlace, writeSlot}
+use Rattle.hub.specs.Table.{decide, withResumed}
 
 pub record Queue : Type 0 where
-  pub parties : ℕ
-  pub counter : ℤ
-  pub issued : ℕ
-  pub resumed : ℕ
-  pub begun : ℕ
-  pub cells : ℕ → Place
-  pub phases : List Phase
+  pub figures : Figures
+  pub cells : ℕ → PlaceSlot
+  pub slots : List PartySlot
 
 abbrev pub look : Queue → ℕ → Sight
-look m p =
-    let f = phaseIn (m .phases) p in
-    let a = byTicket Place.Empty (m .cells) f in
-    record {
-      party = p;
-      kind = kindOf p;
-      phase = f;
-      place = a;
-      waiter = byWaiter Phase.Free (phaseIn (m .phases)) a;
-      counter = m .counter;
-      issued = m .issued;
-      resumed = m .resumed;
-      begun = m .begun;
-    }
+look m = seenBy (readSlot (m .slots)) (m .cells) (m .figures)
 
-unfoldable pub write : (ℕ → Place) → ℕ → Place → ℕ → Place
+unfoldable pub write : (ℕ → PlaceSlot) → ℕ → PlaceSlot → ℕ → PlaceSlot
 write g t a u = cond (eqb u t) a (g u)
 
 -- Cancelled cells at the next ticket to resume are skipped, at most n of them.
 abbrev pub skipped : Queue → Queue
 skipped m =
+    let t = m .figures .resumed in
     record {
-      parties = m .parties;
-      counter = m .counter;
-      issued = m .issued;
-      resumed = m .resumed + 1;
-      begun = m .begun;
-      cells = write (m .cells) (m .resumed) Place.Done;
-      phases = m .phases;
+      figures = withResumed (t + 1) (m .figures);
+      cells = write (m .cells) t (withPlace Place.Done (m .cells t));
+      slots = m .slots;
     }
 
 abbrev pub canSkip : Queue → Bool
-canSkip m = isCancelled (m .cells (m .resumed))
+canSkip m = isCancelled (m .cells (m .figures .resumed) .place)
 
-unfoldable pub skip : ℕ → Bool → Queue → Queue
-skip zero b m = m
-skip (suc n) false m = m
-skip (suc n) true m = skip n (canSkip (skipped m)) (skipped m)
+unfoldable pub skip : ℕ → Queue → Queue
+skip zero m = m
+skip (suc n) m = cond (canSkip m) (skip n (skipped m)) m
 
 -- A cancelled cell has a ticket that was issued: there are at most as many.
-unfoldable pub reclaimed : Queue → Queue
-reclaimed m = skip (m .issued) (canSkip m) m
+abbrev pub tidied : Queue → Queue
+tidied m = skip (m .figures .issued) m
 
--- Party p, whose phase was f, makes its change; l are the phases, any woken party's set.
-abbrev pub changed : Queue → List Phase → ℕ → Phase → Change → Queue
-changed m l p f c =
+-- The same three changes as at the hub.
+abbrev pub acted : Queue → ℕ → Change → Queue
+acted m p c =
     record {
-      parties = m .parties;
-      counter = c .counter;
-      issued = c .issued;
-      resumed = c .resumed;
-      begun = c .begun;
-      cells = byTicket (m .cells) (λ t. write (m .cells) t (c .place)) f;
-      phases = set l p (c .phase);
+      figures = c .figures;
+      cells = m .cells;
+      slots = writeSlot (m .slots) p (c .slot);
     }
 
-unfoldable pub apply : Queue → ℕ → Phase → Move → Queue
-apply m p f (Refuse r) = m
-apply m p f (Act c) = reclaimed (changed m (m .phases) p f c)
-apply m p f (Wake q c) = reclaimed (changed m (set (m .phases) q Phase.Holding) p f c)
+abbrev pub placed : Queue → Phase → PlaceSlot → Queue
+placed m f a =
+    record {
+      figures = m .figures;
+      cells = byTicket (m .cells) (λ t. write (m .cells) t a) f;
+      slots = m .slots;
+    }
+
+abbrev pub woken : Queue → ℕ → PartySlot → Queue
+woken m q s =
+    record {
+      figures = m .figures;
+      cells = m .cells;
+      slots = writeSlot (m .slots) q s;
+    }
+
+unfoldable pub apply : Queue → Sight → Move → Queue
+apply m s (Refuse r) = m
+apply m s (Act c) = tidied (acted m (s .party) c)
+apply m s (Put a c) = tidied (acted (placed m (s .slot .phase) a) (s .party) c)
+apply m s (Wake q x a c) =
+    tidied (acted (placed (woken m q x) (s .slot .phase) a) (s .party) c)
 
 abbrev pub moveOf : Queue → Call → Move
-moveOf m c = checked true (ltb (c .party) (m .parties)) (decide (c .op) false (look m (c .party)))
+moveOf m c =
+    checked true (ltb (c .party) (m .figures .parties)) (decide (c .op) false (look m (c .party)))
 
 abbrev pub next : Queue → Call → Queue
-next m c = apply m (c .party) (phaseIn (m .phases) (c .party)) (moveOf m c)
+next m c = apply m (look m (c .party)) (moveOf m c)
 
 unfoldable pub run : Queue → List Call → Queue
 run m [] = m
@@ -108,14 +104,17 @@ unfoldable pub answers : Queue → List Call → List Answer
 answers m [] = []
 answers m (c ∷ cs) = answerOf (moveOf m c) ∷ answers (next m c) cs
 
-unfoldable pub fresh : ℕ → ℕ → Queue
-fresh k n =
+unfoldable pub fresh : Opening → Queue
+fresh o =
     record {
-      parties = n;
-      counter = pos k;
-      issued = 0;
-      resumed = 0;
-      begun = 0;
-      cells = λ t. Place.Empty;
-      phases = replicate PARTIES Phase.Free;
+      figures = figuresAt o;
+      cells = λ t. emptySeat;
+      slots = replicate PARTIES freeSlot;
     }
+
+-- What the invariant looks at: everybody's phase, and the place of each ticket.
+abbrev pub phases : Queue → List Phase
+phases m = phasesOf (m .slots)
+
+abbrev pub places : Queue → ℕ → Place
+places m t = m .cells t .place

@@ -1,5 +1,5 @@
--- "The hub's record": how a party's phase and a ticket's place are read and written.
-use Prim.Native.Nat.{ℕ, _%_}
+-- "The hub's record": how a party's slot is read and written, and what a slot is made of.
+use Prim.Native.Nat.{ℕ}
 use mathlib.Core.List.{List, map}
 use lib.ListN.{getD, set}
 use Rattle.hub.specs.declared.record.Phase.{Phase}
@@ -7,33 +7,37 @@ use Rattle.hub.specs.declared.record.Place.{Place}
 use Rattle.hub.specs.declared.record.PartySlot.{PartySlot}
 use Rattle.hub.specs.declared.record.PlaceSlot.{PlaceSlot}
 
--- How many tickets have a place; how many parties have a slot; how many acquires there may be.
-abbrev pub PLACES : ℕ
-PLACES = 256
-
+-- How many parties have a slot; how many acquires there may be.
 abbrev pub PARTIES : ℕ
 PARTIES = 32
 
 abbrev pub MAX-BEGUN : ℕ
 MAX-BEGUN = 1000000
 
--- A number past the 32 slots reads as free.
-unfoldable pub readPhase : List PartySlot → ℕ → Phase
-readPhase l p = (getD l p (record { phase = Phase.Free })) .phase
+-- A slot at an opening; a slot with another phase, and all else as it was.
+abbrev pub freeSlot : PartySlot
+freeSlot = record { phase = Phase.Free }
 
-unfoldable pub writePhase : List PartySlot → ℕ → Phase → List PartySlot
-writePhase l p f = set l p (record { phase = f })
+abbrev pub withPhase : Phase → PartySlot → PartySlot
+withPhase x s = record { phase = x }
+
+-- The same of a place.
+abbrev pub emptySeat : PlaceSlot
+emptySeat = record { place = Place.Empty }
+
+abbrev pub withPlace : Place → PlaceSlot → PlaceSlot
+withPlace a s = record { place = a }
+
+-- A number past the 32 slots reads as free, and writing there changes nothing.
+unfoldable pub readSlot : List PartySlot → ℕ → PartySlot
+readSlot l p = getD l p freeSlot
+
+unfoldable pub writeSlot : List PartySlot → ℕ → PartySlot → List PartySlot
+writeSlot l p s = set l p s
 
 -- Everybody's phase, in the order of the parties.
 abbrev pub phasesOf : List PartySlot → List Phase
 phasesOf l = map (λ s. s .phase) l
-
--- The places are a ring: the place of ticket t is at t modulo 256.
-unfoldable pub readPlace : List PlaceSlot → ℕ → Place
-readPlace l t = (getD l (t % PLACES) (record { place = Place.Empty })) .place
-
-unfoldable pub writePlace : List PlaceSlot → ℕ → Place → List PlaceSlot
-writePlace l t a = set l (t % PLACES) (record { place = a })
 
 abbrev pub placesOf : List PlaceSlot → List Place
 placesOf l = map (λ s. s .place) l

@@ -7,6 +7,7 @@ use mathlib.Core.List.{List, [], _∷_}
 use lib.Dec.{eqb}
 use Rattle.hub.specs.declared.answers.Answer.{Answer}
 use Rattle.hub.specs.declared.moves.Call.{Call}
+use Rattle.hub.specs.declared.opening.Opening.{Opening}
 use Rattle.hub.specs.declared.record.Hub.{Hub}
 use Rattle.hub.specs.declared.record.Place.{Place}
 use Rattle.hub.specs.declared.record.PlaceSlot.{PlaceSlot}
@@ -15,24 +16,21 @@ use Rattle.hub.specs.Calls.{called}
 use Rattle.hub.specs.Opening.{opening}
 use Rattle.hub.specs.Queue.{Queue}
 use Rattle.hub.specs.Queue as queue
-use Rattle.hub.specs.Record.{PLACES, readPlace, phasesOf}
+use Rattle.hub.specs.Record.{emptySeat}
+use Rattle.hub.specs.Ring.{PLACES, readSeat}
 use Rattle.hub.specs.Schedule.{run, answers}
 
 -- Places l, with oldest ticket o, are a window of the cells g: cells before it are done, those
 -- within it are the places, those beyond it are empty.
-pub record Window (o : ℕ) (l : List PlaceSlot) (g : ℕ → Place) : Type 0 where
-  pub before : (t : ℕ) → t < o → g t ≡ Place.Done
-  pub within : (t : ℕ) → o ≤ t → t < o + PLACES → g t ≡ readPlace l t
-  pub beyond : (t : ℕ) → o + PLACES ≤ t → g t ≡ Place.Empty
+pub record Window (o : ℕ) (l : List PlaceSlot) (g : ℕ → PlaceSlot) : Type 0 where
+  pub before : (t : ℕ) → t < o → g t .place ≡ Place.Done
+  pub within : (t : ℕ) → o ≤ t → t < o + PLACES → g t ≡ readSeat l t
+  pub beyond : (t : ℕ) → o + PLACES ≤ t → g t ≡ emptySeat
 
 -- The record h shows the queue m.
 pub record Shows (h : Hub) (m : Queue) : Type 0 where
-  pub parties : h .parties ≡ m .parties
-  pub counter : h .counter ≡ m .counter
-  pub issued : h .issued ≡ m .issued
-  pub resumed : h .resumed ≡ m .resumed
-  pub begun : h .begun ≡ m .begun
-  pub phases : phasesOf (h .slots) ≡ m .phases
+  pub figures : h .figures ≡ m .figures
+  pub slots : h .slots ≡ m .slots
   pub window : Window (h .oldest) (h .places) (m .cells)
 
 abbrev pub isSeven : Answer → Bool
@@ -51,7 +49,7 @@ withoutSevens (r ∷ rs) = let q = withoutSevens rs in cond (isSeven r) q (r ∷
 
 unfoldable pub Refines : Type 0
 Refines =
-    (k n : ℕ) → opening k n .answer ≡ Answer.Opened → (cs : List Call)
-    → Shows (run (opening k n .hub) cs) (queue.run (queue.fresh k n) (heard (opening k n .hub) cs))
-    × (withoutSevens (answers (opening k n .hub) cs)
-    ≡ queue.answers (queue.fresh k n) (heard (opening k n .hub) cs))
+    (o : Opening) → opening o .answer ≡ Answer.Opened → (cs : List Call)
+    → let h = opening o .hub in
+    Shows (run h cs) (queue.run (queue.fresh o) (heard h cs))
+    × (withoutSevens (answers h cs) ≡ queue.answers (queue.fresh o) (heard h cs))

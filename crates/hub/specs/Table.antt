@@ -17,10 +17,11 @@ use Rattle.hub.specs.declared.answers.Refusal.the-variants.{AtRest, NotW
 use Rattle.hub.specs.declared.answers.Refusal.the-variants.{NotHolding}
 use Rattle.hub.specs.declared.moves.Change.{Change}
 use Rattle.hub.specs.declared.moves.Move.{Move}
-use Rattle.hub.specs.declared.moves.Move.the-variants.{Refuse, Act, Wake}
+use Rattle.hub.specs.declared.moves.Move.the-variants.{Refuse, Act, Put, Wake}
 use Rattle.hub.specs.declared.moves.Op.{Op}
 use Rattle.hub.specs.declared.moves.Op.the-variants.{Acquire, Step, Cancel, Release}
 use Rattle.hub.specs.declared.moves.Sight.{Sight}
+use Rattle.hub.specs.declared.record.Figures.{Figures}
 use Rattle.hub.specs.declared.record.Phase.{Phase}
 use Rattle.hub.specs.declared.record.Phase.the-variants.{Free, Holding, Waiting, Acquiring}
 use Rattle.hub.specs.declared.record.Phase.the-variants.{Suspending, Ticketed, Aborting}
@@ -29,7 +30,7 @@ use Rattle.hub.specs.declared.record.Phase.the-variants.{Resuming, Resum
 use Rattle.hub.specs.declared.record.Place.{Place}
 use Rattle.hub.specs.declared.record.Place.the-variants.{Empty, Waiting as WaitedBy, Permit}
 use Rattle.hub.specs.declared.record.Place.the-variants.{Cancelled, Refused, Done}
-use Rattle.hub.specs.Record.{MAX-BEGUN}
+use Rattle.hub.specs.Record.{MAX-BEGUN, withPhase, withPlace}
 use Rattle.hub.specs.Phases.{isFree, isHolding, isWaiting, ticketOf}
 
 -- Is the counter above 0? Below 0?
@@ -42,94 +43,163 @@ abbrev pub belowZero : ℤ → Bool
 belowZero (pos c) = false
 belowZero (negsuc c) = true
 
--- A change: phase, place, counter, issued, resumed, begun, answer.
-abbrev pub change : Phase → Place → ℤ → ℕ → ℕ → ℕ → Answer → Change
-change x a c i r b y =
-    record { phase = x; place = a; counter = c; issued = i; resumed = r; begun = b; answer = y }
+-- The figures with one of them changed.
+abbrev pub withCounter : ℤ → Figures → Figures
+withCounter c f =
+    record {
+      permits = f .permits;
+      parties = f .parties;
+      counter = c;
+      issued = f .issued;
+      resumed = f .resumed;
+      begun = f .begun;
+    }
 
--- The party's phase becomes x, and the answer is y.
+abbrev pub withIssued : ℕ → Figures → Figures
+withIssued t f =
+    record {
+      permits = f .permits;
+      parties = f .parties;
+      counter = f .counter;
+      issued = t;
+      resumed = f .resumed;
+      begun = f .begun;
+    }
+
+abbrev pub withResumed : ℕ → Figures → Figures
+withResumed t f =
+    record {
+      permits = f .permits;
+      parties = f .parties;
+      counter = f .counter;
+      issued = f .issued;
+      resumed = t;
+      begun = f .begun;
+    }
+
+abbrev pub withBegun : ℕ → Figures → Figures
+withBegun b f =
+    record {
+      permits = f .permits;
+      parties = f .parties;
+      counter = f .counter;
+      issued = f .issued;
+      resumed = f .resumed;
+      begun = b;
+    }
+
+-- The party's phase becomes x, the figures f, and the answer is y.
+abbrev pub change : Phase → Figures → Answer → Sight → Change
+change x f y s = record { slot = withPhase x (s .slot); figures = f; answer = y }
+
+-- Only its phase changes; the counter too, told of one less or of one more.
 abbrev pub turn : Phase → Answer → Sight → Move
-turn x y s = Act (change x (s .place) (s .counter) (s .issued) (s .resumed) (s .begun) y)
+turn x y s = Act (change x (s .figures) y s)
 
--- The same, and the place of its ticket becomes a.
+abbrev pub take : Phase → Answer → Sight → Move
+take x y s = Act (change x (withCounter (predℤ (s .figures .counter)) (s .figures)) y s)
+
+abbrev pub give : Phase → Answer → Sight → Move
+give x y s = Act (change x (withCounter (sucℤ (s .figures .counter)) (s .figures)) y s)
+
+-- Its phase, and the place of its ticket, which becomes a.
 abbrev pub put : Place → Phase → Answer → Sight → Move
-put a x y s = Act (change x a (s .counter) (s .issued) (s .resumed) (s .begun) y)
-
--- The same as turn, and the counter becomes c.
-abbrev pub tell : ℤ → Phase → Answer → Sight → Move
-tell c x y s = Act (change x (s .place) c (s .issued) (s .resumed) (s .begun) y)
-
--- The party draws the next ticket, for its wait.
-abbrev pub draw : Sight → Move
-draw s =
-    let t = s .issued in
-    Act (change (Ticketed t) (s .place) (s .counter) (t + 1) (s .resumed) (s .begun) (DrewTicket t))
-
--- The party draws the next ticket to resume.
-abbrev pub drawResume : Sight → Move
-drawResume s =
-    let t = s .resumed in
-    Act (change (ResumingAt t) (s .place) (s .counter) (s .issued) (t + 1) (s .begun) (StartedResume t))
+put a x y s = Put (withPlace a (s .seat)) (change x (s .figures) y s)
 
 -- The party is free, the place of its ticket done, and the waiter q holding.
 abbrev pub wake : ℕ → ℕ → Sight → Move
-wake q t s = Wake q (change Free Done (s .counter) (s .issued) (s .resumed) (s .begun) (Woke q t))
+wake q t s =
+    Wake q (withPhase Holding (s .waiter)) (withPlace Done (s .seat))
+    (change Free (s .figures) (Woke q t) s)
 
--- The step table. Its columns: the phase; the place of its ticket; is the party that waits
--- there in phase waiting; is the counter above 0; is it below 0; the sight.
-unfoldable pub step : Phase → Place → Bool → Bool → Bool → Sight → Move
--- asked: 21, 22
-step Acquiring a w true z s = tell (predℤ (s .counter)) Holding Acquired s
-step Acquiring a w false z s = tell (predℤ (s .counter)) Suspending MustWait s
+-- The step table, a phase after the other. Where the table lists no such place the record does not
+-- fit, and is refused by 1 before.
+
+-- asked: was the counter above 0? 21, 22
+unfoldable pub stepAcquiring : Bool → Sight → Move
+stepAcquiring true s = take Holding Acquired s
+stepAcquiring false s = take Suspending MustWait s
+
 -- unnumbered: 23
-step Suspending a w u z s = draw s
--- numbered: 24, 25
-step (Ticketed t) Empty w u z s = put (WaitedBy (s .party)) (Waiting t) (Parked t) s
-step (Ticketed t) Permit w u z s = put Done Holding (TookPermit t) s
--- giving back: 26, 27
-step Releasing a w u false s = tell (sucℤ (s .counter)) Free Returned s
-step Releasing a w u true s = tell (sucℤ (s .counter)) Resuming MustResume s
--- carrying: 28
-step Resuming a w u z s = drawResume s
--- handing: 29, 2A, 2B, 2C, 2D
-step (ResumingAt t) Empty w u z s = put Permit Free (LeftPermit t) s
-step (ResumingAt t) (WaitedBy q) true u z s = wake q t s
-step (ResumingAt t) (WaitedBy q) false u z s = put Permit Free (Delegated t) s
-step (ResumingAt t) Cancelled w u z s = put Done Resuming (Skipped t) s
-step (ResumingAt t) Refused w u z s = put Done Free (ResumeRefused t) s
--- giving up: 2E, 2F
-step (Aborting t) a w u true s = tell (sucℤ (s .counter)) (Cancelling t) MustCancel s
-step (Aborting t) a w u false s = tell (sucℤ (s .counter)) (Refusing t) MustRefuse s
--- cancelling: 30, 31
-step (Cancelling t) (WaitedBy q) w u z s = put Cancelled Free (MarkedCancelled t) s
-step (Cancelling t) Permit w u z s = put Done Resuming (PassedOn t) s
--- refusing: 32, 33
-step (Refusing t) (WaitedBy q) w u z s = put Refused Free (MarkedRefused t) s
-step (Refusing t) Permit w u z s = put Done Free (DroppedPermit t) s
--- at rest: 8
-step Free a w u z s = Refuse AtRest
-step Holding a w u z s = Refuse AtRest
-step (Waiting t) a w u z s = Refuse AtRest
--- not in the table; a record with such a place does not fit, and is refused by 1 before
-step (Ticketed t) (WaitedBy q) w u z s = Refuse Unfit
-step (Ticketed t) Cancelled w u z s = Refuse Unfit
-step (Ticketed t) Refused w u z s = Refuse Unfit
-step (Ticketed t) Done w u z s = Refuse Unfit
-step (ResumingAt t) Permit w u z s = Refuse Unfit
-step (ResumingAt t) Done w u z s = Refuse Unfit
-step (Cancelling t) Empty w u z s = Refuse Unfit
-step (Cancelling t) Cancelled w u z s = Refuse Unfit
-step (Cancelling t) Refused w u z s = Refuse Unfit
-step (Cancelling t) Done w u z s = Refuse Unfit
-step (Refusing t) Empty w u z s = Refuse Unfit
-step (Refusing t) Cancelled w u z s = Refuse Unfit
-step (Refusing t) Refused w u z s = Refuse Unfit
-step (Refusing t) Done w u z s = Refuse Unfit
+unfoldable pub stepSuspending : Sight → Move
+stepSuspending s =
+    let t = s .figures .issued in
+    Act (change (Ticketed t) (withIssued (t + 1) (s .figures)) (DrewTicket t) s)
 
-abbrev pub stepOf : Sight → Move
-stepOf s =
-    step (s .phase) (s .place) (isWaiting (s .waiter))
-    (aboveZero (s .counter)) (belowZero (s .counter)) s
+-- numbered: 24; a permit came before the waiter, 25
+unfoldable pub stepTicketed : ℕ → Place → Sight → Move
+stepTicketed t Empty s = put (WaitedBy (s .party)) (Waiting t) (Parked t) s
+stepTicketed t Permit s = put Done Holding (TookPermit t) s
+stepTicketed t (WaitedBy q) s = Refuse Unfit
+stepTicketed t Cancelled s = Refuse Unfit
+stepTicketed t Refused s = Refuse Unfit
+stepTicketed t Done s = Refuse Unfit
+
+-- giving back: was the counter below 0? 27, 26
+unfoldable pub stepReleasing : Bool → Sight → Move
+stepReleasing true s = give Resuming MustResume s
+stepReleasing false s = give Free Returned s
+
+-- carrying: 28
+unfoldable pub stepResuming : Sight → Move
+stepResuming s =
+    let t = s .figures .resumed in
+    Act (change (ResumingAt t) (withResumed (t + 1) (s .figures)) (StartedResume t) s)
+
+-- handing, at a place where q waits: is q's phase waiting? 2A; q gives up meanwhile, 2B
+unfoldable pub resumeWaiter : Bool → ℕ → ℕ → Sight → Move
+resumeWaiter true q t s = wake q t s
+resumeWaiter false q t s = put Permit Free (Delegated t) s
+
+-- handing: the waiter is still to come, 29; the wait was cancelled, 2C; it was refused, 2D
+unfoldable pub stepResumingAt : ℕ → Place → Sight → Move
+stepResumingAt t Empty s = put Permit Free (LeftPermit t) s
+stepResumingAt t (WaitedBy q) s = resumeWaiter (isWaiting (s .waiter .phase)) q t s
+stepResumingAt t Cancelled s = put Done Resuming (Skipped t) s
+stepResumingAt t Refused s = put Done Free (ResumeRefused t) s
+stepResumingAt t Permit s = Refuse Unfit
+stepResumingAt t Done s = Refuse Unfit
+
+-- giving up: was the counter below 0? 2E, 2F
+unfoldable pub stepAborting : ℕ → Bool → Sight → Move
+stepAborting t true s = give (Cancelling t) MustCancel s
+stepAborting t false s = give (Refusing t) MustRefuse s
+
+-- cancelling: 30; a permit came meanwhile, 31
+unfoldable pub stepCancelling : ℕ → Place → Sight → Move
+stepCancelling t (WaitedBy q) s = put Cancelled Free (MarkedCancelled t) s
+stepCancelling t Permit s = put Done Resuming (PassedOn t) s
+stepCancelling t Empty s = Refuse Unfit
+stepCancelling t Cancelled s = Refuse Unfit
+stepCancelling t Refused s = Refuse Unfit
+stepCancelling t Done s = Refuse Unfit
+
+-- refusing: 32; the permit that it refuses has come, 33
+unfoldable pub stepRefusing : ℕ → Place → Sight → Move
+stepRefusing t (WaitedBy q) s = put Refused Free (MarkedRefused t) s
+stepRefusing t Permit s = put Done Free (DroppedPermit t) s
+stepRefusing t Empty s = Refuse Unfit
+stepRefusing t Cancelled s = Refuse Unfit
+stepRefusing t Refused s = Refuse Unfit
+stepRefusing t Done s = Refuse Unfit
+
+-- at rest: 8
+unfoldable pub stepIn : Phase → Sight → Move
+stepIn Free s = Refuse AtRest
+stepIn Holding s = Refuse AtRest
+stepIn (Waiting t) s = Refuse AtRest
+stepIn Acquiring s = stepAcquiring (aboveZero (s .figures .counter)) s
+stepIn Suspending s = stepSuspending s
+stepIn (Ticketed t) s = stepTicketed t (s .seat .place) s
+stepIn (Aborting t) s = stepAborting t (belowZero (s .figures .counter)) s
+stepIn (Cancelling t) s = stepCancelling t (s .seat .place) s
+stepIn (Refusing t) s = stepRefusing t (s .seat .place) s
+stepIn Releasing s = stepReleasing (belowZero (s .figures .counter)) s
+stepIn Resuming s = stepResuming s
+stepIn (ResumingAt t) s = stepResumingAt t (s .seat .place) s
+
+abbrev pub step : Sight → Move
+step s = stepIn (s .slot .phase) s
 
 -- Ask: is the party free; have 1,000,000 begun; is there no place for one more ticket?
 unfoldable pub acquire : Bool → Bool → Bool → Sight → Move
@@ -137,7 +207,7 @@ acquire false e full s = Refuse NotFree
 acquire true true full s = Refuse Exhausted
 acquire true false true s = Refuse Full
 acquire true false false s =
-    Act (change Acquiring (s .place) (s .counter) (s .issued) (s .resumed) (s .begun + 1) Accepted)
+    Act (change Acquiring (withBegun (s .figures .begun + 1) (s .figures)) Accepted s)
 
 -- Give up: is the party waiting; is its kind 3; its ticket.
 unfoldable pub cancel : Bool → Bool → ℕ → Sight → Move
@@ -152,7 +222,9 @@ release true s = turn Releasing Accepted s
 
 -- What a call does on a record that fits and has the party. The Bool: is it full (7)?
 unfoldable pub decide : Op → Bool → Sight → Move
-decide Acquire full s = acquire (isFree (s .phase)) (leb MAX-BEGUN (s .begun)) full s
-decide Step full s = stepOf s
-decide Cancel full s = cancel (isWaiting (s .phase)) (eqb (s .kind) 3) (ticketOf (s .phase)) s
-decide Release full s = release (isHolding (s .phase)) s
+decide Acquire full s =
+    acquire (isFree (s .slot .phase)) (leb MAX-BEGUN (s .figures .begun)) full s
+decide Step full s = step s
+decide Cancel full s =
+    cancel (isWaiting (s .slot .phase)) (eqb (s .kind) 3) (ticketOf (s .slot .phase)) s
+decide Release full s = release (isHolding (s .slot .phase)) s

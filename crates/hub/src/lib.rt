@@ -2,7 +2,8 @@
 // Each module is a paragraph of the paper that the hub is built from (docs/PAPER.md); specs/
 // has its definitions, and every contract here cites one of them.
 
-pub mod record; // the record of a hub: phases, places, counters
+pub mod record; // the record of a hub: phases, places, figures
+pub mod slots; // what the record keeps of a party and of a place
 pub mod phases; // what is asked of a phase
 pub mod kinds; // the kind of each party
 pub mod answers; // what a call answers
@@ -14,6 +15,8 @@ pub use answers::Answer;
 pub use answers::Refusal;
 pub use moves::Call;
 pub use moves::Op;
+pub use opening::Opening;
+pub use record::Figures;
 pub use record::Hub;
 pub use record::Outcome;
 pub use record::PartySlot;

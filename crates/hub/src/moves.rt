@@ -2,8 +2,9 @@
 
 use crate::answers::Answer;
 use crate::answers::Refusal;
-use crate::record::Phase;
-use crate::record::Place;
+use crate::record::Figures;
+use crate::record::PartySlot;
+use crate::record::PlaceSlot;
 
 // The four calls: ask (10), step (11), give up (12), give back (13).
 pub enum Op {
@@ -22,28 +23,22 @@ pub struct Call {
 pub struct Sight {
     pub party: u8,
     pub kind: u8,
-    pub phase: Phase,
-    pub place: Place, // of the party's ticket; empty if it has none
-    pub waiter: Phase, // of the party that waits at that place; free if none does
-    pub counter: i32,
-    pub issued: u32,
-    pub resumed: u32,
-    pub begun: u32,
+    pub slot: PartySlot,
+    pub seat: PlaceSlot, // the place of the party's ticket; an empty one if it has none
+    pub waiter: PartySlot, // of the party that waits at that place; a free one if none does
+    pub figures: Figures,
 }
 
-// What a call that is not refused changes, and what it answers.
+// What every call that is not refused changes, and what it answers.
 pub struct Change {
-    pub phase: Phase,
-    pub place: Place,
-    pub counter: i32,
-    pub issued: u32,
-    pub resumed: u32,
-    pub begun: u32,
+    pub slot: PartySlot, // of the party
+    pub figures: Figures,
     pub answer: Answer,
 }
 
 pub enum Move {
     Refuse(Refusal),
     Act(Change),
-    Wake(u32, Change), // the party of that number becomes holding as well
+    Put(PlaceSlot, Change), // the place of the party's ticket becomes this, too
+    Wake(u32, PartySlot, PlaceSlot, Change), // and so does the slot of the waiter of that number
 }

@@ -2,32 +2,44 @@
 
 use crate::answers::Answer;
 use crate::answers::Refusal;
+use crate::record::Figures;
 use crate::record::Hub;
 use crate::record::Outcome;
-use crate::record::PartySlot;
-use crate::record::Phase;
-use crate::record::Place;
-use crate::record::PlaceSlot;
+use crate::slots::empty_seat;
+use crate::slots::free_slot;
 ghost use mathlib.Core.Path.{_≡_};
 ghost use Rattle.hub.specs.Basics.{upTo32};
-ghost use Rattle.hub.specs.Opening.{fresh, notOpened, opening};
+ghost use Rattle.hub.specs.Opening.{figuresAt, fresh, notOpened, opening};
+
+// What an opening asks for.
+pub struct Opening {
+    pub permits: u8, // links, K
+    pub parties: u8, // n
+}
+
+fn figures_at(o: Opening) -> Figures
+    ensures { λ r. ⌜ r ≡ figuresAt o ⌝ }
+{
+    let permits = o.permits;
+    Figures {
+        permits,
+        parties: o.parties,
+        counter: permits as i32,
+        issued: 0,
+        resumed: 0,
+        begun: 0,
+    }
+}
 
 impl Hub {
     // The record of a hub that was just opened; nothing is checked here.
-    pub fn open(permits: u8, parties: u8) -> Hub
-        ensures { λ r. ⌜ r ≡ fresh permits parties ⌝ }
+    pub fn open(o: Opening) -> Hub
+        ensures { λ r. ⌜ r ≡ fresh o ⌝ }
     {
-        let empty = PlaceSlot {
-            place: Place::Empty,
-        };
-        let free = PartySlot { phase: Phase::Free };
+        let empty = empty_seat();
+        let free = free_slot();
         Hub {
-            permits,
-            parties,
-            counter: permits as i32,
-            issued: 0,
-            resumed: 0,
-            begun: 0,
+            figures: figures_at(o),
             oldest: 0,
             places: [empty; 256],
             slots: [free; 32],
@@ -41,7 +53,10 @@ fn refused(why: Refusal) -> Outcome
 {
     Outcome {
         answer: Answer::Refused(why),
-        hub: Hub::open(0, 0),
+        hub: Hub::open(Opening {
+            permits: 0,
+            parties: 0,
+        }),
     }
 }
 
@@ -55,18 +70,18 @@ pub fn up_to_32(n: u8) -> bool
     n <= 32
 }
 
-// Opens a hub with K permits for n parties.
-pub fn open_hub(permits: u8, parties: u8) -> Outcome
-    ensures { λ r. ⌜ r ≡ opening permits parties ⌝ }
+// Opens a hub.
+pub fn open_hub(o: Opening) -> Outcome
+    ensures { λ r. ⌜ r ≡ opening o ⌝ }
 {
-    if !up_to_32(permits) {
+    if !up_to_32(o.permits) {
         return refused(Refusal::BadPermits);
     }
-    if !up_to_32(parties) {
+    if !up_to_32(o.parties) {
         return refused(Refusal::BadParties);
     }
     Outcome {
         answer: Answer::Opened,
-        hub: Hub::open(permits, parties),
+        hub: Hub::open(o),
     }
 }

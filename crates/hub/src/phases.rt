@@ -1,33 +1,28 @@
-// What is asked of a phase.
+// What is asked of a phase, and of a place.
 
 use crate::record::Phase;
+use crate::record::Place;
 ghost use mathlib.Core.Path.{_≡_};
-ghost use Rattle.hub.specs.Phases.{isFree, isHolding, isWaiting, ticketOf};
+ghost use mathlib.Core.Bool.{true, false};
+ghost use Rattle.hub.specs.Phases.{byTicket, placeRank, rank, ticketOf};
 
-pub fn is_free(phase: Phase) -> bool
-    ensures { λ r. ⌜ r ≡ isFree phase ⌝ }
+// The index of a phase in the list of phases.
+pub fn phase_rank(phase: Phase) -> u8
+    ensures { λ r. ⌜ r ≡ rank phase ⌝ }
 {
     match phase {
-        Phase::Free => true,
-        _ => false,
-    }
-}
-
-pub fn is_holding(phase: Phase) -> bool
-    ensures { λ r. ⌜ r ≡ isHolding phase ⌝ }
-{
-    match phase {
-        Phase::Holding => true,
-        _ => false,
-    }
-}
-
-pub fn is_waiting(phase: Phase) -> bool
-    ensures { λ r. ⌜ r ≡ isWaiting phase ⌝ }
-{
-    match phase {
-        Phase::Waiting(_) => true,
-        _ => false,
+        Phase::Free => 0,
+        Phase::Holding => 1,
+        Phase::Waiting(_) => 2,
+        Phase::Acquiring => 3,
+        Phase::Suspending => 4,
+        Phase::Ticketed(_) => 5,
+        Phase::Aborting(_) => 6,
+        Phase::Cancelling(_) => 7,
+        Phase::Refusing(_) => 8,
+        Phase::Releasing => 9,
+        Phase::Resuming => 10,
+        Phase::ResumingAt(_) => 11,
     }
 }
 
@@ -36,12 +31,40 @@ pub fn ticket(phase: Phase) -> u32
     ensures { λ r. ⌜ r ≡ ticketOf phase ⌝ }
 {
     match phase {
-        Phase::Waiting(t) => t,
-        Phase::Ticketed(t) => t,
-        Phase::Aborting(t) => t,
-        Phase::Cancelling(t) => t,
-        Phase::Refusing(t) => t,
-        Phase::ResumingAt(t) => t,
+        Phase::Waiting(t)
+        | Phase::Ticketed(t)
+        | Phase::Aborting(t)
+        | Phase::Cancelling(t)
+        | Phase::Refusing(t)
+        | Phase::ResumingAt(t) => t,
         _ => 0,
+    }
+}
+
+pub fn has_ticket(phase: Phase) -> bool
+    ensures { λ r. ⌜ r ≡ byTicket false (λ t. true) phase ⌝ }
+{
+    match phase {
+        Phase::Waiting(_)
+        | Phase::Ticketed(_)
+        | Phase::Aborting(_)
+        | Phase::Cancelling(_)
+        | Phase::Refusing(_)
+        | Phase::ResumingAt(_) => true,
+        _ => false,
+    }
+}
+
+// The index of a state in the list of states.
+pub fn place_rank(place: Place) -> u8
+    ensures { λ r. ⌜ r ≡ placeRank place ⌝ }
+{
+    match place {
+        Place::Empty => 0,
+        Place::Waiting(_) => 1,
+        Place::Permit => 2,
+        Place::Cancelled => 3,
+        Place::Refused => 4,
+        Place::Done => 5,
     }
 }

@@ -28,7 +28,7 @@ pub enum Place {
     Done,
 }
 
-// An element of an array of places or of parties is a struct.
+// What the record keeps of a place, and of a party. An element of an array is a struct.
 pub struct PlaceSlot {
     pub place: Place,
 }
@@ -37,13 +37,18 @@ pub struct PartySlot {
     pub phase: Phase,
 }
 
-pub struct Hub {
+// What the record keeps of the hub as a whole.
+pub struct Figures {
     pub permits: u8, // links, K
     pub parties: u8, // n
     pub counter: i32, // permits available; below zero, waits that no permit comes for
     pub issued: u32, // numbered: the next ticket for a wait
     pub resumed: u32, // handed: the next ticket to resume
     pub begun: u32, // acquires accepted since opening
+}
+
+pub struct Hub {
+    pub figures: Figures,
     pub oldest: u32, // the first ticket that has a place
     pub places: [PlaceSlot; 256], // a ring: that of ticket t is at t modulo 256
     pub slots: [PartySlot; 32],

@@ -1,50 +1,54 @@
--- What a row of the table has to show, and what it may use.
-use Prim.Native.Nat.{ℕ, suc, _+_, _*_, _≤_, _<_}
+-- What a row of the table has to show.
+use Prim.Native.Nat.{ℕ, _+_, _≤_, _<_}
 use mathlib.Core.Path.{_≡_, refl, sym, ap, subst, fun-ext, _∙_}
-use mathlib.Core.Bool.{Bool, true, false}
+use mathlib.Core.Bool.{true, false}
 use mathlib.Core.List.{List, [], _∷_}
 use mathlib.Core.Logic.{_≢_}
-use native.Mathlib.Decide.{ℕ-discrete, decLe}
+use native.Mathlib.Decide.{ℕ-discrete}
 use native.Mathlib.Omega.{arith}
-use lib.Dec.{ltb, eqb, eqb-refl, eqb→eq, T}
+use lib.Dec.{ltb, eqb}
 use lib.IntN.{ℤ}
 use lib.ListN.{length, set, length-set}
 use lib.Seq.{getD-set-same, getD-set-other}
 use borrow.Author.Tests.{eq-eqb, ne-eqb}
 use Rattle.hub.specs.declared.answers.Answer.{Answer}
-use Rattle.hub.specs.declared.moves.Change.{Change}
 use Rattle.hub.specs.declared.moves.Move.{Move}
-use Rattle.hub.specs.declared.moves.Move.the-variants.{Refuse, Act, Wake}
+use Rattle.hub.specs.declared.moves.Move.the-variants.{Refuse, Act, Put, Wake}
 use Rattle.hub.specs.declared.moves.Op.{Op}
+use Rattle.hub.specs.declared.record.Figures.{Figures}
+use Rattle.hub.specs.declared.record.PartySlot.{PartySlot}
 use Rattle.hub.specs.declared.record.Phase.{Phase}
 use Rattle.hub.specs.declared.record.Place.{Place}
+use Rattle.hub.specs.declared.record.PlaceSlot.{PlaceSlot}
 use Rattle.hub.specs.Answers.{printed}
+use Rattle.hub.specs.Basics.{weight}
 use Rattle.hub.specs.Demand3.{AllBelow}
-use Rattle.hub.specs.Fits.{isListed}
 use Rattle.hub.specs.Ledger.{phaseIn, phaseAfter, phasesAfter, counterAfter, servedAfter}
 use Rattle.hub.specs.Ledger.{gives, takes, leaves, clears, marksRefused, meetsRefused}
-use Rattle.hub.specs.Phases.{isOneOf, isPlace}
-use Rattle.hub.specs.Queue.{Queue, write, changed}
-use Rattle.hub.specs.Record.{MAX-BEGUN}
+use Rattle.hub.specs.Queue.{Queue, phases, places, write, acted, placed, woken}
+use Rattle.hub.specs.Record.{writeSlot}
 use Rattle.hub.proofs.Laws.Bools.{if-true, if-false}
-use Rattle.hub.proofs.Laws.Lists.{weight-set, weight-one, weight-all, weight-le}
+use Rattle.hub.proofs.Laws.Lists.{weight-set}
 use Rattle.hub.proofs.Laws.Ranges.{sum-set}
-use Rattle.hub.proofs.Invariant.Weights.{same-self, lt-le, lt-pos}
-use Rattle.hub.proofs.Invariant.Weights.{holding, drawing, suspending, own, hand, stand, stage}
-use Rattle.hub.proofs.Invariant.Weights.{permitCell, refusedCell, served, sum, cellSum}
-use Rattle.hub.proofs.Invariant.Weights.{TICKETS, pick, stage-own, suspending-drawing}
-use Rattle.hub.proofs.Invariant.Keep.{Inv, AtIn, Shift, LocalIn, BesideIn, Names, keep}
+use Rattle.hub.proofs.Laws.Slots.{write-phase}
+use Rattle.hub.proofs.Laws.Table.{isListed}
+use Rattle.hub.proofs.Invariant.Weights.{holding, drawing, stand, stand-le, permitCell}
+use Rattle.hub.proofs.Invariant.Weights.{refusedCell, sum, cellSum, TICKETS}
+use Rattle.hub.proofs.Invariant.Tickets.{Names, inside}
+use Rattle.hub.proofs.Invariant.Keep.{Inv, ShiftIn, LocalIn, BesideIn, keep}
 
 -- A cell read after one was written.
-pub write-same : (g : ℕ → Place) (t : ℕ) (a : Place) → write g t a t ≡ a
+pub write-same : (g : ℕ → PlaceSlot) (t : ℕ) (a : PlaceSlot) → write g t a t ≡ a
 unfolding write
 write-same g t a = if-true (eqb t t) a (g t) (eq-eqb t t refl)
 
-pub write-other : (g : ℕ → Place) (t : ℕ) (a : Place) (u : ℕ) → u ≢ t → write g t a u ≡ g u
+pub write-other : (g : ℕ → PlaceSlot) (t : ℕ) (a : PlaceSlot) (u : ℕ) → u ≢ t
+    → write g t a u ≡ g u
 unfolding write
 write-other g t a u d = if-false (eqb u t) a (g u) (ne-eqb u t d)
 
-pub write-twice : (g : ℕ → Place) (t : ℕ) (b a : Place) → write (write g t b) t a ≡ write g t a
+pub write-twice : (g : ℕ → PlaceSlot) (t : ℕ) (b a : PlaceSlot)
+    → write (write g t b) t a ≡ write g t a
 write-twice g t b a = fun-ext (λ u. go u (ℕ-discrete u t))
   where
     go : (u : ℕ) → Dec (u ≡ t) → write (write g t b) t a u ≡ write g t a u
@@ -64,29 +68,32 @@ isAcquire Op.Release = 0
 
 pub record Reports (o : Op) (p : ℕ) (r : Answer) (m m′ : Queue) : Type 0 where
   pub success : ltb (printed r .code) 0x20 ≡ false
-  pub phases : m′ .phases ≡ phasesAfter o p (printed r) (m .phases)
+  pub moved : phases m′ ≡ phasesAfter o p (printed r) (phases m)
   pub held : sum holding m′ + takes (printed r .code) ≡ sum holding m + gives (printed r .code)
   pub permits : cellSum permitCell m′ + clears (printed r .code)
       ≡ cellSum permitCell m + leaves (printed r .code)
   pub refusals : cellSum refusedCell m′ + meetsRefused (printed r .code)
       ≡ cellSum refusedCell m + marksRefused (printed r .code)
-  pub counter : m′ .counter ≡ counterAfter (printed r .code) (m .counter)
-  pub resumed : m .resumed ≤ m′ .resumed
-  pub begins : m′ .begun ≡ m .begun + isAcquire o
-  pub room : m′ .issued + sum drawing m′ + m .begun ≤ m .issued + sum drawing m + m′ .begun
-  pub serves : (xs : List ℕ) → AllBelow (m .resumed) xs
-      → AllBelow (m′ .resumed) (servedAfter p (printed r) (m .phases) xs)
+  pub counter : m′ .figures .counter ≡ counterAfter (printed r .code) (m .figures .counter)
+  pub resumed : m .figures .resumed ≤ m′ .figures .resumed
+  pub begins : m′ .figures .begun ≡ m .figures .begun + isAcquire o
+  pub room : m′ .figures .issued + sum drawing m′ + m .figures .begun
+      ≤ m .figures .issued + sum drawing m + m′ .figures .begun
+  pub serves : (xs : List ℕ) → AllBelow (m .figures .resumed) xs
+      → AllBelow (m′ .figures .resumed) (servedAfter p (printed r) (phases m) xs)
 
 pub record Next (k : ℕ) (o : Op) (p : ℕ) (r : Answer) (m m′ : Queue) : Type 0 where
   pub inv : Inv k m′
+  pub permits : m′ .figures .permits ≡ m .figures .permits
   pub reports : Reports o p r m m′
 
 -- A good move, before the tidying: no refusal by 1, and otherwise the above.
 abbrev pub Good : ℕ → Op → ℕ → Queue → Phase → Move → Type 0
 Good k o p m f (Refuse r) = isListed (Refuse r) ≡ true
-Good k o p m f (Act c) = Next k o p (c .answer) m (changed m (m .phases) p f c)
-Good k o p m f (Wake q c) =
-    Next k o p (c .answer) m (changed m (set (m .phases) q Phase.Holding) p f c)
+Good k o p m f (Act c) = Next k o p (c .answer) m (acted m p c)
+Good k o p m f (Put a c) = Next k o p (c .answer) m (acted (placed m f a) p c)
+Good k o p m f (Wake q s a c) =
+    Next k o p (c .answer) m (acted (placed (woken m q s) f a) p c)
 
 -- What a row's answer owes to the ledger: phase f to x, cell b to a, begun g to g′.
 pub record Says (o : Op) (f x : Phase) (b a : Place) (r : Answer) (g g′ : ℕ) : Type 0 where
@@ -96,149 +103,108 @@ pub record Says (o : Op) (f x : Phase) (b a : Place) (r : Answer) (g g′ : ℕ)
   pub refusals : refusedCell a + meetsRefused (printed r .code)
       ≡ refusedCell b + marksRefused (printed r .code)
 
--- A queue with one phase, the cells and the counts set.
-abbrev pub set-in : Queue → ℕ → Phase → (ℕ → Place) → ℤ → ℕ → ℕ → ℕ → Queue
-set-in m p x g c n d b =
-    record {
-      parties = m .parties;
-      counter = c;
-      issued = n;
-      resumed = d;
-      begun = b;
-      cells = g;
-      phases = set (m .phases) p x;
-    }
+-- A queue with one slot, the cells and the figures set.
+abbrev pub set-in : Queue → ℕ → PartySlot → (ℕ → PlaceSlot) → Figures → Queue
+set-in m p s g h = record { figures = h; cells = g; slots = writeSlot (m .slots) p s }
 
-module _ (m : Queue) (p : ℕ) (f x : Phase) (t : ℕ) (i : p < length (m .phases))
-    (e : phaseIn (m .phases) p ≡ f) where
-  pub shift-place : (b a : Place) (c : ℤ) (n d g : ℕ) → m .cells t ≡ b → t < TICKETS
-      → Shift m (set-in m p x (write (m .cells) t a) c n d g) p f x t b a
-  shift-place b a c n d g e′ j =
+module _ (m : Queue) (p : ℕ) (f : Phase) (s : PartySlot) (t : ℕ) (i : p < length (phases m))
+    (e : phaseIn (phases m) p ≡ f) where
+  -- everybody's phase then
+  set-phases : phases (set-in m p s (m .cells) (m .figures)) ≡ set (phases m) p (s .phase)
+  set-phases = write-phase (m .slots) p s
+
+  pub shift-place : (b : Place) (a : PlaceSlot) (h : Figures) → places m t ≡ b → t < TICKETS
+      → ShiftIn m (set-in m p s (write (m .cells) t a) h) p f (s .phase) t b (a .place)
+  shift-place b a h e′ j =
       record {
-        size = simp length-set;
-        parties = refl;
+        size = ap length set-phases ∙ simp length-set;
         was = e;
-        now = getD-set-same (m .phases) p x Phase.Free i;
-        others = λ q y. getD-set-other (m .phases) p q x Phase.Free y;
-        sums = λ w. omega (arith, weight-set w (m .phases) p x Phase.Free i, ap w e);
+        now =
+            ap (λ (l : List Phase). phaseIn l p) set-phases
+            ∙ getD-set-same (phases m) p (s .phase) Phase.Free i;
+        others = λ q y.
+            ap (λ (l : List Phase). phaseIn l q) set-phases
+            ∙ getD-set-other (phases m) p q (s .phase) Phase.Free y;
+        sums = λ w.
+            subst
+            (λ (l : List Phase). weight w l + w f ≡ weight w (phases m) + w (s .phase))
+            (sym set-phases)
+            (omega (arith, weight-set w (phases m) p (s .phase) Phase.Free i, ap w e));
         cellWas = e′;
-        cellNow = write-same (m .cells) t a;
-        cellOthers = λ u y. write-other (m .cells) t a u y;
+        cellNow = ap (λ (c : PlaceSlot). c .place) (write-same (m .cells) t a);
+        cellOthers = λ u y. ap (λ (c : PlaceSlot). c .place) (write-other (m .cells) t a u y);
         cellSums = λ w.
             omega (
               arith,
-              sum-set (λ u. w (m .cells u)) (λ u. w (write (m .cells) t a u)) 0 TICKETS t
-                  (omega arith) (omega arith) (λ u y. ap w (sym (write-other (m .cells) t a u y))),
+              sum-set (λ u. w (places m u)) (λ u. w (write (m .cells) t a u .place)) 0 TICKETS t
+                  (omega arith) (omega arith)
+                  (λ u y. ap (λ (c : PlaceSlot). w (c .place)) (sym (write-other (m .cells) t a u y))),
               ap w e′,
-              ap w (write-same (m .cells) t a),
+              ap (λ (c : PlaceSlot). w (c .place)) (write-same (m .cells) t a),
             );
       }
 
-  pub shift-phase : (b : Place) (c : ℤ) (n d g : ℕ) → m .cells t ≡ b
-      → Shift m (set-in m p x (m .cells) c n d g) p f x t b b
-  shift-phase b c n d g e′ =
+  pub shift-phase : (b : Place) (h : Figures) → places m t ≡ b
+      → ShiftIn m (set-in m p s (m .cells) h) p f (s .phase) t b b
+  shift-phase b h e′ =
       record {
-        size = simp length-set;
-        parties = refl;
+        size = ap length set-phases ∙ simp length-set;
         was = e;
-        now = getD-set-same (m .phases) p x Phase.Free i;
-        others = λ q y. getD-set-other (m .phases) p q x Phase.Free y;
-        sums = λ w. omega (arith, weight-set w (m .phases) p x Phase.Free i, ap w e);
+        now =
+            ap (λ (l : List Phase). phaseIn l p) set-phases
+            ∙ getD-set-same (phases m) p (s .phase) Phase.Free i;
+        others = λ q y.
+            ap (λ (l : List Phase). phaseIn l q) set-phases
+            ∙ getD-set-other (phases m) p q (s .phase) Phase.Free y;
+        sums = λ w.
+            subst
+            (λ (l : List Phase). weight w l + w f ≡ weight w (phases m) + w (s .phase))
+            (sym set-phases)
+            (omega (arith, weight-set w (phases m) p (s .phase) Phase.Free i, ap w e));
         cellWas = e′;
         cellNow = e′;
         cellOthers = λ u y. refl;
         cellSums = λ w. refl;
       }
 
--- What a row may use.
-module _ (k : ℕ) (m : Queue) (inv : Inv k m) where
-  pub one-in : (w : Phase → ℕ) (q : ℕ) (f : Phase) → w Phase.Free ≡ 0
-      → phaseIn (m .phases) q ≡ f → w f ≤ sum w m
-  one-in w q f z e = omega (arith, weight-one w Phase.Free z (m .phases) q, ap w e)
-
-  pub owner-below : (q t : ℕ) (f : Phase) → phaseIn (m .phases) q ≡ f → 1 ≤ own t f
-      → t < m .issued
-  unfolding pick isOneOf
-  owner-below q t f e o =
-      lt-pos t (m .issued) (omega (arith, one-in (own t) q f refl e, inv .at t .owned))
-
-  pub hand-below : (q t : ℕ) → phaseIn (m .phases) q ≡ Phase.ResumingAt t → t < m .resumed
-  unfolding pick isOneOf
-  hand-below q t e =
-      lt-pos t (m .resumed)
-      (omega (
-        arith,
-        one-in (hand t) q (Phase.ResumingAt t) refl e,
-        same-self t,
-        inv .at t .handed,
-      ))
-
-  pub permit-below : (t : ℕ) → m .cells t ≡ Place.Permit → t < m .resumed
-  unfolding isPlace
-  permit-below t e = lt-pos t (m .resumed) (omega (arith, inv .at t .handed, ap served e))
-
-  pub drawing-most : sum suspending m ≤ sum drawing m
-  drawing-most =
-      weight-le suspending drawing Phase.Free (m .phases)
-      (λ i l. suspending-drawing (phaseIn (m .phases) i))
-
-  -- Tickets drawn, and drawn to resume, are few.
-  pub near : (m .issued ≤ MAX-BEGUN) × (m .resumed ≤ MAX-BEGUN)
-  near = omega (arith, inv .drawn, inv .begun, inv .line, drawing-most)
-
-  -- The one owner's stage is all there is of the stage.
-  pub exact : (q t : ℕ) (f : Phase) → phaseIn (m .phases) q ≡ f → 1 ≤ own t f
-      → sum (stage t) m ≡ stage t f
-  unfolding pick isOneOf
-  exact q t f e o =
-      weight-all (stage t) (own t) Phase.Free (stage-own t) refl (m .phases) q
-      (omega (arith, inv .at t .owned, lt-le t (m .issued))) (omega (arith, ap (own t) e))
-      ∙ ap (stage t) e
-
-  -- Whoever is not free is one of the parties.
-  pub party-in : (q : ℕ) (f : Phase) → phaseIn (m .phases) q ≡ f → (f ≡ Phase.Free → ⊥)
-      → q < m .parties
-  party-in q f e y = go (decLe (suc q) (m .parties))
-    where
-      go : Dec (suc q ≤ m .parties) → q < m .parties
-      go (yes z) = z
-      go (no z) = absurd (y (sym e ∙ inv .beyond q (omega arith)))
-
 -- A party's row on the cell of one ticket, and on none.
-module _ (k : ℕ) (m : Queue) (p : ℕ) (l : p < m .parties) (inv : Inv k m) where
-  pub inside : (q : ℕ) → q < m .parties → q < length (m .phases)
-  inside q j = omega (arith, inv .few, inv .size)
-
+module _ (k : ℕ) (m : Queue) (p : ℕ) (l : p < m .figures .parties) (inv : Inv k m) where
   -- What the answer tells of the phases and of the counter.
   abbrev pub Tells : Op → Phase → Phase → Answer → ℤ → Type 0
   Tells o f x r c =
-      (phasesAfter o p (printed r) (m .phases)
-      ≡ set (m .phases) p (phaseAfter o (phaseIn (m .phases) p) (printed r)))
+      (phasesAfter o p (printed r) (phases m)
+      ≡ set (phases m) p (phaseAfter o (phaseIn (phases m) p) (printed r)))
       × (phaseAfter o f (printed r) ≡ x)
-      × (c ≡ counterAfter (printed r .code) (m .counter))
+      × (c ≡ counterAfter (printed r .code) (m .figures .counter))
       × (ltb (printed r .code) 0x20 ≡ false)
 
   abbrev pub Serves : ℕ → Answer → Type 0
   Serves d r =
-      (xs : List ℕ) → AllBelow (m .resumed) xs
-      → AllBelow d (servedAfter p (printed r) (m .phases) xs)
+      (xs : List ℕ) → AllBelow (m .figures .resumed) xs
+      → AllBelow d (servedAfter p (printed r) (phases m) xs)
+
+  -- K and n stay.
+  abbrev pub Stays : Figures → Type 0
+  Stays h = (h .permits ≡ m .figures .permits) × (h .parties ≡ m .figures .parties)
 
   row : {o : Op} {f x : Phase} {t : ℕ} {b a : Place} (m′ : Queue) (r : Answer)
-      → Shift m m′ p f x t b a → m′ .phases ≡ set (m .phases) p x
-      → LocalIn m m′ f x t b a → BesideIn m m′ f x t → Names p t x b a
-      → Says o f x b a r (m .begun) (m′ .begun) → Tells o f x r (m′ .counter)
-      → Serves (m′ .resumed) r → Next k o p r m m′
-  row {o} {f} {x} {t} {b} {a} m′ r sh ps lo be nm sa te sv =
+      → ShiftIn m m′ p f x t b a → phases m′ ≡ set (phases m) p x → Stays (m′ .figures)
+      → LocalIn m (m′ .figures) f x t b a → BesideIn m (m′ .figures) f x t → Names p t x b a
+      → Says o f x b a r (m .figures .begun) (m′ .figures .begun)
+      → Tells o f x r (m′ .figures .counter)
+      → Serves (m′ .figures .resumed) r → Next k o p r m m′
+  row {o} {f} {x} {t} {b} {a} m′ r sh ps st lo be nm sa te sv =
       record {
-        inv = keep k m m′ p f x t b a inv sh lo be nm l;
+        inv = keep k m m′ p f x t b a inv sh lo be nm l (st .1);
+        permits = st .0;
         reports =
             record {
               success = te .3;
-              phases =
+              moved =
                   ps
                   ∙ sym (te .0
-                  ∙ ap (λ g. set (m .phases) p (phaseAfter o g (printed r))) (sh .was)
-                  ∙ ap (λ g. set (m .phases) p g) (te .1));
+                  ∙ ap (λ g. set (phases m) p (phaseAfter o g (printed r))) (sh .was)
+                  ∙ ap (λ g. set (phases m) p g) (te .1));
               held = omega (arith, sh .sums holding, sa .held);
               permits = omega (arith, sh .cellSums permitCell, sa .permits);
               refusals = omega (arith, sh .cellSums refusedCell, sa .refusals);
@@ -250,46 +216,48 @@ module _ (k : ℕ) (m : Queue) (p : ℕ) (l : p < m .parties) (inv : Inv k m) wh
             };
       }
 
-  -- On the cell of ticket t; the counts but the counter stay.
-  pub place-row : {o : Op} {f x : Phase} {b a : Place} {c : ℤ} {r : Answer} (t : ℕ)
-      → phaseIn (m .phases) p ≡ f → m .cells t ≡ b → t < TICKETS
-      → let m′ = set-in m p x (write (m .cells) t a) c (m .issued) (m .resumed) (m .begun) in
-      LocalIn m m′ f x t b a → BesideIn m m′ f x t → Names p t x b a
-      → Says o f x b a r (m .begun) (m .begun) → Tells o f x r c → Serves (m .resumed) r
-      → Next k o p r m m′
-  place-row {o} {f} {x} {b} {a} {c} {r} t e e′ j lo be nm sa te sv =
-      row _ r
-      (shift-place m p f x t (inside p l) e b a c (m .issued) (m .resumed) (m .begun) e′ j)
-      refl lo be nm sa te sv
+  -- On the cell of ticket t; the figures stay.
+  pub place-row : {o : Op} {f : Phase} {s : PartySlot} {b : Place} {a : PlaceSlot} {r : Answer} (t : ℕ)
+      → phaseIn (phases m) p ≡ f → places m t ≡ b → t < TICKETS
+      → LocalIn m (m .figures) f (s .phase) t b (a .place)
+      → BesideIn m (m .figures) f (s .phase) t → Names p t (s .phase) b (a .place)
+      → Says o f (s .phase) b (a .place) r (m .figures .begun) (m .figures .begun)
+      → Tells o f (s .phase) r (m .figures .counter) → Serves (m .figures .resumed) r
+      → Next k o p r m (set-in m p s (write (m .cells) t a) (m .figures))
+  place-row {o} {f} {s} {b} {a} {r} t e e′ j lo be nm sa te sv =
+      row _ r (shift-place m p f s t (inside (inv .tickets) p l) e b a (m .figures) e′ j)
+      (write-phase (m .slots) p s) (refl, refl) lo be nm sa te sv
 
   -- On no cell. The ticket t is one that the row says something of.
-  pub phase-row : {o : Op} {f x : Phase} {c : ℤ} {n d g : ℕ} {r : Answer} (t : ℕ)
-      → phaseIn (m .phases) p ≡ f → stand t f ≡ 0
-      → let m′ = set-in m p x (m .cells) c n d g in
-      LocalIn m m′ f x t (m .cells t) (m .cells t) → BesideIn m m′ f x t
-      → Says o f x (m .cells t) (m .cells t) r (m .begun) g → Tells o f x r c → Serves d r
-      → Next k o p r m m′
-  phase-row {o} {f} {x} {c} {n} {d} {g} {r} t e z lo be sa te sv =
-      row _ r (shift-phase m p f x t (inside p l) e (m .cells t) c n d g refl) refl lo be
-      (kept (m .cells t) refl) sa te sv
+  pub phase-row : {o : Op} {f : Phase} {s : PartySlot} {h : Figures} {r : Answer} (t : ℕ)
+      → phaseIn (phases m) p ≡ f → Stays h
+      → LocalIn m h f (s .phase) t (places m t) (places m t) → BesideIn m h f (s .phase) t
+      → Names p t (s .phase) (places m t) (places m t)
+      → Says o f (s .phase) (places m t) (places m t) r (m .figures .begun) (h .begun)
+      → Tells o f (s .phase) r (h .counter) → Serves (h .resumed) r
+      → Next k o p r m (set-in m p s (m .cells) h)
+  phase-row {o} {f} {s} {h} {r} t e st lo be nm sa te sv =
+      row _ r (shift-phase m p f s t (inside (inv .tickets) p l) e (places m t) h refl)
+      (write-phase (m .slots) p s) st lo be nm sa te sv
+
+  -- A cell that the row leaves alone: its party stands there as before, or this one still does.
+  pub names-kept : (t : ℕ) (f x : Phase) → phaseIn (phases m) p ≡ f → stand t f ≤ stand t x
+      → Names p t x (places m t) (places m t)
+  names-kept t f x e z = kept (places m t) refl
     where
-      kept : (a : Place) → m .cells t ≡ a → Names p t x a a
+      kept : (a : Place) → places m t ≡ a → Names p t x a a
       kept Place.Empty i = tt
       kept (Place.Waiting q) i = (
-        λ y. omega (arith, inv .named t q i, ap (stand t) (ap (phaseIn (m .phases)) y ∙ e)),
-        λ y. refl,
+        λ w.
+            omega (
+              arith,
+              inv .tickets .named t q i,
+              ap (stand t) (ap (phaseIn (phases m)) w ∙ e),
+              stand-le t x,
+            ),
+        λ w. refl,
       )
       kept Place.Permit i = tt
       kept Place.Cancelled i = tt
       kept Place.Refused i = tt
       kept Place.Done i = tt
-
-  -- What is known of a ticket that the party owns, and of its cell.
-  pub mine : (t : ℕ) (f : Phase) → phaseIn (m .phases) p ≡ f → 1 ≤ own t f
-      → (sum (stage t) m ≡ stage t f) × (t < m .issued) × (t < TICKETS)
-  mine t f e o =
-      let b = owner-below k m inv p t f e o in
-      (exact k m inv p t f e o, b, omega (arith, b, near k m inv))
-
-  pub here : (t : ℕ) (b : Place) → m .cells t ≡ b → AtIn m t b
-  here t b e = subst (AtIn m t) e (inv .at t)

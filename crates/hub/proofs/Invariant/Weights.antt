@@ -11,7 +11,7 @@ use borrow.Author.Tests.{eqb-true}
 use lib.Dec.{eqb}
 use lib.IntN.{ℤ, pos, negsuc, sucℤ, predℤ}
 use Rattle.hub.specs.declared.record.Phase.{Phase}
-use Rattle.hub.specs.declared.record.Phase.the-variants.{Free, Holding, Waiting, Acquiring}
+use Rattle.hub.specs.declared.record.Phase.the-variants.{Holding, Waiting, Acquiring}
 use Rattle.hub.specs.declared.record.Phase.the-variants.{Suspending, Ticketed, Aborting}
 use Rattle.hub.specs.declared.record.Phase.the-variants.{Cancelling, Refusing, Releasing}
 use Rattle.hub.specs.declared.record.Phase.the-variants.{Resuming, ResumingAt}
@@ -19,11 +19,12 @@ use Rattle.hub.specs.declared.record.Place.{Place}
 use Rattle.hub.specs.declared.record.Place.the-variants.{Empty, Waiting as WaitedBy, Permit}
 use Rattle.hub.specs.declared.record.Place.the-variants.{Cancelled, Refused, Done}
 use Rattle.hub.specs.Basics.{among, bit, count, weight}
-use Rattle.hub.specs.Phases.{byWaiter, isOneOf, rank, ticketOf}
+use Rattle.hub.specs.Phases.{byWaiter, isOneOf, isWaiting, rank, ticketOf}
 use Rattle.hub.specs.Phases.{isPermit, isCancelled, isRefused, isDone}
-use Rattle.hub.specs.Queue.{Queue}
+use Rattle.hub.specs.Queue.{Queue, phases, places}
 use Rattle.hub.specs.Table.{aboveZero, belowZero}
 use Rattle.hub.proofs.Laws.Lists.{weight-same}
+use Rattle.hub.proofs.Laws.Phases.{every-phase, every-place, ticketed}
 use Rattle.hub.proofs.Laws.Ranges.{sumFrom}
 
 -- 1 where two numbers are the same; 1 where the first is below the second. Both by differences,
@@ -199,9 +200,15 @@ suspending = pick (Suspending ∷ []) one
 abbrev pub live : Phase → ℕ
 live = pick (Ticketed 0 ∷ Waiting 0 ∷ Aborting 0 ∷ []) one
 
--- Owed a ticket to resume: carrying, or about to have its own skipped.
-abbrev pub owed : Phase → ℕ
-owed = pick (Cancelling 0 ∷ Resuming ∷ []) one
+-- Handing: with a ticket to resume; carrying: without. About to have its own ticket skipped.
+abbrev pub handing : Phase → ℕ
+handing = pick (ResumingAt 0 ∷ []) one
+
+abbrev pub carrying : Phase → ℕ
+carrying = pick (Resuming ∷ []) one
+
+abbrev pub cancelling : Phase → ℕ
+cancelling = pick (Cancelling 0 ∷ []) one
 
 -- Of ticket t: its owner, its hand, who stands at its place, who refuses it.
 abbrev pub own : ℕ → Phase → ℕ
@@ -251,15 +258,18 @@ least = byWaiter 0 (λ q. 2)
 abbrev pub most : Place → ℕ
 most = elim [ Empty ↦ 1 | WaitedBy q ↦ 3 | Permit ↦ 2 | Cancelled ↦ 0 | Refused ↦ 0 | Done ↦ 0 ]
 
--- The sums over the parties, and over the cells of all tickets there can be.
-abbrev pub sum : (Phase → ℕ) → Queue → ℕ
-sum w m = weight w (m .phases)
-
+-- The sum over the cells of all tickets there can be. The sums of a queue.
 abbrev pub TICKETS : ℕ
 TICKETS = 2000000
 
+abbrev pub total : (Place → ℕ) → (ℕ → Place) → ℕ
+total w g = sumFrom (λ t. w (g t)) 0 TICKETS
+
+abbrev pub sum : (Phase → ℕ) → Queue → ℕ
+sum w m = weight w (phases m)
+
 abbrev pub cellSum : (Place → ℕ) → Queue → ℕ
-cellSum w m = sumFrom (λ t. w (m .cells t)) 0 TICKETS
+cellSum w m = total w (places m)
 
 -- Facts of every phase.
 pub pick-one : (l : List Phase) (g : ℕ → ℕ) → ((u : ℕ) → g u ≤ 1) → (f : Phase) → pick l g f ≤ 1
@@ -282,32 +292,36 @@ refuse-own t = pick-le _ _ _ _ refl (λ u. le-refl (same u t))
 pub suspending-drawing : (f : Phase) → suspending f ≤ drawing f
 suspending-drawing = pick-le _ _ _ _ refl (λ u. le-refl 1)
 
+pub handing-resuming : (f : Phase) → handing f ≤ resuming f
+handing-resuming = pick-le _ _ _ _ refl (λ u. le-refl 1)
+
+pub carrying-resuming : (f : Phase) → carrying f + handing f ≤ resuming f
+unfolding pick isOneOf
+carrying-resuming = every-phase (λ f. carrying f + handing f ≤ resuming f) (λ t. omega arith)
+
 pub above-live : (t : ℕ) (f : Phase) → above t f ≤ live f
 above-live t = pick-le _ _ _ _ refl (λ u. lt-le t u)
 
 pub stage-own : (t : ℕ) (f : Phase) → stage t f ≤ 3 * own t f
 unfolding pick isOneOf
-stage-own t Free = omega arith
-stage-own t Holding = omega arith
-stage-own t (Waiting u) = omega arith
-stage-own t Acquiring = omega arith
-stage-own t Suspending = omega arith
-stage-own t (Ticketed u) = omega arith
-stage-own t (Aborting u) = omega arith
-stage-own t (Cancelling u) = omega arith
-stage-own t (Refusing u) = omega arith
-stage-own t Releasing = omega arith
-stage-own t Resuming = omega arith
-stage-own t (ResumingAt u) = omega arith
+stage-own t = every-phase (λ f. stage t f ≤ 3 * own t f) (λ u. omega arith)
+
+-- Whoever has a ticket owns it or hands it.
+pub has-ticket : (f : Phase) → own (ticketOf f) f + hand (ticketOf f) f ≡ bit (ticketed f)
+unfolding pick isOneOf
+has-ticket =
+    every-phase (λ f. own (ticketOf f) f + hand (ticketOf f) f ≡ bit (ticketed f))
+    (λ t. omega (arith, same-self t))
+
+-- Whoever has given up is at stage 2.
+pub stage-waiting : (t : ℕ) (f : Phase) → stage t f ≤ 2 + bit (isWaiting f)
+unfolding pick isOneOf
+stage-waiting t =
+    every-phase (λ f. stage t f ≤ 2 + bit (isWaiting f)) (λ u. omega (arith, same-le u t))
 
 -- And of every cell.
 pub refused-spent : (a : Place) → refusedCell a ≤ spent a
 refused-spent a = omega arith
 
 pub least-le : (a : Place) → least a ≤ 2
-least-le Empty = omega arith
-least-le (WaitedBy q) = omega arith
-least-le Permit = omega arith
-least-le Cancelled = omega arith
-least-le Refused = omega arith
-least-le Done = omega arith
+least-le = every-place (λ a. least a ≤ 2) (λ q. omega arith)

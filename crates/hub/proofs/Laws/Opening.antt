@@ -1,25 +1,26 @@
 -- What an opening answers, from its two tests.
-use Prim.Native.Nat.{ℕ}
 use mathlib.Core.Path.{_≡_, refl}
 use mathlib.Core.Bool.{Bool, true, false}
 use Rattle.hub.specs.declared.answers.Answer.{Answer}
 use Rattle.hub.specs.declared.answers.Refusal.{Refusal}
 use Rattle.hub.specs.declared.moves.Call.{Call}
+use Rattle.hub.specs.declared.opening.Opening.{Opening}
+use Rattle.hub.specs.Basics.{allOf}
 use Rattle.hub.specs.Calls.{called, checked, apply}
-use Rattle.hub.specs.Fits.{fits, countsFit}
+use Rattle.hub.specs.Fits.{fits, figuresFit}
 use Rattle.hub.specs.Opening.{fresh, notOpened, openingIf}
 
-module _ (a b : Bool) (k n : ℕ) where
-  pub refused-2 : a ≡ false → openingIf a b k n ≡ notOpened Refusal.BadPermits
+module _ (a b : Bool) (o : Opening) where
+  pub refused-2 : a ≡ false → openingIf a b o ≡ notOpened Refusal.BadPermits
   unfolding openingIf
   refused-2 e = rw e
 
-  pub refused-3 : a ≡ true → b ≡ false → openingIf a b k n ≡ notOpened Refusal.BadParties
+  pub refused-3 : a ≡ true → b ≡ false → openingIf a b o ≡ notOpened Refusal.BadParties
   unfolding openingIf
   refused-3 e f = rw (e, f)
 
   pub accepted : a ≡ true → b ≡ true
-      → openingIf a b k n ≡ record { answer = Answer.Opened; hub = fresh k n }
+      → openingIf a b o ≡ record { answer = Answer.Opened; hub = fresh o }
   unfolding openingIf
   accepted e f = rw (e, f)
 
@@ -27,5 +28,5 @@ module _ (a b : Bool) (k n : ℕ) where
 pub never-opened : (r : Refusal) (c : Call)
     → called (notOpened r .hub) c
     ≡ record { answer = Answer.Refused Refusal.Unfit; hub = notOpened r .hub }
-unfolding fresh fits countsFit checked apply
+unfolding fresh fits figuresFit allOf checked apply
 never-opened r c = refl

@@ -6,15 +6,15 @@ use lib.ListN.{set, List·getD-map}
 use Rattle.hub.specs.declared.record.Phase.{Phase}
 use Rattle.hub.specs.declared.record.PartySlot.{PartySlot}
 use Rattle.hub.specs.Ledger.{phaseIn}
-use Rattle.hub.specs.Record.{readPhase, writePhase, phasesOf}
+use Rattle.hub.specs.Record.{freeSlot, readSlot, writeSlot, phasesOf}
 
-pub read-phase : (l : List PartySlot) (p : ℕ) → readPhase l p ≡ phaseIn (phasesOf l) p
-unfolding readPhase
-read-phase l p = sym (List·getD-map (λ (s : PartySlot). s .phase) l p (record { phase = Phase.Free }))
+pub read-phase : (l : List PartySlot) (p : ℕ) → readSlot l p .phase ≡ phaseIn (phasesOf l) p
+unfolding readSlot
+read-phase l p = sym (List·getD-map (λ (s : PartySlot). s .phase) l p freeSlot)
 
-pub write-phase : (l : List PartySlot) (p : ℕ) (f : Phase)
-    → phasesOf (writePhase l p f) ≡ set (phasesOf l) p f
-unfolding writePhase
-write-phase [] p f = refl
-write-phase (s ∷ l) zero f = refl
-write-phase (s ∷ l) (suc p) f = ap (λ (r : List Phase). s .phase ∷ r) (write-phase l p f)
+pub write-phase : (l : List PartySlot) (p : ℕ) (s : PartySlot)
+    → phasesOf (writeSlot l p s) ≡ set (phasesOf l) p (s .phase)
+unfolding writeSlot
+write-phase [] p s = refl
+write-phase (x ∷ l) zero s = refl
+write-phase (x ∷ l) (suc p) s = ap (λ (r : List Phase). x .phase ∷ r) (write-phase l p s)

@@ -1,40 +1,42 @@
 -- Call by call: the hub does what the queue does, but for the asks that it answers 7.
 use Prim.Native.Nat.{ℕ, zero, suc, _+_, _≤_, _<_}
-use mathlib.Core.Path.{_≡_, refl, sym, ap, ap₂, subst, _∙_}
-use mathlib.Core.Bool.{Bool, true, false, cond}
+use mathlib.Core.Path.{_≡_, refl, sym, ap, subst, _∙_}
+use mathlib.Core.Bool.{Bool, true, false}
 use mathlib.Core.List.{List, [], _∷_}
 use native.Mathlib.Omega.{arith}
 use borrow.Author.Tests.{ltb-true, ltb-false, leb-false, eqb-true}
 use lib.Dec.{ltb, leb, eqb}
-use lib.ListN.{length, set}
+use lib.ListN.{length}
 use Rattle.hub.specs.declared.answers.Answer.{Answer}
 use Rattle.hub.specs.declared.answers.Refusal.{Refusal}
 use Rattle.hub.specs.declared.moves.Call.{Call}
 use Rattle.hub.specs.declared.moves.Move.{Move}
-use Rattle.hub.specs.declared.moves.Move.the-variants.{Refuse, Act, Wake}
+use Rattle.hub.specs.declared.moves.Move.the-variants.{Refuse, Act, Put, Wake}
 use Rattle.hub.specs.declared.moves.Op.{Op}
 use Rattle.hub.specs.declared.moves.Op.the-variants.{Acquire, Step, Cancel, Release}
 use Rattle.hub.specs.declared.moves.Sight.{Sight}
+use Rattle.hub.specs.declared.record.Figures.{Figures}
 use Rattle.hub.specs.declared.record.Hub.{Hub}
+use Rattle.hub.specs.declared.record.PartySlot.{PartySlot}
 use Rattle.hub.specs.declared.record.Phase.{Phase}
 use Rattle.hub.specs.Answers.{printed}
 use Rattle.hub.specs.Basics.{count}
-use Rattle.hub.specs.Calls.{isFull, checked, moveOf, changed, answerOf, apply, called}
-use Rattle.hub.specs.Fits.{fits, look, isListed}
+use Rattle.hub.specs.Calls.{isFull, checked, moveOf, answerOf, apply, tidied}
 use Rattle.hub.specs.Ledger.{phaseIn}
-use Rattle.hub.specs.Phases.{isFree, drawsTicket}
-use Rattle.hub.specs.Queue.{Queue}
+use Rattle.hub.specs.Look.{look, seenBy}
+use Rattle.hub.specs.Phases.{drawsTicket}
+use Rattle.hub.specs.Queue.{Queue, phases}
 use Rattle.hub.specs.Queue as queue
-use Rattle.hub.specs.Reclaim.{reclaimed}
-use Rattle.hub.specs.Record.{PLACES, MAX-BEGUN, writePhase, phasesOf}
+use Rattle.hub.specs.Record.{phasesOf, readSlot, writeSlot}
 use Rattle.hub.specs.Refinement.{Shows, isSeven}
+use Rattle.hub.specs.Ring.{PLACES}
 use Rattle.hub.specs.Table.{decide, acquire}
-use Rattle.hub.proofs.Laws.Slots.{write-phase}
+use Rattle.hub.proofs.Laws.Slots.{read-phase}
 use Rattle.hub.proofs.Invariant.Weights.{drawing, sum, count-pick}
 use Rattle.hub.proofs.Invariant.Rows.{Good, Next, isAcquire}
 use Rattle.hub.proofs.Invariant.Walk.{decide-good}
-use Rattle.hub.proofs.Window.Shown.{Reached, look-same, read-same}
-use Rattle.hub.proofs.Window.Moved.{changed-shows, reclaimed-reached}
+use Rattle.hub.proofs.Window.Shown.{Reached, look-same}
+use Rattle.hub.proofs.Window.Moved.{placed-window, tidied-reached}
 use Rattle.hub.proofs.Window.Reached.{reached-fits}
 
 -- What the hub's move v does beside the queue's: the same, unless it answers 7, and then nothing.
@@ -53,17 +55,24 @@ module _ (k : ℕ) (h : Hub) (m : Queue) (r : Reached k h m) (c : Call) where
   seen = queue.look m (c .party)
 
   abbrev phase : Phase
-  phase = phaseIn (m .phases) (c .party)
+  phase = seen .slot .phase
+
+  -- the party's phase is in the list of everybody's
+  own-phase : phaseIn (phases m) (c .party) ≡ phase
+  unfolding seenBy
+  own-phase = sym (read-phase (m .slots) (c .party))
 
   -- A good move, made by both, for which there is room.
-  module _ (spare : m .issued + sum drawing m + isAcquire (c .op) ≤ h .oldest + PLACES) where
+  module _ (spare : m .figures .issued + sum drawing m + isAcquire (c .op) ≤ h .oldest + PLACES) where
     moved : (a : Answer) (h′ : Hub) (m′ : Queue) → Next k (c .op) (c .party) a m m′
-        → Shows h′ m′ → length (h′ .places) ≡ PLACES → h′ .permits ≡ h .permits
-        → h′ .oldest ≡ h .oldest → Reached k (reclaimed h′) (queue.reclaimed m′)
-    moved a h′ m′ g w z i j =
-        reclaimed-reached k h′ m′
+        → Shows h′ m′ → length (h′ .places) ≡ PLACES → h′ .oldest ≡ h .oldest
+        → Reached k (tidied h′) (queue.tidied m′)
+    moved a h′ m′ g w z j =
+        tidied-reached k h′ m′
         (record {
-          permits = i ∙ r .permits;
+          permits =
+              ap (λ (f : Figures). f .permits) (w .figures) ∙ g .permits
+              ∙ sym (ap (λ (f : Figures). f .permits) (r .shows .figures)) ∙ r .permits;
           size = z;
           shows = w;
           inv = g .inv;
@@ -71,26 +80,44 @@ module _ (k : ℕ) (h : Hub) (m : Queue) (r : Reached k h m) (c : Call) where
         })
 
     apply-reached : (v : Move) → Good k (c .op) (c .party) m phase v
-        → Reached k (apply h seen v) (queue.apply m (c .party) phase v)
-    unfolding apply queue.apply
+        → Reached k (apply h seen v) (queue.apply m seen v)
+    unfolding apply queue.apply seenBy
     apply-reached (Refuse x) g = r
     apply-reached (Act x) g =
-        let q = changed-shows k h m r seen refl (h .slots) (m .phases) (r .shows .phases) x in
-        moved (x .answer) _ _ g (q .0) (q .1) refl refl
-    apply-reached (Wake w x) g =
-        let l = writePhase (h .slots) w Phase.Holding in
-        let e : phasesOf l ≡ set (m .phases) w Phase.Holding =
-        write-phase (h .slots) w Phase.Holding
-        ∙ ap (λ (y : List Phase). set y w Phase.Holding) (r .shows .phases) in
-        let q = changed-shows k h m r seen refl l (set (m .phases) w Phase.Holding) e x in
-        moved (x .answer) _ _ g (q .0) (q .1) refl refl
+        moved (x .answer) _ _ g
+        (record {
+          figures = refl;
+          slots = ap (λ (l : List PartySlot). writeSlot l (c .party) (x .slot)) (r .shows .slots);
+          window = r .shows .window;
+        })
+        (r .size) refl
+    apply-reached (Put a x) g =
+        let q = placed-window k h m r (c .party) phase own-phase a in
+        moved (x .answer) _ _ g
+        (record {
+          figures = refl;
+          slots = ap (λ (l : List PartySlot). writeSlot l (c .party) (x .slot)) (r .shows .slots);
+          window = q .0;
+        })
+        (q .1) refl
+    apply-reached (Wake w s a x) g =
+        let q = placed-window k h m r (c .party) phase own-phase a in
+        moved (x .answer) _ _ g
+        (record {
+          figures = refl;
+          slots =
+              ap (λ (l : List PartySlot). writeSlot (writeSlot l w s) (c .party) (x .slot))
+              (r .shows .slots);
+          window = q .0;
+        })
+        (q .1) refl
 
     made : (v : Move) → Good k (c .op) (c .party) m phase v → v ≡ queue.moveOf m c
         → Follows k h m c seen v
     made v g e =
         record {
           alike = λ i. (
-            subst (λ (x : Move). Reached k (apply h seen v) (queue.apply m (c .party) phase x)) e
+            subst (λ (x : Move). Reached k (apply h seen v) (queue.apply m seen x)) e
                 (apply-reached v g),
             ap answerOf e,
           );
@@ -101,14 +128,15 @@ module _ (k : ℕ) (h : Hub) (m : Queue) (r : Reached k h m) (c : Call) where
             → apply h seen v ≡ h
         still (Refuse x) g i = unfold apply in refl
         still (Act x) g i = absurd (not-seven (x .answer) (g .reports .success) i)
-        still (Wake w x) g i = absurd (not-seven (x .answer) (g .reports .success) i)
+        still (Put a x) g i = absurd (not-seven (x .answer) (g .reports .success) i)
+        still (Wake w s a x) g i = absurd (not-seven (x .answer) (g .reports .success) i)
 
   refused : (x : Refusal) → Refuse x ≡ queue.moveOf m c → Follows k h m c seen (Refuse x)
   unfolding apply queue.apply
   refused x e =
       record {
         alike = λ i. (
-          subst (λ (y : Move). Reached k h (queue.apply m (c .party) phase y)) e r,
+          subst (λ (y : Move). Reached k h (queue.apply m seen y)) e r,
           ap answerOf e,
         );
         seven = λ i. refl;
@@ -130,7 +158,10 @@ module _ (k : ℕ) (h : Hub) (m : Queue) (r : Reached k h m) (c : Call) where
   full-acquire true true e = refused Refusal.Exhausted e
   full-acquire true false e = seventh
 
-  decided : (b : Bool) (o : Op) → isFull h ≡ b → c .op ≡ o
+  abbrev full : Bool
+  full = isFull (h .oldest) (h .figures .issued) (h .slots)
+
+  decided : (b : Bool) (o : Op) → full ≡ b → c .op ≡ o
       → Good k (c .op) (c .party) m phase (decide o false seen)
       → decide o false seen ≡ queue.moveOf m c → Follows k h m c seen (decide o b seen)
   unfolding decide
@@ -138,10 +169,11 @@ module _ (k : ℕ) (h : Hub) (m : Queue) (r : Reached k h m) (c : Call) where
       made
       (omega (
         arith,
-        leb-false (h .oldest + PLACES) (h .issued + count drawsTicket (phasesOf (h .slots))) f,
-        r .shows .issued,
-        ap (λ (l : List Phase). count drawsTicket l) (r .shows .phases),
-        count-pick (Phase.Acquiring ∷ Phase.Suspending ∷ []) (m .phases),
+        leb-false (h .oldest + PLACES)
+            (h .figures .issued + count drawsTicket (phasesOf (h .slots))) f,
+        ap (λ (g : Figures). g .issued) (r .shows .figures),
+        ap (λ (l : List PartySlot). count drawsTicket (phasesOf l)) (r .shows .slots),
+        count-pick (Phase.Acquiring ∷ Phase.Suspending ∷ []) (phases m),
         at-most (c .op),
       ))
       (decide o false seen) g e
@@ -156,26 +188,26 @@ module _ (k : ℕ) (h : Hub) (m : Queue) (r : Reached k h m) (c : Call) where
   decided true Cancel f z g e = made (omega (arith, r .room, ap isAcquire z)) _ g e
   decided true Release f z g e = made (omega (arith, r .room, ap isAcquire z)) _ g e
 
-  in-turn : (b : Bool) → ltb (c .party) (m .parties) ≡ b
-      → Follows k h m c seen (checked true b (decide (c .op) (isFull h) seen))
+  in-turn : (b : Bool) → ltb (c .party) (m .figures .parties) ≡ b
+      → Follows k h m c seen (checked true b (decide (c .op) full seen))
   unfolding checked
   in-turn false e =
       refused Refusal.NoSuchParty
       (sym (ap (λ (b : Bool). checked true b (decide (c .op) false seen)) e))
   in-turn true e =
-      decided (isFull h) (c .op) refl refl
+      decided full (c .op) refl refl
       (decide-good k m (c .party) (ltb-true _ _ e) (r .inv) (c .op))
       (sym (ap (λ (b : Bool). checked true b (decide (c .op) false seen)) e))
 
   pub follows : 1 ≤ k → k ≤ 32 → Follows k h m c (look h (c .party)) (moveOf h c)
   follows a b =
       subst (λ (x : Bool). Follows k h m c (look h (c .party))
-      (checked x (ltb (c .party) (h .parties)) (decide (c .op) (isFull h) (look h (c .party)))))
+      (checked x (ltb (c .party) (h .figures .parties)) (decide (c .op) full (look h (c .party)))))
       (sym (reached-fits k h m r a b))
       (subst (λ (n : ℕ). Follows k h m c (look h (c .party))
-      (checked true (ltb (c .party) n) (decide (c .op) (isFull h) (look h (c .party)))))
-      (sym (r .shows .parties))
+      (checked true (ltb (c .party) n) (decide (c .op) full (look h (c .party)))))
+      (sym (ap (λ (f : Figures). f .parties) (r .shows .figures)))
       (subst (λ (s : Sight). Follows k h m c s
-      (checked true (ltb (c .party) (m .parties)) (decide (c .op) (isFull h) s)))
+      (checked true (ltb (c .party) (m .figures .parties)) (decide (c .op) full s)))
       (sym (look-same k h m r (c .party)))
       (in-turn _ refl)))

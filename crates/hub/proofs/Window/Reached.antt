@@ -1,44 +1,49 @@
 -- Every record that a schedule reaches fits.
-use Prim.Native.Nat.{ℕ, zero, suc, _+_, _≤_, _<_}
+use Prim.Native.Nat.{ℕ, _+_, _≤_, _<_}
 use mathlib.Core.Path.{_≡_, refl, sym, ap, subst, _∙_}
 use mathlib.Core.Bool.{Bool, true, false, cond, _&&_, _||_}
-use mathlib.Core.List.{List, [], _∷_}
+use mathlib.Core.List.{[], _∷_}
 use native.Mathlib.Omega.{arith}
 use borrow.Author.Tests.{lt-ltb, le-leb, ltb-true, ltb-false, eq-eqb}
 use lib.Dec.{ltb, leb, eqb}
 use lib.IntN.{ℤ, pos, negsuc}
 use Rattle.hub.specs.declared.moves.Move.{Move}
-use Rattle.hub.specs.declared.moves.Move.the-variants.{Refuse, Act, Wake}
+use Rattle.hub.specs.declared.moves.Move.the-variants.{Refuse, Act, Put, Wake}
 use Rattle.hub.specs.declared.moves.Op.{Op}
 use Rattle.hub.specs.declared.moves.Sight.{Sight}
+use Rattle.hub.specs.declared.record.Figures.{Figures}
 use Rattle.hub.specs.declared.record.Hub.{Hub}
 use Rattle.hub.specs.declared.record.Phase.{Phase}
-use Rattle.hub.specs.declared.record.Phase.the-variants.{Free, Holding, Waiting, Acquiring}
-use Rattle.hub.specs.declared.record.Phase.the-variants.{Suspending, Ticketed, Aborting}
-use Rattle.hub.specs.declared.record.Phase.the-variants.{Cancelling, Refusing, Releasing}
-use Rattle.hub.specs.declared.record.Phase.the-variants.{Resuming, ResumingAt}
+use Rattle.hub.specs.declared.record.Phase.the-variants.{Suspending, Resuming, ResumingAt}
 use Rattle.hub.specs.declared.record.Place.{Place}
 use Rattle.hub.specs.declared.record.Place.the-variants.{Empty, Waiting as WaitedBy, Permit}
 use Rattle.hub.specs.declared.record.Place.the-variants.{Cancelled, Refused, Done}
-use Rattle.hub.specs.Basics.{upTo32}
-use Rattle.hub.specs.Fits.{look, counterFits, countsFit, inWindow, ticketFits, isListed}
+use Rattle.hub.specs.declared.record.PlaceSlot.{PlaceSlot}
+use Rattle.hub.specs.Basics.{allOf, implies, upTo32}
+use Rattle.hub.specs.Fits.{counterFits, figuresFit, inWindow, ticketFits, placeListed}
 use Rattle.hub.specs.Fits.{partyFits, standsAt, placeFits, fits}
 use Rattle.hub.specs.Ledger.{phaseIn}
+use Rattle.hub.specs.Look.{look, seenBy}
 use Rattle.hub.specs.Phases.{byWaiter, isOneOf, isFree, isWaiting, stands, ticketOf}
-use Rattle.hub.specs.Queue.{Queue}
+use Rattle.hub.specs.Queue.{Queue, phases, places}
 use Rattle.hub.specs.Queue as queue
-use Rattle.hub.specs.Record.{PLACES, PARTIES, MAX-BEGUN, readPhase, readPlace}
-use Rattle.hub.specs.Table.{aboveZero, belowZero, step, stepOf, decide}
-use Rattle.hub.proofs.Laws.Bools.{both}
+use Rattle.hub.specs.Record.{PARTIES, MAX-BEGUN, readSlot}
+use Rattle.hub.specs.Ring.{PLACES, readPlace}
+use Rattle.hub.specs.Table.{decide, step, stepIn}
+use Rattle.hub.proofs.Laws.Bools.{both, passed, none}
 use Rattle.hub.proofs.Laws.Lists.{weight-length, weight-add}
+use Rattle.hub.proofs.Laws.Phases.{every-phase, one-of}
 use Rattle.hub.proofs.Laws.Ranges.{all-true}
-use Rattle.hub.proofs.Invariant.Weights.{same, same-self, same-eq, up, down, pick, drawing}
-use Rattle.hub.proofs.Invariant.Weights.{suspending, live, owed, own, hand, stand, sum}
-use Rattle.hub.proofs.Invariant.Keep.{Inv}
-use Rattle.hub.proofs.Invariant.Rows.{Good, one-in, owner-below, hand-below, near}
-use Rattle.hub.proofs.Invariant.Rows.{drawing-most}
+use Rattle.hub.proofs.Laws.Slots.{read-phase}
+use Rattle.hub.proofs.Laws.Table.{isListed, listed-is-tabled}
+use Rattle.hub.proofs.Invariant.Weights.{same, same-self, same-eq, up, down, pick, one, drawing}
+use Rattle.hub.proofs.Invariant.Weights.{suspending, live, carrying, own, hand, stand}
+use Rattle.hub.proofs.Invariant.Weights.{sum, has-ticket}
+use Rattle.hub.proofs.Invariant.Tickets.{one-in, owner-below, hand-below, near, drawing-most}
+use Rattle.hub.proofs.Invariant.Tickets.{carried-most}
+use Rattle.hub.proofs.Invariant.Rows.{Good}
 use Rattle.hub.proofs.Invariant.Walk.{decide-good}
-use Rattle.hub.proofs.Invariant.Rest.{short}
+use Rattle.hub.proofs.Invariant.Held.{short}
 use Rattle.hub.proofs.Window.Shown.{Reached, low, high, has-place, read-same, look-same}
 
 -- A good move is one that the table lists.
@@ -46,22 +51,12 @@ good-listed : (k : ℕ) (o : Op) (p : ℕ) (m : Queue) (f : Phase) (v : Move)
     → Good k o p m f v → isListed v ≡ true
 good-listed k o p m f (Refuse r) g = g
 good-listed k o p m f (Act c) g = refl
-good-listed k o p m f (Wake q c) g = refl
+good-listed k o p m f (Put a c) g = refl
+good-listed k o p m f (Wake q s a c) g = refl
 
 one-wait : (f : Phase) → suspending f + live f ≤ 1
 unfolding pick isOneOf
-one-wait Free = omega arith
-one-wait Holding = omega arith
-one-wait (Waiting t) = omega arith
-one-wait Acquiring = omega arith
-one-wait Suspending = omega arith
-one-wait (Ticketed t) = omega arith
-one-wait (Aborting t) = omega arith
-one-wait (Cancelling t) = omega arith
-one-wait (Refusing t) = omega arith
-one-wait Releasing = omega arith
-one-wait Resuming = omega arith
-one-wait (ResumingAt t) = omega arith
+one-wait = every-phase (λ f. suspending f + live f ≤ 1) (λ t. omega arith)
 
 -- Whoever stands at t in the count stands at t in the test.
 stands-at : (t : ℕ) (f : Phase) → stand t f ≡ 1 → standsAt f t ≡ true
@@ -72,8 +67,17 @@ stands-at t f = go (stands f)
     go true e = eq-eqb (ticketOf f) t (same-eq (ticketOf f) t (omega arith))
     go false e = let z : ⊥ = omega arith in absurd z
 
+-- A clause for some phases.
+where-true : (b c : Bool) → (b ≡ true → c ≡ true) → implies b c ≡ true
+where-true true c f = f refl
+where-true false c f = refl
+
 module _ (k : ℕ) (h : Hub) (m : Queue) (r : Reached k h m) where
-  counter-fits : (c : ℤ) → m .counter ≡ c → k ≤ 32 → counterFits c ≡ true
+  -- the figures of both, one by one
+  fig : {A : Type 0} (w : Figures → A) → w (h .figures) ≡ w (m .figures)
+  fig w = ap w (r .shows .figures)
+
+  counter-fits : (c : ℤ) → m .figures .counter ≡ c → k ≤ 32 → counterFits c ≡ true
   unfolding counterFits
   counter-fits (pos n) e j = le-leb n 32 (omega (arith, r .inv .owing, ap up e, ap down e))
   counter-fits (negsuc n) e j =
@@ -82,111 +86,143 @@ module _ (k : ℕ) (h : Hub) (m : Queue) (r : Reached k h m) where
         arith,
         short k m (r .inv),
         ap down e,
-        r .inv .size,
-        weight-length (λ f. suspending f + live f) one-wait (m .phases),
-        weight-add suspending live (m .phases),
+        r .inv .tickets .size,
+        weight-length (λ f. suspending f + live f) one-wait (phases m),
+        weight-add suspending live (phases m),
       ))
 
-  counts-fit : 1 ≤ k → k ≤ 32 → countsFit h ≡ true
-  unfolding countsFit
-  counts-fit a b =
-      both _ _ (both _ _ (both _ _ (both _ _ (both _ _ (both _ _ (both _ _ (both _ _ (both _ _
-      (both _ _ (le-leb 1 (h .permits) (omega (arith, r .permits)))
-      (le-leb (h .permits) 32 (omega (arith, r .permits))))
-      (both _ _ (le-leb 1 (h .parties) (omega (arith, r .inv .few, r .shows .parties)))
-      (le-leb (h .parties) 32 (omega (arith, r .inv .few, r .shows .parties)))))
-      (counter-fits (h .counter) (sym (r .shows .counter)) b))
-      (le-leb (h .begun) MAX-BEGUN (omega (arith, r .inv .begun, r .shows .begun))))
-      (le-leb (h .issued) MAX-BEGUN (omega (arith, near k m (r .inv), r .shows .issued))))
-      (le-leb (h .resumed) MAX-BEGUN (omega (arith, near k m (r .inv), r .shows .resumed))))
-      (le-leb (h .oldest) (h .issued) (omega (arith, low k h m r, r .shows .issued))))
-      (le-leb (h .oldest) (h .resumed) (omega (arith, low k h m r, r .shows .resumed))))
-      (le-leb (h .issued) (h .oldest + PLACES) (omega (arith, high k h m r, r .shows .issued))))
-      (le-leb (h .resumed) (h .oldest + PLACES) (omega (arith, high k h m r, r .shows .resumed)))
+  up-to-32 : (n : ℕ) → 1 ≤ n → n ≤ 32 → upTo32 n ≡ true
+  up-to-32 n a b = both _ _ (le-leb 1 n a) (le-leb n 32 b)
+
+  figures-fit : 1 ≤ k → k ≤ 32 → figuresFit (h .figures) (h .oldest) ≡ true
+  unfolding figuresFit
+  figures-fit a b =
+      let n = h .figures .parties in
+      let i = h .figures .issued in
+      let d = h .figures .resumed in
+      let few = r .inv .tickets .few in
+      let tickets = near (r .inv .tickets) in
+      let above = low k h m r in
+      let below = high k h m r in
+      let same-n = fig (λ f. f .parties) in
+      let same-i = fig (λ f. f .issued) in
+      let same-d = fig (λ f. f .resumed) in
+      let same-b = fig (λ f. f .begun) in
+      passed _ _ (up-to-32 (h .figures .permits) (omega (arith, r .permits)) (omega (arith, r .permits)))
+      (passed _ _ (up-to-32 n (omega arith) (omega arith))
+      (passed _ _ (counter-fits (h .figures .counter) (sym (fig (λ f. f .counter))) b)
+      (passed _ _ (le-leb (h .figures .begun) MAX-BEGUN (omega (arith, r .inv .tickets .begun)))
+      (passed _ _ (le-leb i MAX-BEGUN (omega arith))
+      (passed _ _ (le-leb d MAX-BEGUN (omega arith))
+      (passed _ _ (le-leb (h .oldest) i (omega arith))
+      (passed _ _ (le-leb (h .oldest) d (omega arith))
+      (passed _ _ (le-leb i (h .oldest + PLACES) (omega arith))
+      (passed _ _ (le-leb d (h .oldest + PLACES) (omega arith)) none)))))))))
 
   -- A ticket with an owner or a hand is in the window, and below the next of its kind.
-  in-window : (p t e : ℕ) (f : Phase) → phaseIn (m .phases) p ≡ f → 1 ≤ own t f + hand t f → t < e
-      → inWindow h e t ≡ true
+  in-window : (p t e : ℕ) (f : Phase) → phaseIn (phases m) p ≡ f → 1 ≤ own t f + hand t f → t < e
+      → inWindow (h .oldest) e t ≡ true
+  unfolding inWindow
   in-window p t e f z o b =
       let w = has-place k h m r p t (subst (λ (g : Phase). 1 ≤ own t g + hand t g) (sym z) o) in
       both _ _
       (both _ _ (le-leb (h .oldest) t (w .0)) (lt-ltb t (h .oldest + PLACES) (w .1)))
       (lt-ltb t e b)
 
-  owned-fits : (p t : ℕ) (f : Phase) → phaseIn (m .phases) p ≡ f → 1 ≤ own t f
-      → inWindow h (h .issued) t ≡ true
-  owned-fits p t f e o =
-      in-window p t (h .issued) f e (omega arith)
-      (omega (arith, owner-below k m (r .inv) p t f e o, r .shows .issued))
-
-  ticket-fits : (p : ℕ) (f : Phase) → phaseIn (m .phases) p ≡ f → ticketFits h f ≡ true
+  ticket-fits : (p : ℕ) (f : Phase) → phaseIn (phases m) p ≡ f
+      → ticketFits (h .figures) (h .oldest) f ≡ true
   unfolding ticketFits pick isOneOf
-  ticket-fits p Free e = refl
-  ticket-fits p Holding e = refl
-  ticket-fits p (Waiting t) e = owned-fits p t (Waiting t) e (omega (arith, same-self t))
-  ticket-fits p Acquiring e = refl
-  ticket-fits p Suspending e =
-      lt-ltb (h .issued) (h .oldest + PLACES)
-      (omega (arith, one-in k m (r .inv) drawing p Suspending refl e, r .room, r .shows .issued))
-  ticket-fits p (Ticketed t) e = owned-fits p t (Ticketed t) e (omega (arith, same-self t))
-  ticket-fits p (Aborting t) e = owned-fits p t (Aborting t) e (omega (arith, same-self t))
-  ticket-fits p (Cancelling t) e = owned-fits p t (Cancelling t) e (omega (arith, same-self t))
-  ticket-fits p (Refusing t) e = owned-fits p t (Refusing t) e (omega (arith, same-self t))
-  ticket-fits p Releasing e = refl
-  ticket-fits p Resuming e =
-      lt-ltb (h .resumed) (h .oldest + PLACES)
-      (omega (
-        arith,
-        one-in k m (r .inv) owed p Resuming refl e,
-        r .room,
-        r .inv .line,
-        drawing-most k m (r .inv),
-        r .shows .resumed,
-      ))
-  ticket-fits p (ResumingAt t) e =
-      in-window p t (h .resumed) (ResumingAt t) e (omega (arith, same-self t))
-      (omega (arith, hand-below k m (r .inv) p t e, r .shows .resumed))
+  ticket-fits p f e =
+      passed _ _ (where-true _ _ owns)
+      (passed _ _ (where-true _ _ hands)
+      (passed _ _ (where-true _ _ draws) (passed _ _ (where-true _ _ carries) none)))
+    where
+      owns : isOneOf (Phase.Ticketed 0 ∷ Phase.Waiting 0 ∷ Phase.Aborting 0 ∷ Phase.Cancelling 0
+          ∷ Phase.Refusing 0 ∷ []) f ≡ true
+          → inWindow (h .oldest) (h .figures .issued) (ticketOf f) ≡ true
+      owns i =
+          let t = ticketOf f in
+          let o : own t f ≡ same t t = ap (λ (b : Bool). cond b (same t t) 0) i in
+          let y : 1 ≤ own t f = omega (arith, o, same-self t) in
+          in-window p t (h .figures .issued) f e (omega arith)
+          (omega (arith, owner-below (r .inv .tickets) p t f e y, fig (λ g. g .issued)))
+
+      hands : isOneOf (ResumingAt 0 ∷ []) f ≡ true
+          → inWindow (h .oldest) (h .figures .resumed) (ticketOf f) ≡ true
+      hands i =
+          let t = ticketOf f in
+          let e′ = e ∙ one-of (ResumingAt 0) f i in
+          in-window p t (h .figures .resumed) (ResumingAt t) e′ (omega (arith, same-self t))
+          (omega (arith, hand-below (r .inv .tickets) p t e′, fig (λ g. g .resumed)))
+
+      draws : isOneOf (Suspending ∷ []) f ≡ true
+          → ltb (h .figures .issued) (h .oldest + PLACES) ≡ true
+      draws i =
+          let e′ = e ∙ one-of Suspending f i in
+          lt-ltb (h .figures .issued) (h .oldest + PLACES)
+          (omega (
+            arith,
+            one-in (r .inv .tickets) drawing p Suspending refl e′,
+            r .room,
+            fig (λ g. g .issued),
+          ))
+
+      carries : isOneOf (Resuming ∷ []) f ≡ true
+          → ltb (h .figures .resumed) (h .oldest + PLACES) ≡ true
+      carries i =
+          let e′ = e ∙ one-of Resuming f i in
+          lt-ltb (h .figures .resumed) (h .oldest + PLACES)
+          (omega (
+            arith,
+            one-in (r .inv .tickets) carrying p Resuming refl e′,
+            r .room,
+            carried-most (r .inv .tickets),
+            drawing-most (r .inv .tickets),
+            fig (λ g. g .resumed),
+          ))
 
   -- The table lists the step of every party; those from n up are at rest.
-  listed : (p : ℕ) (b : Bool) → ltb p (m .parties) ≡ b → isListed (stepOf (queue.look m p)) ≡ true
-  unfolding decide step
+  listed : (p : ℕ) (b : Bool) → ltb p (m .figures .parties) ≡ b
+      → isListed (step (queue.look m p)) ≡ true
+  unfolding decide stepIn seenBy
   listed p true e =
-      good-listed k Op.Step p m (phaseIn (m .phases) p) (stepOf (queue.look m p))
-      (decide-good k m p (ltb-true p (m .parties) e) (r .inv) Op.Step)
+      good-listed k Op.Step p m (queue.look m p .slot .phase) (step (queue.look m p))
+      (decide-good k m p (ltb-true p (m .figures .parties) e) (r .inv) Op.Step)
   listed p false e =
-      subst
-      (λ (f : Phase).
-      isListed (step f (queue.look m p .place) (isWaiting (queue.look m p .waiter))
-      (aboveZero (m .counter)) (belowZero (m .counter)) (queue.look m p)) ≡ true)
-      (sym (r .inv .beyond p (ltb-false p (m .parties) e))) refl
+      let free : readSlot (m .slots) p .phase ≡ Phase.Free =
+      read-phase (m .slots) p ∙ r .inv .tickets .beyond p (ltb-false p (m .figures .parties) e) in
+      subst (λ (f : Phase). isListed (stepIn f (queue.look m p)) ≡ true) (sym free) refl
 
   party-fits : (p : ℕ) → partyFits h p ≡ true
-  unfolding partyFits isOneOf
+  unfolding partyFits isOneOf seenBy
   party-fits p =
       both _ _
-      (both _ _ (present (ltb p (h .parties)) refl)
-      (ap (ticketFits h) (read-same k h m r p) ∙ ticket-fits p _ refl))
-      (ap (λ (s : Sight). isListed (stepOf s)) (look-same k h m r p) ∙ listed p _ refl)
+      (both _ _ (present (ltb p (h .figures .parties)) refl)
+      (ap (ticketFits (h .figures) (h .oldest)) (read-same k h m r p) ∙ ticket-fits p _ refl))
+      (sym (listed-is-tabled (look h p))
+      ∙ ap (λ (s : Sight). isListed (step s)) (look-same k h m r p) ∙ listed p _ refl)
     where
-      present : (b : Bool) → ltb p (h .parties) ≡ b → b || isFree (readPhase (h .slots) p) ≡ true
+      present : (b : Bool) → ltb p (h .figures .parties) ≡ b
+          → b || isFree (readSlot (h .slots) p .phase) ≡ true
       present true e = refl
       present false e =
           ap isFree (read-same k h m r p
-          ∙ r .inv .beyond p (omega (arith, ltb-false p (h .parties) e, r .shows .parties)))
+          ∙ r .inv .tickets .beyond p
+          (omega (arith, ltb-false p (h .figures .parties) e, fig (λ f. f .parties))))
 
   place-fits : (t : ℕ) → h .oldest ≤ t → t < h .oldest + PLACES → placeFits h t ≡ true
   unfolding placeFits
   place-fits t a b =
-      ap (byWaiter true (λ q. standsAt (readPhase (h .slots) q) t))
+      ap (λ (c : PlaceSlot). byWaiter true (λ q. standsAt (readSlot (h .slots) q .phase) t) (c .place))
       (sym (r .shows .window .within t a b))
-      ∙ go (m .cells t) refl
+      ∙ go (places m t) refl
     where
-      go : (c : Place) → m .cells t ≡ c
-          → byWaiter true (λ q. standsAt (readPhase (h .slots) q) t) c ≡ true
+      go : (c : Place) → places m t ≡ c
+          → byWaiter true (λ q. standsAt (readSlot (h .slots) q .phase) t) c ≡ true
       go Empty e = refl
       go (WaitedBy q) e =
           ap (λ (f : Phase). standsAt f t) (read-same k h m r q)
-          ∙ stands-at t (phaseIn (m .phases) q) (r .inv .named t q e)
+          ∙ stands-at t (phaseIn (phases m) q) (r .inv .tickets .named t q e)
       go Permit e = refl
       go Cancelled e = refl
       go Refused e = refl
@@ -196,5 +232,5 @@ module _ (k : ℕ) (h : Hub) (m : Queue) (r : Reached k h m) where
   unfolding fits
   reached-fits a b =
       both _ _
-      (both _ _ (counts-fit a b) (all-true (partyFits h) 0 PARTIES (λ p i j. party-fits p)))
+      (both _ _ (figures-fit a b) (all-true (partyFits h) 0 PARTIES (λ p i j. party-fits p)))
       (all-true (placeFits h) (h .oldest) PLACES place-fits)

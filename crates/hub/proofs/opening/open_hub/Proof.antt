@@ -21,7 +21,7 @@ refused-requires c κs = search needs
 returns : tie.Need-returns
 returns c =
     c .refused .ensures
-    ∙ sym (refused-2 _ _ _ _
+    ∙ sym (refused-2 _ _ _
     (sym (c .before .before .up-to-32 .ensures) ∙ not-true _ (c .before .if1 .taken)))
 
 up-to-32-requires-2 : tie.Need-up-to-32-requires-2
@@ -33,7 +33,7 @@ refused-requires-2 c κs = search needs
 returns-2 : tie.Need-returns-2
 returns-2 c =
     c .refused2 .ensures
-    ∙ sym (refused-3 _ _ _ _
+    ∙ sym (refused-3 _ _ _
     (sym (c .before .before .before .before .up-to-32 .ensures)
     ∙ not-false _ (c .before .before .before .if1 .left))
     (sym (c .before .before .up-to-322 .ensures) ∙ not-true _ (c .before .if2 .taken)))
@@ -44,7 +44,7 @@ open-requires c κs = search needs
 returns-3 : tie.Need-returns-3
 returns-3 c =
     ap opened (c .«open» .ensures)
-    ∙ sym (accepted _ _ _ _
+    ∙ sym (accepted _ _ _
     (sym (c .before .before .before .before .up-to-32 .ensures)
     ∙ not-false _ (c .before .before .before .if1 .left))
     (sym (c .before .before .up-to-322 .ensures) ∙ not-false _ (c .before .if2 .left)))

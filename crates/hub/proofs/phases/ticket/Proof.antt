@@ -3,7 +3,7 @@ use borrow.Author.Needs.{needs}
 use mathlib.Core.Path.{refl}
 use mathlib.Core.List.{[], _∷_}
 use Rattle.hub.specs.Phases.{ticketOf}
-use Rattle.hub.proofs.Laws.Tags.{phase-arm}
+use Rattle.hub.proofs.Laws.Phases.{phase-arm}
 use Rattle.hub.proofs.phases.ticket.Statement.{statement}
 use Rattle.hub.proofs.phases.ticket.Tie as tie
 
@@ -26,7 +26,8 @@ enum-known-phase-6 : tie.Need-enum-known-phase-6
 enum-known-phase-6 c = search needs
 
 returns : tie.Need-returns
-returns c = search needs
+returns c =
+    phase-arm (0 ∷ 1 ∷ 3 ∷ 4 ∷ 9 ∷ 10 ∷ []) ticketOf (c .before .args .phase) refl (c .match .keys7)
 
 returns-2 : tie.Need-returns-2
 returns-2 c = search needs
@@ -44,8 +45,7 @@ returns-6 : tie.Need-returns-6
 returns-6 c = search needs
 
 returns-7 : tie.Need-returns-7
-returns-7 c =
-    phase-arm (0 ∷ 1 ∷ 3 ∷ 4 ∷ 9 ∷ 10 ∷ []) ticketOf (c .before .args .phase) refl (c .match .keys7)
+returns-7 c = search needs
 
 pub ticket-spec : {M : Type 1} → statement M
 ticket-spec =

@@ -1,0 +1,81 @@
+-- What "a record that fits" lists for a place is what the step table has a row for.
+use Prim.Native.Nat.{ℕ}
+use mathlib.Core.Path.{_≡_, refl}
+use mathlib.Core.Bool.{Bool, true, false, not}
+use lib.Dec.{eqb}
+use Rattle.hub.specs.declared.moves.Move.{Move}
+use Rattle.hub.specs.declared.moves.Move.the-variants.{Refuse, Act, Put, Wake}
+use Rattle.hub.specs.declared.moves.Sight.{Sight}
+use Rattle.hub.specs.declared.record.Phase.{Phase}
+use Rattle.hub.specs.declared.record.Place.{Place}
+use Rattle.hub.specs.Answers.{refusalCode}
+use Rattle.hub.specs.Basics.{allOf}
+use Rattle.hub.specs.Fits.{placeListed}
+use Rattle.hub.specs.Phases.{isOneOf, isPlaceOf}
+use Rattle.hub.specs.Table.{step, stepIn, stepAcquiring, stepSuspending}
+use Rattle.hub.specs.Table.{stepTicketed, stepReleasing, stepResuming, resumeWaiter}
+use Rattle.hub.specs.Table.{stepResumingAt, stepAborting, stepCancelling, stepRefusing}
+use Rattle.hub.proofs.Laws.Phases.{places-alike}
+
+-- Is it no refusal by 1, which the table gives where it has no row?
+abbrev pub isListed : Move → Bool
+isListed (Refuse r) = not (eqb (refusalCode r) 1)
+isListed (Act c) = true
+isListed (Put a c) = true
+isListed (Wake q s a c) = true
+
+-- The rows that are chosen by a test are listed either way.
+module _ (s : Sight) where
+  acquiring : (b : Bool) → isListed (stepAcquiring b s) ≡ true
+  unfolding stepAcquiring
+  acquiring true = refl
+  acquiring false = refl
+
+  releasing : (b : Bool) → isListed (stepReleasing b s) ≡ true
+  unfolding stepReleasing
+  releasing true = refl
+  releasing false = refl
+
+  aborting : (t : ℕ) (b : Bool) → isListed (stepAborting t b s) ≡ true
+  unfolding stepAborting
+  aborting t true = refl
+  aborting t false = refl
+
+  resumed : (b : Bool) (q t : ℕ) → isListed (resumeWaiter b q t s) ≡ true
+  unfolding resumeWaiter
+  resumed true q t = refl
+  resumed false q t = refl
+
+  resuming : (t : ℕ) (a : Place) → isListed (stepResumingAt t a s) ≡ placeListed (Phase.ResumingAt t) a
+  unfolding stepResumingAt placeListed allOf isOneOf isPlaceOf
+  resuming t Place.Empty = refl
+  resuming t (Place.Waiting q) = resumed _ q t
+  resuming t Place.Permit = refl
+  resuming t Place.Cancelled = refl
+  resuming t Place.Refused = refl
+  resuming t Place.Done = refl
+
+  listed-in : (f : Phase) → isListed (stepIn f s) ≡ placeListed f (s .seat .place)
+  unfolding stepIn stepSuspending stepTicketed stepResuming stepCancelling stepRefusing placeListed
+      allOf isOneOf isPlaceOf
+  listed-in Phase.Free = refl
+  listed-in Phase.Holding = refl
+  listed-in (Phase.Waiting t) = refl
+  listed-in Phase.Acquiring = acquiring _
+  listed-in Phase.Suspending = refl
+  listed-in (Phase.Ticketed t) =
+      places-alike (λ a. isListed (stepTicketed t a s)) (placeListed (Phase.Ticketed t)) (λ q. refl)
+      (s .seat .place)
+  listed-in (Phase.Aborting t) = aborting t _
+  listed-in (Phase.Cancelling t) =
+      places-alike (λ a. isListed (stepCancelling t a s)) (placeListed (Phase.Cancelling t)) (λ q. refl)
+      (s .seat .place)
+  listed-in (Phase.Refusing t) =
+      places-alike (λ a. isListed (stepRefusing t a s)) (placeListed (Phase.Refusing t)) (λ q. refl)
+      (s .seat .place)
+  listed-in Phase.Releasing = releasing _
+  listed-in Phase.Resuming = refl
+  listed-in (Phase.ResumingAt t) = resuming t _
+
+  pub listed-is-tabled : isListed (step s) ≡ placeListed (s .slot .phase) (s .seat .place)
+  listed-is-tabled = listed-in (s .slot .phase)
