@@ -16,14 +16,14 @@ use Rattle.hub.specs.declared.record.Phase.{Phase}
 use Rattle.hub.specs.declared.record.Place.{Place}
 use Rattle.hub.specs.declared.record.PlaceSlot.{PlaceSlot}
 use Rattle.hub.specs.Answers.{printed}
-use Rattle.hub.specs.Basics.{weight, count, upTo32}
+use Rattle.hub.specs.Basics.{bit, weight, count, upTo32}
 use Rattle.hub.specs.Calls.{called, moveOf}
 use Rattle.hub.specs.Counts.{countsOf, CountsAddUp}
 use Rattle.hub.specs.Demand3.{Accounts, Calm, Demand3, ReachedFits}
 use Rattle.hub.specs.Ledger.{Ledger, opened, phaseIn, enter, ledger, atCounter}
 use Rattle.hub.specs.Look.{look}
 use Rattle.hub.specs.Opening.{fresh, openingIf, opening}
-use Rattle.hub.specs.Phases.{isOneOf, isPlaceOf, holds, resumes, refuses}
+use Rattle.hub.specs.Phases.{isOneOf, isPlaceOf, isUnserved, holds, resumes, refuses}
 use Rattle.hub.specs.Queue.{Queue, phases}
 use Rattle.hub.specs.Queue as queue
 use Rattle.hub.specs.Record.{PARTIES, emptySeat, phasesOf, placesOf}
@@ -31,12 +31,14 @@ use Rattle.hub.specs.Refinement.{Window, Shows, isSeven, heard, withoutS
 use Rattle.hub.specs.Ring.{PLACES, readSeat}
 use Rattle.hub.specs.Schedule.{run, answers, entries}
 use Rattle.hub.proofs.Laws.Bools.{first, second, if-true}
-use Rattle.hub.proofs.Laws.Lists.{weight-replicate, weight-map}
+use Rattle.hub.proofs.Laws.Lists.{weight-add, weight-map, weight-replicate, weight-same}
+use Rattle.hub.proofs.Laws.Phases.{every-phase}
 use Rattle.hub.proofs.Laws.Ranges.{sumFrom, sum-zero, sum-same, sum-split, sum-rotate}
 use Rattle.hub.proofs.Laws.Ranges.{sum-list}
 use Rattle.hub.proofs.Laws.Seats.{next-round}
-use Rattle.hub.proofs.Invariant.Weights.{up, pick, count-pick, holding, resuming, refusing}
-use Rattle.hub.proofs.Invariant.Weights.{drawing, permitCell, refusedCell, sum, total, TICKETS}
+use Rattle.hub.proofs.Invariant.Weights.{up, down, pick, count-pick, holding, resuming, refusing}
+use Rattle.hub.proofs.Invariant.Weights.{drawing, suspending, live, permitCell, refusedCell, sum, total}
+use Rattle.hub.proofs.Invariant.Weights.{TICKETS}
 use Rattle.hub.proofs.Invariant.Tickets.{near}
 use Rattle.hub.proofs.Invariant.Keep.{permits}
 use Rattle.hub.proofs.Invariant.Walk.{all-more}
@@ -84,6 +86,7 @@ fresh-reached o a b =
       room = omega (arith, weight-replicate drawing Phase.Free refl PARTIES);
       shows =
           record {
+            opening = refl;
             figures = refl;
             slots = refl;
             window =
@@ -184,6 +187,14 @@ ring-sum o l g v s b w x y =
     small : (j : ℕ) → j < PLACES → (0 + j) % PLACES ≡ j
     small j i = omega arith
 
+-- The unserved waits are those that will draw a ticket and those that live with one.
+unserved-count : (l : List Phase) → count isUnserved l ≡ weight suspending l + weight live l
+unfolding pick isOneOf
+unserved-count l =
+    weight-same (λ f. bit (isUnserved f)) (λ f. suspending f + live f)
+    (every-phase (λ f. bit (isUnserved f) ≡ suspending f + live f) (λ t. omega arith)) l
+    ∙ weight-add suspending live l
+
 -- What the account of a schedule comes to.
 accounts : (k : ℕ) (h : Hub) (m : Queue) (e : Ledger) → Reached k h m → Agrees e m
     → Accounts k e h
@@ -211,6 +222,20 @@ accounts k h m e r a =
             decline,
             ap up (a .counter),
             whole,
+          );
+      unserved =
+          omega (
+            arith,
+            a .permits,
+            a .refusals,
+            r .inv .tickets .balance,
+            bring,
+            decline,
+            ap down (a .counter),
+            whole,
+            unserved-count (e .phases),
+            ap (weight suspending) (a .replayed),
+            ap (weight live) (a .replayed),
           );
       heldWhole = omega (arith, a .held);
       permitsWhole = omega (arith, a .permits);

@@ -6,9 +6,9 @@ use lib.Dec.{leb, ltb}
 use Rattle.hub.specs.declared.answers.Answer.{Answer}
 use Rattle.hub.specs.declared.answers.Refusal.{Refusal}
 use Rattle.hub.specs.declared.moves.Call.{Call}
-use Rattle.hub.specs.declared.moves.Change.{Change}
-use Rattle.hub.specs.declared.moves.Move.{Move}
-use Rattle.hub.specs.declared.moves.Move.the-variants.{Refuse, Act, Put, Wake}
+use Rattle.hub.specs.Moves.{Change}
+use Rattle.hub.specs.Moves.{Move}
+use Rattle.hub.specs.Moves.{Refuse, Act, Put, Wake}
 use Rattle.hub.specs.declared.moves.Sight.{Sight}
 use Rattle.hub.specs.declared.record.Hub.{Hub}
 use Rattle.hub.specs.declared.record.Outcome.{Outcome}
@@ -35,13 +35,14 @@ checked true true m = m
 
 abbrev pub moveOf : Hub → Call → Move
 moveOf h c =
-    checked (fits h) (ltb (c .party) (h .figures .parties))
+    checked (fits h) (ltb (c .party) (h .opening .parties))
     (decide (c .op) (isFull (h .oldest) (h .figures .issued) (h .slots)) (look h (c .party)))
 
 -- The slot of party p and the figures change.
 abbrev pub acted : Hub → ℕ → Change → Hub
 acted h p c =
     record {
+      opening = h .opening;
       figures = c .figures;
       oldest = h .oldest;
       places = h .places;
@@ -52,6 +53,7 @@ acted h p c =
 abbrev pub placed : Hub → Phase → PlaceSlot → Hub
 placed h f a =
     record {
+      opening = h .opening;
       figures = h .figures;
       oldest = h .oldest;
       places = byTicket (h .places) (λ t. writeSeat (h .places) t a) f;
@@ -62,6 +64,7 @@ placed h f a =
 abbrev pub woken : Hub → ℕ → PartySlot → Hub
 woken h q s =
     record {
+      opening = h .opening;
       figures = h .figures;
       oldest = h .oldest;
       places = h .places;
@@ -75,6 +78,7 @@ ringOf h = record { resumed = h .figures .resumed; oldest = h .oldest; places = 
 abbrev pub withRing : Hub → Ring → Hub
 withRing h r =
     record {
+      opening = h .opening;
       figures = withResumed (r .resumed) (h .figures);
       oldest = r .oldest;
       places = r .places;

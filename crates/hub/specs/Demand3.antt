@@ -11,9 +11,9 @@ use Rattle.hub.specs.declared.record.Phase.{Phase}
 use Rattle.hub.specs.Basics.{count}
 use Rattle.hub.specs.Fits.{fits}
 use Rattle.hub.specs.Ledger.{Ledger, ledger, opened, phaseIn, held, atCounter, onTheWay}
-use Rattle.hub.specs.Ledger.{coming, takenBack, permitPlaces, refusedPlaces}
+use Rattle.hub.specs.Ledger.{coming, takenBack, permitPlaces, refusedPlaces, belowBy}
 use Rattle.hub.specs.Opening.{opening}
-use Rattle.hub.specs.Phases.{atRest, holds, isPermit, isRefused}
+use Rattle.hub.specs.Phases.{atRest, holds, isUnserved, isPermit, isRefused}
 use Rattle.hub.specs.Record.{phasesOf, placesOf}
 use Rattle.hub.specs.Schedule.{run, entries}
 
@@ -30,6 +30,8 @@ Calm l = (p : ℕ) → atRest (phaseIn l p) ≡ true
 pub record Accounts (k : ℕ) (e : Ledger) (h : Hub) : Type 0 where
   -- Held + at the counter + on the way = K.
   pub sum : held e + atCounter (e .counter) + onTheWay e ≡ k
+  -- Below zero, the counter's size is the number of unserved waits that no permit comes for.
+  pub unserved : belowBy (e .counter) + onTheWay e ≡ count isUnserved (e .phases)
   -- None of the differences in it is cut off at 0.
   pub heldWhole : e .took ≤ e .gave
   pub permitsWhole : e .cleared ≤ e .left

@@ -4,6 +4,7 @@ use mathlib.Core.Bool.{Bool, true, false, _&&_, _||_}
 use mathlib.Core.List.{List, [], _∷_}
 use lib.Dec.{leb, ltb, eqb}
 use lib.IntN.{ℤ, pos, negsuc}
+use Rattle.hub.specs.declared.opening.Opening.{Opening}
 use Rattle.hub.specs.declared.record.Figures.{Figures}
 use Rattle.hub.specs.declared.record.Hub.{Hub}
 use Rattle.hub.specs.declared.record.Phase.{Phase}
@@ -23,11 +24,11 @@ unfoldable pub counterFits : ℤ → Bool
 counterFits (pos n) = leb n 32
 counterFits (negsuc n) = ltb n 32
 
--- The figures and the oldest ticket o that has a place, clause by clause.
-abbrev pub figuresClauses : Figures → ℕ → List Bool
-figuresClauses f o =
-    upTo32 (f .permits)
-    ∷ upTo32 (f .parties)
+-- K and n, the figures and the oldest ticket o that has a place, clause by clause.
+abbrev pub figuresClauses : Opening → Figures → ℕ → List Bool
+figuresClauses x f o =
+    upTo32 (x .permits)
+    ∷ upTo32 (x .parties)
     ∷ counterFits (f .counter)
     ∷ leb (f .begun) MAX-BEGUN
     ∷ leb (f .issued) MAX-BEGUN
@@ -38,8 +39,8 @@ figuresClauses f o =
     ∷ leb (f .resumed) (o + PLACES)
     ∷ []
 
-unfoldable pub figuresFit : Figures → ℕ → Bool
-figuresFit f o = allOf (figuresClauses f o)
+unfoldable pub figuresFit : Opening → Figures → ℕ → Bool
+figuresFit x f o = allOf (figuresClauses x f o)
 
 -- Is t one of the 256 tickets from o on, and below e?
 unfoldable pub inWindow : ℕ → ℕ → ℕ → Bool
@@ -71,7 +72,7 @@ placeListed x a =
 unfoldable pub partyFits : Hub → ℕ → Bool
 partyFits h p =
     let f = readSlot (h .slots) p .phase in
-    (ltb p (h .figures .parties) || isFree f) && ticketFits (h .figures) (h .oldest) f
+    (ltb p (h .opening .parties) || isFree f) && ticketFits (h .figures) (h .oldest) f
     && placeListed f (look h p .seat .place)
 
 abbrev pub standsAt : Phase → ℕ → Bool
@@ -85,5 +86,5 @@ placeFits h t =
 -- All 32 parties, and the places of all 256 tickets.
 unfoldable pub fits : Hub → Bool
 fits h =
-    figuresFit (h .figures) (h .oldest) && allFrom (partyFits h) 0 PARTIES
+    figuresFit (h .opening) (h .figures) (h .oldest) && allFrom (partyFits h) 0 PARTIES
     && allFrom (placeFits h) (h .oldest) PLACES

@@ -1,5 +1,5 @@
 -- "Counting links": a ledger kept from the calls and their answers alone.
-use Prim.Native.Nat.{ℕ, _+_, _-_}
+use Prim.Native.Nat.{ℕ, suc, _+_, _-_}
 use mathlib.Core.Bool.{Bool, true, false, cond}
 use mathlib.Core.List.{List, [], _∷_}
 use lib.Dec.{ltb, eqb}
@@ -163,6 +163,11 @@ held e = e .gave - e .took
 abbrev pub atCounter : ℤ → ℕ
 atCounter (pos n) = n
 atCounter (negsuc n) = 0
+
+-- How far the counter is below zero.
+abbrev pub belowBy : ℤ → ℕ
+belowBy (pos n) = 0
+belowBy (negsuc n) = suc n
 
 abbrev pub permitPlaces : Ledger → ℕ
 permitPlaces e = e .left - e .cleared

@@ -7,6 +7,7 @@ pub mod Record  -- "The hub's record"
 pub mod Phases
 pub mod Ring  -- the places, and the tidying
 pub mod Look  -- what a call looks at
+pub mod Moves  -- what it does
 pub mod Table  -- "Four calls"
 pub mod Fits  -- "A record that fits"
 pub mod Opening  -- "When the hub says no"

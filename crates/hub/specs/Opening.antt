@@ -15,19 +15,13 @@ use Rattle.hub.specs.Ring.{PLACES}
 
 abbrev pub figuresAt : Opening → Figures
 figuresAt o =
-    record {
-      permits = o .permits;
-      parties = o .parties;
-      counter = pos (o .permits);
-      issued = 0;
-      resumed = 0;
-      begun = 0;
-    }
+    record { counter = pos (o .permits); issued = 0; resumed = 0; begun = 0 }
 
 -- The record of a hub just opened.
 unfoldable pub fresh : Opening → Hub
 fresh o =
     record {
+      opening = o;
       figures = figuresAt o;
       oldest = 0;
       places = replicate PLACES emptySeat;

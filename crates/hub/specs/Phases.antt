@@ -80,6 +80,10 @@ holds = isOneOf (Holding ∷ Releasing ∷ [])
 abbrev pub drawsTicket : Phase → Bool
 drawsTicket = isOneOf (Acquiring ∷ Suspending ∷ [])
 
+-- Unnumbered, numbered, waiting or giving up: it has not been served.
+abbrev pub isUnserved : Phase → Bool
+isUnserved = isOneOf (Suspending ∷ Ticketed 0 ∷ Waiting 0 ∷ Aborting 0 ∷ [])
+
 -- Carrying or handing: it has a permit for a waiter.
 abbrev pub resumes : Phase → Bool
 resumes = isOneOf (Resuming ∷ ResumingAt 0 ∷ [])

@@ -8,9 +8,9 @@ use lib.Dec.{eqb, ltb}
 use lib.ListN.{replicate}
 use Rattle.hub.specs.declared.answers.Answer.{Answer}
 use Rattle.hub.specs.declared.moves.Call.{Call}
-use Rattle.hub.specs.declared.moves.Change.{Change}
-use Rattle.hub.specs.declared.moves.Move.{Move}
-use Rattle.hub.specs.declared.moves.Move.the-variants.{Refuse, Act, Put, Wake}
+use Rattle.hub.specs.Moves.{Change}
+use Rattle.hub.specs.Moves.{Move}
+use Rattle.hub.specs.Moves.{Refuse, Act, Put, Wake}
 use Rattle.hub.specs.declared.moves.Sight.{Sight}
 use Rattle.hub.specs.declared.opening.Opening.{Opening}
 use Rattle.hub.specs.declared.record.Figures.{Figures}
@@ -26,6 +26,7 @@ use Rattle.hub.specs.Record.{PARTIES, emptySeat, freeSlot, phasesOf, rea
 use Rattle.hub.specs.Table.{decide, withResumed}
 
 pub record Queue : Type 0 where
+  pub opening : Opening
   pub figures : Figures
   pub cells : ℕ → PlaceSlot
   pub slots : List PartySlot
@@ -41,6 +42,7 @@ abbrev pub skipped : Queue → Queue
 skipped m =
     let t = m .figures .resumed in
     record {
+      opening = m .opening;
       figures = withResumed (t + 1) (m .figures);
       cells = write (m .cells) t (withPlace Place.Done (m .cells t));
       slots = m .slots;
@@ -61,6 +63,7 @@ tidied m = skip (m .figures .issued) m
 abbrev pub acted : Queue → ℕ → Change → Queue
 acted m p c =
     record {
+      opening = m .opening;
       figures = c .figures;
       cells = m .cells;
       slots = writeSlot (m .slots) p (c .slot);
@@ -69,6 +72,7 @@ acted m p c =
 abbrev pub placed : Queue → Phase → PlaceSlot → Queue
 placed m f a =
     record {
+      opening = m .opening;
       figures = m .figures;
       cells = byTicket (m .cells) (λ t. write (m .cells) t a) f;
       slots = m .slots;
@@ -77,6 +81,7 @@ placed m f a =
 abbrev pub woken : Queue → ℕ → PartySlot → Queue
 woken m q s =
     record {
+      opening = m .opening;
       figures = m .figures;
       cells = m .cells;
       slots = writeSlot (m .slots) q s;
@@ -91,7 +96,7 @@ apply m s (Wake q x a c) =
 
 abbrev pub moveOf : Queue → Call → Move
 moveOf m c =
-    checked true (ltb (c .party) (m .figures .parties)) (decide (c .op) false (look m (c .party)))
+    checked true (ltb (c .party) (m .opening .parties)) (decide (c .op) false (look m (c .party)))
 
 abbrev pub next : Queue → Call → Queue
 next m c = apply m (look m (c .party)) (moveOf m c)
@@ -107,6 +112,7 @@ answers m (c ∷ cs) = answerOf (moveOf m c) ∷ answers (next m c) cs
 unfoldable pub fresh : Opening → Queue
 fresh o =
     record {
+      opening = o;
       figures = figuresAt o;
       cells = λ t. emptySeat;
       slots = replicate PARTIES freeSlot;

@@ -29,6 +29,7 @@ pub record Window (o : ℕ) (l : List PlaceSlot) (g : ℕ → PlaceSlot) : Type 
 
 -- The record h shows the queue m.
 pub record Shows (h : Hub) (m : Queue) : Type 0 where
+  pub opening : h .opening ≡ m .opening
   pub figures : h .figures ≡ m .figures
   pub slots : h .slots ≡ m .slots
   pub window : Window (h .oldest) (h .places) (m .cells)

@@ -15,9 +15,9 @@ use Rattle.hub.specs.declared.answers.Refusal.{Refusal}
 use Rattle.hub.specs.declared.answers.Refusal.the-variants.{Unfit, NotFree, Exhausted, Full}
 use Rattle.hub.specs.declared.answers.Refusal.the-variants.{AtRest, NotWaiting, NotCancellable}
 use Rattle.hub.specs.declared.answers.Refusal.the-variants.{NotHolding}
-use Rattle.hub.specs.declared.moves.Change.{Change}
-use Rattle.hub.specs.declared.moves.Move.{Move}
-use Rattle.hub.specs.declared.moves.Move.the-variants.{Refuse, Act, Put, Wake}
+use Rattle.hub.specs.Moves.{Change}
+use Rattle.hub.specs.Moves.{Move}
+use Rattle.hub.specs.Moves.{Refuse, Act, Put, Wake}
 use Rattle.hub.specs.declared.moves.Op.{Op}
 use Rattle.hub.specs.declared.moves.Op.the-variants.{Acquire, Step, Cancel, Release}
 use Rattle.hub.specs.declared.moves.Sight.{Sight}
@@ -46,47 +46,19 @@ belowZero (negsuc c) = true
 -- The figures with one of them changed.
 abbrev pub withCounter : ℤ → Figures → Figures
 withCounter c f =
-    record {
-      permits = f .permits;
-      parties = f .parties;
-      counter = c;
-      issued = f .issued;
-      resumed = f .resumed;
-      begun = f .begun;
-    }
+    record { counter = c; issued = f .issued; resumed = f .resumed; begun = f .begun }
 
 abbrev pub withIssued : ℕ → Figures → Figures
 withIssued t f =
-    record {
-      permits = f .permits;
-      parties = f .parties;
-      counter = f .counter;
-      issued = t;
-      resumed = f .resumed;
-      begun = f .begun;
-    }
+    record { counter = f .counter; issued = t; resumed = f .resumed; begun = f .begun }
 
 abbrev pub withResumed : ℕ → Figures → Figures
 withResumed t f =
-    record {
-      permits = f .permits;
-      parties = f .parties;
-      counter = f .counter;
-      issued = f .issued;
-      resumed = t;
-      begun = f .begun;
-    }
+    record { counter = f .counter; issued = f .issued; resumed = t; begun = f .begun }
 
 abbrev pub withBegun : ℕ → Figures → Figures
 withBegun b f =
-    record {
-      permits = f .permits;
-      parties = f .parties;
-      counter = f .counter;
-      issued = f .issued;
-      resumed = f .resumed;
-      begun = b;
-    }
+    record { counter = f .counter; issued = f .issued; resumed = f .resumed; begun = b }
 
 -- The party's phase becomes x, the figures f, and the answer is y.
 abbrev pub change : Phase → Figures → Answer → Sight → Change

@@ -7,7 +7,7 @@ pub mod slots; // what the record keeps of a party and of a place
 pub mod phases; // what is asked of a phase
 pub mod kinds; // the kind of each party
 pub mod answers; // what a call answers
-pub mod moves; // what a call looks at, and what it changes
+pub mod moves; // a call, and what it looks at
 pub mod opening; // a fresh record
 pub mod counts; // what a record shows
 

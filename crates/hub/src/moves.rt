@@ -1,7 +1,5 @@
-// A call is decided from a few values, its sight, and then changes a few, its move.
+// A call, and the few values that it is decided from.
 
-use crate::answers::Answer;
-use crate::answers::Refusal;
 use crate::record::Figures;
 use crate::record::PartySlot;
 use crate::record::PlaceSlot;
@@ -27,18 +25,4 @@ pub struct Sight {
     pub seat: PlaceSlot, // the place of the party's ticket; an empty one if it has none
     pub waiter: PartySlot, // of the party that waits at that place; a free one if none does
     pub figures: Figures,
-}
-
-// What every call that is not refused changes, and what it answers.
-pub struct Change {
-    pub slot: PartySlot, // of the party
-    pub figures: Figures,
-    pub answer: Answer,
-}
-
-pub enum Move {
-    Refuse(Refusal),
-    Act(Change),
-    Put(PlaceSlot, Change), // the place of the party's ticket becomes this, too
-    Wake(u32, PartySlot, PlaceSlot, Change), // and so does the slot of the waiter of that number
 }

@@ -22,8 +22,6 @@ fn figures_at(o: Opening) -> Figures
 {
     let permits = o.permits;
     Figures {
-        permits,
-        parties: o.parties,
         counter: permits as i32,
         issued: 0,
         resumed: 0,
@@ -39,6 +37,7 @@ impl Hub {
         let empty = empty_seat();
         let free = free_slot();
         Hub {
+            opening: o,
             figures: figures_at(o),
             oldest: 0,
             places: [empty; 256],

@@ -1,6 +1,7 @@
 // The record of a hub. A link of the paper is a permit, the number of a wait its ticket.
 
 use crate::answers::Answer;
+use crate::opening::Opening;
 
 // A party's phase: the first three are at rest, the others busy. Each t is a ticket.
 pub enum Phase {
@@ -37,10 +38,8 @@ pub struct PartySlot {
     pub phase: Phase,
 }
 
-// What the record keeps of the hub as a whole.
+// The numbers that calls move.
 pub struct Figures {
-    pub permits: u8, // links, K
-    pub parties: u8, // n
     pub counter: i32, // permits available; below zero, waits that no permit comes for
     pub issued: u32, // numbered: the next ticket for a wait
     pub resumed: u32, // handed: the next ticket to resume
@@ -48,6 +47,7 @@ pub struct Figures {
 }
 
 pub struct Hub {
+    pub opening: Opening, // what it was opened with
     pub figures: Figures,
     pub oldest: u32, // the first ticket that has a place
     pub places: [PlaceSlot; 256], // a ring: that of ticket t is at t modulo 256

@@ -11,6 +11,6 @@ abbrev pub CounterFits : ℤ → Type 0
 CounterFits z = counterFits z ≡ true
 
 pub record Small (s : Sight) : Type 0 where
-  pub counter : CounterFits (s .counter)
-  pub issued : s .issued ≤ MAX-BEGUN
-  pub resumed : s .resumed ≤ MAX-BEGUN
+  pub counter : CounterFits (s .figures .counter)
+  pub issued : s .figures .issued ≤ MAX-BEGUN
+  pub resumed : s .figures .resumed ≤ MAX-BEGUN

@@ -5,4 +5,3 @@ mod counter; // the side of zero that the counter is on
 mod changes; // what the rows are made of
 pub mod rows; // the step table
 pub mod others; // ask, give up, give back
-pub mod sight; // what a call asks of a phase and of a place

@@ -1,51 +1,43 @@
 // The three other calls: ask, give up, give back.
 
+use crate::changes::change;
 use crate::changes::turned;
 use hub::answers::Answer;
 use hub::answers::Refusal;
-use hub::moves::Change;
 use hub::moves::Move;
-use hub::moves::Op;
 use hub::moves::Sight;
-use hub::phases::is_free;
-use hub::phases::is_holding;
 use hub::record::Hub;
 use hub::record::Phase;
 ghost use mathlib.Core.Path.{_≡_};
 ghost use mathlib.Core.Bool.{false};
+ghost use Rattle.hub.specs.declared.moves.Op.{Op};
 ghost use Rattle.hub.specs.Table.{decide};
 
 // Is there no place for one more ticket? Asked only of a party that is free.
 pub fn decide_acquire(full: bool, s: Sight) -> Move
     ensures { λ r. ⌜ r ≡ decide Op.Acquire full s ⌝ }
 {
-    let phase = s.phase;
-    if !is_free(phase) {
+    let slot = s.slot;
+    let phase = slot.phase;
+    let Phase::Free = phase else {
         return Move::Refuse(Refusal::NotFree);
-    }
-    let begun = s.begun;
-    if Hub::MAX_BEGUN <= begun {
+    };
+    let mut figures = s.figures;
+    if Hub::MAX_BEGUN <= figures.begun {
         return Move::Refuse(Refusal::Exhausted);
     }
     if full {
         return Move::Refuse(Refusal::Full);
     }
-    let place = s.place;
-    Move::Act(Change {
-        phase: Phase::Acquiring,
-        place,
-        counter: s.counter,
-        issued: s.issued,
-        resumed: s.resumed,
-        begun: begun + 1,
-        answer: Answer::Accepted,
-    })
+    figures.begun += 1;
+    Move::Act(change(Phase::Acquiring, figures, Answer::Accepted, s))
 }
 
 pub fn decide_cancel(s: Sight) -> Move
     ensures { λ r. ⌜ r ≡ decide Op.Cancel false s ⌝ }
 {
-    let phase = s.phase;
+    let slot = s.slot;
+    let phase = slot.phase;
     let Phase::Waiting(t) = phase else {
         return Move::Refuse(Refusal::NotWaiting);
     };
@@ -59,9 +51,10 @@ pub fn decide_cancel(s: Sight) -> Move
 pub fn decide_release(s: Sight) -> Move
     ensures { λ r. ⌜ r ≡ decide Op.Release false s ⌝ }
 {
-    let phase = s.phase;
-    if !is_holding(phase) {
+    let slot = s.slot;
+    let phase = slot.phase;
+    let Phase::Holding = phase else {
         return Move::Refuse(Refusal::NotHolding);
-    }
+    };
     turned(Phase::Releasing, Answer::Accepted, s)
 }

@@ -1,5 +1,6 @@
 // The step table, a row a function.
 
+use crate::changes::change;
 use crate::changes::given;
 use crate::changes::placed;
 use crate::changes::taken;
@@ -7,50 +8,44 @@ use crate::counter::above_zero;
 use crate::counter::below_zero;
 use hub::answers::Answer;
 use hub::answers::Refusal;
-use hub::moves::Change;
 use hub::moves::Move;
 use hub::moves::Sight;
-use hub::phases::is_waiting;
 use hub::record::Phase;
 use hub::record::Place;
+use hub::slots::with_phase;
+use hub::slots::with_place;
 ghost use mathlib.Core.Path.{_≡_};
 ghost use Prim.Native.Nat.{_≤_};
-ghost use Rattle.hub.specs.Table.{stepOf};
+ghost use Rattle.hub.specs.Phases.{isWaiting};
+ghost use Rattle.hub.specs.Table;
+ghost use Rattle.hub.specs.Table.{resumeWaiter, stepIn};
 ghost use Rattle.table.specs.Small.{Small, CounterFits};
-ghost use Rattle.table.specs.Rows.{stepAs, wakeOr};
 
 fn step_acquiring(s: Sight) -> Move
-    requires { ⌜ CounterFits (s .counter) ⌝ }
-    ensures { λ r. ⌜ r ≡ stepAs Phase.Acquiring s ⌝ }
+    requires { ⌜ CounterFits (s .figures .counter) ⌝ }
+    ensures { λ r. ⌜ r ≡ stepIn Phase.Acquiring s ⌝ }
 {
-    let counter = s.counter;
-    if above_zero(counter) {
+    if above_zero(s.figures.counter) {
         return taken(Phase::Holding, Answer::Acquired, s);
     }
     taken(Phase::Suspending, Answer::MustWait, s)
 }
 
 fn step_suspending(s: Sight) -> Move
-    requires { ⌜ s .issued ≤ 1000000 ⌝ }
-    ensures { λ r. ⌜ r ≡ stepAs Phase.Suspending s ⌝ }
+    requires { ⌜ s .figures .issued ≤ 1000000 ⌝ }
+    ensures { λ r. ⌜ r ≡ stepIn Phase.Suspending s ⌝ }
 {
-    let t = s.issued;
-    let place = s.place;
-    Move::Act(Change {
-        phase: Phase::Ticketed(t),
-        place,
-        counter: s.counter,
-        issued: t + 1,
-        resumed: s.resumed,
-        begun: s.begun,
-        answer: Answer::DrewTicket(t),
-    })
+    let mut figures = s.figures;
+    let t = figures.issued;
+    figures.issued = t + 1;
+    Move::Act(change(Phase::Ticketed(t), figures, Answer::DrewTicket(t), s))
 }
 
 fn step_ticketed(t: u32, s: Sight) -> Move
-    ensures { λ r. ⌜ r ≡ stepAs (Phase.Ticketed t) s ⌝ }
+    ensures { λ r. ⌜ r ≡ stepIn (Phase.Ticketed t) s ⌝ }
 {
-    let place = s.place;
+    let seat = s.seat;
+    let place = seat.place;
     match place {
         Place::Empty => {
             let party = s.party as u32;
@@ -67,59 +62,49 @@ fn step_ticketed(t: u32, s: Sight) -> Move
 }
 
 fn step_releasing(s: Sight) -> Move
-    requires { ⌜ CounterFits (s .counter) ⌝ }
-    ensures { λ r. ⌜ r ≡ stepAs Phase.Releasing s ⌝ }
+    requires { ⌜ CounterFits (s .figures .counter) ⌝ }
+    ensures { λ r. ⌜ r ≡ stepIn Phase.Releasing s ⌝ }
 {
-    let counter = s.counter;
-    if below_zero(counter) {
+    if below_zero(s.figures.counter) {
         return given(Phase::Resuming, Answer::MustResume, s);
     }
     given(Phase::Free, Answer::Returned, s)
 }
 
 fn step_resuming(s: Sight) -> Move
-    requires { ⌜ s .resumed ≤ 1000000 ⌝ }
-    ensures { λ r. ⌜ r ≡ stepAs Phase.Resuming s ⌝ }
+    requires { ⌜ s .figures .resumed ≤ 1000000 ⌝ }
+    ensures { λ r. ⌜ r ≡ stepIn Phase.Resuming s ⌝ }
 {
-    let t = s.resumed;
-    let place = s.place;
-    Move::Act(Change {
-        phase: Phase::ResumingAt(t),
-        place,
-        counter: s.counter,
-        issued: s.issued,
-        resumed: t + 1,
-        begun: s.begun,
-        answer: Answer::StartedResume(t),
-    })
+    let mut figures = s.figures;
+    let t = figures.resumed;
+    figures.resumed = t + 1;
+    Move::Act(change(Phase::ResumingAt(t), figures, Answer::StartedResume(t), s))
 }
 
 // The waiter is woken, or has given up and is left the permit.
 fn resume_waiter(q: u32, t: u32, s: Sight) -> Move
-    ensures { λ r. ⌜ r ≡ wakeOr q t s ⌝ }
+    ensures { λ r. ⌜ r ≡ resumeWaiter (isWaiting (s .waiter .phase)) q t s ⌝ }
 {
     let waiter = s.waiter;
-    if is_waiting(waiter) {
-        return Move::Wake(
-            q,
-            Change {
-                phase: Phase::Free,
-                place: Place::Done,
-                counter: s.counter,
-                issued: s.issued,
-                resumed: s.resumed,
-                begun: s.begun,
-                answer: Answer::Woke(q, t),
-            },
-        );
-    }
-    placed(Place::Permit, Phase::Free, Answer::Delegated(t), s)
+    let phase = waiter.phase;
+    let Phase::Waiting(_) = phase else {
+        return placed(Place::Permit, Phase::Free, Answer::Delegated(t), s);
+    };
+    let seat = s.seat;
+    let figures = s.figures;
+    Move::Wake(
+        q,
+        with_phase(Phase::Holding, waiter),
+        with_place(Place::Done, seat),
+        change(Phase::Free, figures, Answer::Woke(q, t), s),
+    )
 }
 
 fn step_resuming_at(t: u32, s: Sight) -> Move
-    ensures { λ r. ⌜ r ≡ stepAs (Phase.ResumingAt t) s ⌝ }
+    ensures { λ r. ⌜ r ≡ stepIn (Phase.ResumingAt t) s ⌝ }
 {
-    let place = s.place;
+    let seat = s.seat;
+    let place = seat.place;
     match place {
         Place::Empty => placed(Place::Permit, Phase::Free, Answer::LeftPermit(t), s),
         Place::Waiting(q) => resume_waiter(q, t, s),
@@ -130,20 +115,20 @@ fn step_resuming_at(t: u32, s: Sight) -> Move
 }
 
 fn step_aborting(t: u32, s: Sight) -> Move
-    requires { ⌜ CounterFits (s .counter) ⌝ }
-    ensures { λ r. ⌜ r ≡ stepAs (Phase.Aborting t) s ⌝ }
+    requires { ⌜ CounterFits (s .figures .counter) ⌝ }
+    ensures { λ r. ⌜ r ≡ stepIn (Phase.Aborting t) s ⌝ }
 {
-    let counter = s.counter;
-    if below_zero(counter) {
+    if below_zero(s.figures.counter) {
         return given(Phase::Cancelling(t), Answer::MustCancel, s);
     }
     given(Phase::Refusing(t), Answer::MustRefuse, s)
 }
 
 fn step_cancelling(t: u32, s: Sight) -> Move
-    ensures { λ r. ⌜ r ≡ stepAs (Phase.Cancelling t) s ⌝ }
+    ensures { λ r. ⌜ r ≡ stepIn (Phase.Cancelling t) s ⌝ }
 {
-    let place = s.place;
+    let seat = s.seat;
+    let place = seat.place;
     match place {
         Place::Waiting(_) => placed(Place::Cancelled, Phase::Free, Answer::MarkedCancelled(t), s),
         Place::Permit => placed(Place::Done, Phase::Resuming, Answer::PassedOn(t), s),
@@ -152,9 +137,10 @@ fn step_cancelling(t: u32, s: Sight) -> Move
 }
 
 fn step_refusing(t: u32, s: Sight) -> Move
-    ensures { λ r. ⌜ r ≡ stepAs (Phase.Refusing t) s ⌝ }
+    ensures { λ r. ⌜ r ≡ stepIn (Phase.Refusing t) s ⌝ }
 {
-    let place = s.place;
+    let seat = s.seat;
+    let place = seat.place;
     match place {
         Place::Waiting(_) => placed(Place::Refused, Phase::Free, Answer::MarkedRefused(t), s),
         Place::Permit => placed(Place::Done, Phase::Free, Answer::DroppedPermit(t), s),
@@ -165,9 +151,10 @@ fn step_refusing(t: u32, s: Sight) -> Move
 // The step table.
 pub fn decide_step(s: Sight) -> Move
     requires { ⌜ Small s ⌝ }
-    ensures { λ r. ⌜ r ≡ stepOf s ⌝ }
+    ensures { λ r. ⌜ r ≡ Table.step s ⌝ }
 {
-    let phase = s.phase;
+    let slot = s.slot;
+    let phase = slot.phase;
     match phase {
         Phase::Acquiring => step_acquiring(s),
         Phase::Suspending => step_suspending(s),

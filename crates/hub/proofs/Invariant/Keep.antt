@@ -6,6 +6,7 @@ use mathlib.Core.Logic.{_⊎_, inl, inr}
 use native.Mathlib.Decide.{ℕ-discrete}
 use native.Mathlib.Omega.{arith}
 use lib.IntN.{ℤ}
+use Rattle.hub.specs.declared.opening.Opening.{Opening}
 use Rattle.hub.specs.declared.record.Figures.{Figures}
 use Rattle.hub.specs.declared.record.Phase.{Phase}
 use Rattle.hub.specs.declared.record.Place.{Place}
@@ -26,7 +27,7 @@ use Rattle.hub.proofs.Invariant.Tickets.{Tickets, Shift, Owes, Names, k
 abbrev pub TicketsIn : Queue → Type 0
 TicketsIn m =
     let f = m .figures in
-    Tickets (phases m) (places m) (f .parties) (f .issued) (f .resumed) (f .begun)
+    Tickets (phases m) (places m) (m .opening .parties) (f .issued) (f .resumed) (f .begun)
     (down (f .counter)) (sum resuming m)
 
 pub record Inv (k : ℕ) (m : Queue) : Type 0 where
@@ -161,14 +162,14 @@ module _ (k : ℕ) (m m′ : Queue) (p : ℕ) (f x : Phase) (t : ℕ) (b a : Pla
       }
 
   -- Every move keeps the invariant.
-  pub keep : Names p t x b a → p < m .figures .parties
-      → m′ .figures .parties ≡ m .figures .parties → Inv k m′
+  pub keep : Names p t x b a → p < m .opening .parties
+      → m′ .opening ≡ m .opening → Inv k m′
   keep nm l e =
       record {
         tickets =
             subst
-            (λ (n : ℕ).
-            Tickets (phases m′) (places m′) n (m′ .figures .issued) (m′ .figures .resumed)
+            (λ (o : Opening).
+            Tickets (phases m′) (places m′) (o .parties) (m′ .figures .issued) (m′ .figures .resumed)
             (m′ .figures .begun) (down (m′ .figures .counter)) (sum resuming m′))
             (sym e) (keep-tickets (inv .tickets) sh owes nm l);
         owing = omega (

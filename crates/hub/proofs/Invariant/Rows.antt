@@ -12,8 +12,8 @@ use lib.ListN.{length, set, length-set}
 use lib.Seq.{getD-set-same, getD-set-other}
 use borrow.Author.Tests.{eq-eqb, ne-eqb}
 use Rattle.hub.specs.declared.answers.Answer.{Answer}
-use Rattle.hub.specs.declared.moves.Move.{Move}
-use Rattle.hub.specs.declared.moves.Move.the-variants.{Refuse, Act, Put, Wake}
+use Rattle.hub.specs.Moves.{Move}
+use Rattle.hub.specs.Moves.{Refuse, Act, Put, Wake}
 use Rattle.hub.specs.declared.moves.Op.{Op}
 use Rattle.hub.specs.declared.record.Figures.{Figures}
 use Rattle.hub.specs.declared.record.PartySlot.{PartySlot}
@@ -84,7 +84,7 @@ pub record Reports (o : Op) (p : ℕ) (r : Answer) (m m′ : Queue) : Type 0 whe
 
 pub record Next (k : ℕ) (o : Op) (p : ℕ) (r : Answer) (m m′ : Queue) : Type 0 where
   pub inv : Inv k m′
-  pub permits : m′ .figures .permits ≡ m .figures .permits
+  pub opening : m′ .opening ≡ m .opening
   pub reports : Reports o p r m m′
 
 -- A good move, before the tidying: no refusal by 1, and otherwise the above.
@@ -105,7 +105,8 @@ pub record Says (o : Op) (f x : Phase) (b a : Place) (r : Answer) (g g′ : ℕ)
 
 -- A queue with one slot, the cells and the figures set.
 abbrev pub set-in : Queue → ℕ → PartySlot → (ℕ → PlaceSlot) → Figures → Queue
-set-in m p s g h = record { figures = h; cells = g; slots = writeSlot (m .slots) p s }
+set-in m p s g h =
+    record { opening = m .opening; figures = h; cells = g; slots = writeSlot (m .slots) p s }
 
 module _ (m : Queue) (p : ℕ) (f : Phase) (s : PartySlot) (t : ℕ) (i : p < length (phases m))
     (e : phaseIn (phases m) p ≡ f) where
@@ -168,7 +169,7 @@ module _ (m : Queue) (p : ℕ) (f : Phase) (s : PartySlot) (t : ℕ) (i : p < le
       }
 
 -- A party's row on the cell of one ticket, and on none.
-module _ (k : ℕ) (m : Queue) (p : ℕ) (l : p < m .figures .parties) (inv : Inv k m) where
+module _ (k : ℕ) (m : Queue) (p : ℕ) (l : p < m .opening .parties) (inv : Inv k m) where
   -- What the answer tells of the phases and of the counter.
   abbrev pub Tells : Op → Phase → Phase → Answer → ℤ → Type 0
   Tells o f x r c =
@@ -183,20 +184,16 @@ module _ (k : ℕ) (m : Queue) (p : ℕ) (l : p < m .figures .parties) (inv : In
       (xs : List ℕ) → AllBelow (m .figures .resumed) xs
       → AllBelow d (servedAfter p (printed r) (phases m) xs)
 
-  -- K and n stay.
-  abbrev pub Stays : Figures → Type 0
-  Stays h = (h .permits ≡ m .figures .permits) × (h .parties ≡ m .figures .parties)
-
   row : {o : Op} {f x : Phase} {t : ℕ} {b a : Place} (m′ : Queue) (r : Answer)
-      → ShiftIn m m′ p f x t b a → phases m′ ≡ set (phases m) p x → Stays (m′ .figures)
+      → ShiftIn m m′ p f x t b a → phases m′ ≡ set (phases m) p x → m′ .opening ≡ m .opening
       → LocalIn m (m′ .figures) f x t b a → BesideIn m (m′ .figures) f x t → Names p t x b a
       → Says o f x b a r (m .figures .begun) (m′ .figures .begun)
       → Tells o f x r (m′ .figures .counter)
       → Serves (m′ .figures .resumed) r → Next k o p r m m′
   row {o} {f} {x} {t} {b} {a} m′ r sh ps st lo be nm sa te sv =
       record {
-        inv = keep k m m′ p f x t b a inv sh lo be nm l (st .1);
-        permits = st .0;
+        inv = keep k m m′ p f x t b a inv sh lo be nm l st;
+        opening = st;
         reports =
             record {
               success = te .3;
@@ -226,19 +223,19 @@ module _ (k : ℕ) (m : Queue) (p : ℕ) (l : p < m .figures .parties) (inv : In
       → Next k o p r m (set-in m p s (write (m .cells) t a) (m .figures))
   place-row {o} {f} {s} {b} {a} {r} t e e′ j lo be nm sa te sv =
       row _ r (shift-place m p f s t (inside (inv .tickets) p l) e b a (m .figures) e′ j)
-      (write-phase (m .slots) p s) (refl, refl) lo be nm sa te sv
+      (write-phase (m .slots) p s) refl lo be nm sa te sv
 
   -- On no cell. The ticket t is one that the row says something of.
   pub phase-row : {o : Op} {f : Phase} {s : PartySlot} {h : Figures} {r : Answer} (t : ℕ)
-      → phaseIn (phases m) p ≡ f → Stays h
+      → phaseIn (phases m) p ≡ f
       → LocalIn m h f (s .phase) t (places m t) (places m t) → BesideIn m h f (s .phase) t
       → Names p t (s .phase) (places m t) (places m t)
       → Says o f (s .phase) (places m t) (places m t) r (m .figures .begun) (h .begun)
       → Tells o f (s .phase) r (h .counter) → Serves (h .resumed) r
       → Next k o p r m (set-in m p s (m .cells) h)
-  phase-row {o} {f} {s} {h} {r} t e st lo be nm sa te sv =
+  phase-row {o} {f} {s} {h} {r} t e lo be nm sa te sv =
       row _ r (shift-phase m p f s t (inside (inv .tickets) p l) e (places m t) h refl)
-      (write-phase (m .slots) p s) st lo be nm sa te sv
+      (write-phase (m .slots) p s) refl lo be nm sa te sv
 
   -- A cell that the row leaves alone: its party stands there as before, or this one still does.
   pub names-kept : (t : ℕ) (f x : Phase) → phaseIn (phases m) p ≡ f → stand t f ≤ stand t x

@@ -10,8 +10,8 @@ use lib.ListN.{replicate}
 use Rattle.hub.specs.declared.answers.Answer.{Answer}
 use Rattle.hub.specs.declared.answers.Refusal.{Refusal}
 use Rattle.hub.specs.declared.moves.Call.{Call}
-use Rattle.hub.specs.declared.moves.Move.{Move}
-use Rattle.hub.specs.declared.moves.Move.the-variants.{Refuse, Act, Put, Wake}
+use Rattle.hub.specs.Moves.{Move}
+use Rattle.hub.specs.Moves.{Refuse, Act, Put, Wake}
 use Rattle.hub.specs.declared.moves.Op.{Op}
 use Rattle.hub.specs.declared.opening.Opening.{Opening}
 use Rattle.hub.specs.declared.record.PartySlot.{PartySlot}
@@ -236,7 +236,7 @@ module _ (k : ℕ) (m : Queue) (inv : Inv k m) (c : Call) where
   apply-good (Put b x) g e a = after (x .answer) _ e a g
   apply-good (Wake q s b x) g e a = after (x .answer) _ e a g
 
-  pub move-good : (b : Bool) → ltb (c .party) (m .figures .parties) ≡ b
+  pub move-good : (b : Bool) → ltb (c .party) (m .opening .parties) ≡ b
       → Good k (c .op) (c .party) m (look m (c .party) .slot .phase)
       (checked true b (decide (c .op) false (look m (c .party))))
   unfolding checked

@@ -9,7 +9,7 @@ use borrow.Author.Tests.{leb-false}
 use lib.Dec.{leb, eqb}
 use lib.ListN.{set}
 use lib.Seq.{set-set, set-comm}
-use Rattle.hub.specs.declared.moves.Move.{Move}
+use Rattle.hub.specs.Moves.{Move}
 use Rattle.hub.specs.declared.moves.Op.{Op}
 use Rattle.hub.specs.declared.moves.Op.the-variants.{Acquire, Step, Cancel, Release}
 use Rattle.hub.specs.declared.record.PartySlot.{PartySlot}
@@ -61,7 +61,7 @@ names-same p t x Cancelled o = tt
 names-same p t x Refused o = tt
 names-same p t x Done o = tt
 
-module _ (k : ℕ) (m : Queue) (p : ℕ) (l : p < m .figures .parties) (inv : Inv k m) where
+module _ (k : ℕ) (m : Queue) (p : ℕ) (l : p < m .opening .parties) (inv : Inv k m) where
   abbrev issued : ℕ
   issued = m .figures .issued
 
@@ -74,13 +74,13 @@ module _ (k : ℕ) (m : Queue) (p : ℕ) (l : p < m .figures .parties) (inv : In
       → Good k Step p m Acquiring (stepAcquiring u (look m p))
   unfolding stepAcquiring pick isOneOf isPlaceOf seenBy phaseAfter phasesAfter counterAfter servedAfter
   asked true e f =
-      phase-row k m p l inv issued f (refl, refl)
+      phase-row k m p l inv issued f
       (omega (arith, inv .tickets .at issued, took-above (m .figures .counter) e))
       (omega (arith, took-above (m .figures .counter) e))
       (names-kept k m p l inv issued _ _ f (omega arith))
       (omega arith) (refl, refl, refl, refl) (λ xs a. a)
   asked false e f =
-      phase-row k m p l inv issued f (refl, refl)
+      phase-row k m p l inv issued f
       (omega (arith, inv .tickets .at issued, took-below (m .figures .counter) e))
       (omega (arith, took-below (m .figures .counter) e))
       (names-kept k m p l inv issued _ _ f (omega arith))
@@ -91,13 +91,13 @@ module _ (k : ℕ) (m : Queue) (p : ℕ) (l : p < m .figures .parties) (inv : In
       → Good k Step p m Releasing (stepReleasing u (look m p))
   unfolding stepReleasing pick isOneOf isPlaceOf seenBy phaseAfter phasesAfter counterAfter servedAfter
   giving-back true e f =
-      phase-row k m p l inv issued f (refl, refl)
+      phase-row k m p l inv issued f
       (omega (arith, inv .tickets .at issued, gave-below (m .figures .counter) e))
       (omega (arith, gave-below (m .figures .counter) e))
       (names-kept k m p l inv issued _ _ f (omega arith))
       (omega arith) (refl, refl, refl, refl) (λ xs a. a)
   giving-back false e f =
-      phase-row k m p l inv issued f (refl, refl)
+      phase-row k m p l inv issued f
       (omega (arith, inv .tickets .at issued, gave-above (m .figures .counter) e))
       (omega (arith, gave-above (m .figures .counter) e))
       (names-kept k m p l inv issued _ _ f (omega arith))
@@ -130,7 +130,7 @@ module _ (k : ℕ) (m : Queue) (p : ℕ) (l : p < m .figures .parties) (inv : In
       → Good k Step p m Suspending (stepSuspending (look m p))
   unfolding stepSuspending pick isOneOf isPlaceOf seenBy phaseAfter phasesAfter counterAfter servedAfter
   unnumbered f =
-      phase-row k m p l inv issued f (refl, refl)
+      phase-row k m p l inv issued f
       (omega (
         arith,
         same-self issued,
@@ -149,7 +149,7 @@ module _ (k : ℕ) (m : Queue) (p : ℕ) (l : p < m .figures .parties) (inv : In
       → Good k Step p m Resuming (stepResuming (look m p))
   unfolding stepResuming pick isOneOf isPlaceOf seenBy phaseAfter phasesAfter counterAfter servedAfter
   carrying f =
-      phase-row k m p l inv resumed f (refl, refl)
+      phase-row k m p l inv resumed f
       (omega (
         arith,
         same-self resumed,
@@ -248,7 +248,7 @@ module _ (k : ℕ) (m : Queue) (p : ℕ) (l : p < m .figures .parties) (inv : In
       → Good k Step p m (Aborting t) (stepAborting t z (look m p))
   unfolding stepAborting pick isOneOf isPlaceOf seenBy phaseAfter phasesAfter counterAfter servedAfter
   giving-up t true c e =
-      phase-row k m p l inv t e (refl, refl)
+      phase-row k m p l inv t e
       (omega (arith, same-self t, known t _ e (owns t) _ refl, gave-below (m .figures .counter) c))
       (record {
         numbers = λ v y. (refl, refl);
@@ -257,7 +257,7 @@ module _ (k : ℕ) (m : Queue) (p : ℕ) (l : p < m .figures .parties) (inv : In
       (names-kept k m p l inv t _ _ e (omega arith)) (omega arith) (refl, refl, refl, refl)
       (λ xs a. a)
   giving-up t false c e =
-      phase-row k m p l inv t e (refl, refl)
+      phase-row k m p l inv t e
       (omega (arith, same-self t, known t _ e (owns t) _ refl, gave-above (m .figures .counter) c))
       (record {
         numbers = λ v y. (refl, refl);
@@ -308,7 +308,7 @@ module _ (k : ℕ) (m : Queue) (p : ℕ) (l : p < m .figures .parties) (inv : In
 
     -- The waiter is woken: as if it gave up, the permit were left there, and it took it.
     module _ (q : ℕ) (i : places m t ≡ WaitedBy q) (g : phaseIn (phases m) q ≡ Waiting t) where
-      party : q < m .figures .parties
+      party : q < m .opening .parties
       party =
           party-in (inv .tickets) q (Waiting t) g
           (λ z. (let y : _≡_ {A = ℕ} 0 1 = cc in omega arith))
@@ -380,7 +380,8 @@ module _ (k : ℕ) (m : Queue) (p : ℕ) (l : p < m .figures .parties) (inv : In
 
       -- the three at once
       abbrev together : (ℕ → PlaceSlot) → List PartySlot → Queue
-      together c ss = record { figures = m .figures; cells = c; slots = ss }
+      together c ss =
+          record { opening = m .opening; figures = m .figures; cells = c; slots = ss }
 
       abbrev three : Queue
       three =
@@ -410,7 +411,7 @@ module _ (k : ℕ) (m : Queue) (p : ℕ) (l : p < m .figures .parties) (inv : In
       wakes =
           record {
             inv = subst (Inv k) at-once i₃;
-            permits = refl;
+            opening = refl;
             reports =
                 record {
                   success = refl;
@@ -532,7 +533,7 @@ module _ (k : ℕ) (m : Queue) (p : ℕ) (l : p < m .figures .parties) (inv : In
   acquire-good true false e i =
       let j = leb-false MAX-BEGUN (m .figures .begun) i in
       let f = is-of Free (one-of Free phase e) in
-      phase-row k m p l inv issued f (refl, refl) (omega (arith, inv .tickets .at issued))
+      phase-row k m p l inv issued f (omega (arith, inv .tickets .at issued))
       (omega arith) (names-kept k m p l inv issued _ _ f (omega arith)) (omega arith)
       (refl, refl, refl, refl) (λ xs a. a)
 
@@ -544,7 +545,7 @@ module _ (k : ℕ) (m : Queue) (p : ℕ) (l : p < m .figures .parties) (inv : In
   cancel-good true false e =
       let t = ticketOf phase in
       let f = is-of (Waiting t) (one-of (Waiting 0) phase e) in
-      phase-row k m p l inv t f (refl, refl)
+      phase-row k m p l inv t f
       (omega (arith, same-self t, known t _ f (owns t) _ refl, least-le (places m t)))
       (omega arith) (names-kept k m p l inv t _ _ f (omega arith)) (omega arith)
       (refl, refl, refl, refl) (λ xs a. a)
@@ -555,7 +556,7 @@ module _ (k : ℕ) (m : Queue) (p : ℕ) (l : p < m .figures .parties) (inv : In
   release-good false e = refl
   release-good true e =
       let f = is-of Holding (one-of Holding phase e) in
-      phase-row k m p l inv issued f (refl, refl) (omega (arith, inv .tickets .at issued))
+      phase-row k m p l inv issued f (omega (arith, inv .tickets .at issued))
       (omega arith) (names-kept k m p l inv issued _ _ f (omega arith)) (omega arith)
       (refl, refl, refl, refl) (λ xs a. a)
 

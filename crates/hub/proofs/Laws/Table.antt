@@ -3,8 +3,8 @@ use Prim.Native.Nat.{ℕ}
 use mathlib.Core.Path.{_≡_, refl}
 use mathlib.Core.Bool.{Bool, true, false, not}
 use lib.Dec.{eqb}
-use Rattle.hub.specs.declared.moves.Move.{Move}
-use Rattle.hub.specs.declared.moves.Move.the-variants.{Refuse, Act, Put, Wake}
+use Rattle.hub.specs.Moves.{Move}
+use Rattle.hub.specs.Moves.{Refuse, Act, Put, Wake}
 use Rattle.hub.specs.declared.moves.Sight.{Sight}
 use Rattle.hub.specs.declared.record.Phase.{Phase}
 use Rattle.hub.specs.declared.record.Place.{Place}

@@ -10,11 +10,12 @@ use lib.ListN.{length}
 use Rattle.hub.specs.declared.answers.Answer.{Answer}
 use Rattle.hub.specs.declared.answers.Refusal.{Refusal}
 use Rattle.hub.specs.declared.moves.Call.{Call}
-use Rattle.hub.specs.declared.moves.Move.{Move}
-use Rattle.hub.specs.declared.moves.Move.the-variants.{Refuse, Act, Put, Wake}
+use Rattle.hub.specs.Moves.{Move}
+use Rattle.hub.specs.Moves.{Refuse, Act, Put, Wake}
 use Rattle.hub.specs.declared.moves.Op.{Op}
 use Rattle.hub.specs.declared.moves.Op.the-variants.{Acquire, Step, Cancel, Release}
 use Rattle.hub.specs.declared.moves.Sight.{Sight}
+use Rattle.hub.specs.declared.opening.Opening.{Opening}
 use Rattle.hub.specs.declared.record.Figures.{Figures}
 use Rattle.hub.specs.declared.record.Hub.{Hub}
 use Rattle.hub.specs.declared.record.PartySlot.{PartySlot}
@@ -71,8 +72,8 @@ module _ (k : ℕ) (h : Hub) (m : Queue) (r : Reached k h m) (c : Call) where
         tidied-reached k h′ m′
         (record {
           permits =
-              ap (λ (f : Figures). f .permits) (w .figures) ∙ g .permits
-              ∙ sym (ap (λ (f : Figures). f .permits) (r .shows .figures)) ∙ r .permits;
+              ap (λ (o : Opening). o .permits) (w .opening ∙ g .opening ∙ sym (r .shows .opening))
+              ∙ r .permits;
           size = z;
           shows = w;
           inv = g .inv;
@@ -86,6 +87,7 @@ module _ (k : ℕ) (h : Hub) (m : Queue) (r : Reached k h m) (c : Call) where
     apply-reached (Act x) g =
         moved (x .answer) _ _ g
         (record {
+          opening = r .shows .opening;
           figures = refl;
           slots = ap (λ (l : List PartySlot). writeSlot l (c .party) (x .slot)) (r .shows .slots);
           window = r .shows .window;
@@ -95,6 +97,7 @@ module _ (k : ℕ) (h : Hub) (m : Queue) (r : Reached k h m) (c : Call) where
         let q = placed-window k h m r (c .party) phase own-phase a in
         moved (x .answer) _ _ g
         (record {
+          opening = r .shows .opening;
           figures = refl;
           slots = ap (λ (l : List PartySlot). writeSlot l (c .party) (x .slot)) (r .shows .slots);
           window = q .0;
@@ -104,6 +107,7 @@ module _ (k : ℕ) (h : Hub) (m : Queue) (r : Reached k h m) (c : Call) where
         let q = placed-window k h m r (c .party) phase own-phase a in
         moved (x .answer) _ _ g
         (record {
+          opening = r .shows .opening;
           figures = refl;
           slots =
               ap (λ (l : List PartySlot). writeSlot (writeSlot l w s) (c .party) (x .slot))
@@ -188,7 +192,7 @@ module _ (k : ℕ) (h : Hub) (m : Queue) (r : Reached k h m) (c : Call) where
   decided true Cancel f z g e = made (omega (arith, r .room, ap isAcquire z)) _ g e
   decided true Release f z g e = made (omega (arith, r .room, ap isAcquire z)) _ g e
 
-  in-turn : (b : Bool) → ltb (c .party) (m .figures .parties) ≡ b
+  in-turn : (b : Bool) → ltb (c .party) (m .opening .parties) ≡ b
       → Follows k h m c seen (checked true b (decide (c .op) full seen))
   unfolding checked
   in-turn false e =
@@ -202,12 +206,12 @@ module _ (k : ℕ) (h : Hub) (m : Queue) (r : Reached k h m) (c : Call) where
   pub follows : 1 ≤ k → k ≤ 32 → Follows k h m c (look h (c .party)) (moveOf h c)
   follows a b =
       subst (λ (x : Bool). Follows k h m c (look h (c .party))
-      (checked x (ltb (c .party) (h .figures .parties)) (decide (c .op) full (look h (c .party)))))
+      (checked x (ltb (c .party) (h .opening .parties)) (decide (c .op) full (look h (c .party)))))
       (sym (reached-fits k h m r a b))
       (subst (λ (n : ℕ). Follows k h m c (look h (c .party))
       (checked true (ltb (c .party) n) (decide (c .op) full (look h (c .party)))))
-      (sym (ap (λ (f : Figures). f .parties) (r .shows .figures)))
+      (sym (ap (λ (o : Opening). o .parties) (r .shows .opening)))
       (subst (λ (s : Sight). Follows k h m c s
-      (checked true (ltb (c .party) (m .figures .parties)) (decide (c .op) full s)))
+      (checked true (ltb (c .party) (m .opening .parties)) (decide (c .op) full s)))
       (sym (look-same k h m r (c .party)))
       (in-turn _ refl)))

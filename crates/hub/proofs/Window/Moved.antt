@@ -96,6 +96,7 @@ module _ (k : ℕ) (h : Hub) (s : Ring) (m : Queue) (r : Reached k (withRing h s
         room = r .room;
         shows =
             record {
+              opening = r .shows .opening;
               figures = ap (λ (f : Figures). withResumed (f .resumed + 1) f) (r .shows .figures);
               slots = r .shows .slots;
               window =
@@ -129,6 +130,7 @@ module _ (k : ℕ) (h : Hub) (s : Ring) (m : Queue) (r : Reached k (withRing h s
         room = omega (arith, r .room);
         shows =
             record {
+              opening = r .shows .opening;
               figures = r .shows .figures;
               slots = r .shows .slots;
               window =

@@ -7,10 +7,11 @@ use native.Mathlib.Omega.{arith}
 use borrow.Author.Tests.{lt-ltb, le-leb, ltb-true, ltb-false, eq-eqb}
 use lib.Dec.{ltb, leb, eqb}
 use lib.IntN.{ℤ, pos, negsuc}
-use Rattle.hub.specs.declared.moves.Move.{Move}
-use Rattle.hub.specs.declared.moves.Move.the-variants.{Refuse, Act, Put, Wake}
+use Rattle.hub.specs.Moves.{Move}
+use Rattle.hub.specs.Moves.{Refuse, Act, Put, Wake}
 use Rattle.hub.specs.declared.moves.Op.{Op}
 use Rattle.hub.specs.declared.moves.Sight.{Sight}
+use Rattle.hub.specs.declared.opening.Opening.{Opening}
 use Rattle.hub.specs.declared.record.Figures.{Figures}
 use Rattle.hub.specs.declared.record.Hub.{Hub}
 use Rattle.hub.specs.declared.record.Phase.{Phase}
@@ -94,21 +95,21 @@ module _ (k : ℕ) (h : Hub) (m : Queue) (r : Reached k h m) where
   up-to-32 : (n : ℕ) → 1 ≤ n → n ≤ 32 → upTo32 n ≡ true
   up-to-32 n a b = both _ _ (le-leb 1 n a) (le-leb n 32 b)
 
-  figures-fit : 1 ≤ k → k ≤ 32 → figuresFit (h .figures) (h .oldest) ≡ true
+  figures-fit : 1 ≤ k → k ≤ 32 → figuresFit (h .opening) (h .figures) (h .oldest) ≡ true
   unfolding figuresFit
   figures-fit a b =
-      let n = h .figures .parties in
+      let n = h .opening .parties in
       let i = h .figures .issued in
       let d = h .figures .resumed in
       let few = r .inv .tickets .few in
       let tickets = near (r .inv .tickets) in
       let above = low k h m r in
       let below = high k h m r in
-      let same-n = fig (λ f. f .parties) in
+      let same-n = ap (λ (o : Opening). o .parties) (r .shows .opening) in
       let same-i = fig (λ f. f .issued) in
       let same-d = fig (λ f. f .resumed) in
       let same-b = fig (λ f. f .begun) in
-      passed _ _ (up-to-32 (h .figures .permits) (omega (arith, r .permits)) (omega (arith, r .permits)))
+      passed _ _ (up-to-32 (h .opening .permits) (omega (arith, r .permits)) (omega (arith, r .permits)))
       (passed _ _ (up-to-32 n (omega arith) (omega arith))
       (passed _ _ (counter-fits (h .figures .counter) (sym (fig (λ f. f .counter))) b)
       (passed _ _ (le-leb (h .figures .begun) MAX-BEGUN (omega (arith, r .inv .tickets .begun)))
@@ -182,33 +183,33 @@ module _ (k : ℕ) (h : Hub) (m : Queue) (r : Reached k h m) where
           ))
 
   -- The table lists the step of every party; those from n up are at rest.
-  listed : (p : ℕ) (b : Bool) → ltb p (m .figures .parties) ≡ b
+  listed : (p : ℕ) (b : Bool) → ltb p (m .opening .parties) ≡ b
       → isListed (step (queue.look m p)) ≡ true
   unfolding decide stepIn seenBy
   listed p true e =
       good-listed k Op.Step p m (queue.look m p .slot .phase) (step (queue.look m p))
-      (decide-good k m p (ltb-true p (m .figures .parties) e) (r .inv) Op.Step)
+      (decide-good k m p (ltb-true p (m .opening .parties) e) (r .inv) Op.Step)
   listed p false e =
       let free : readSlot (m .slots) p .phase ≡ Phase.Free =
-      read-phase (m .slots) p ∙ r .inv .tickets .beyond p (ltb-false p (m .figures .parties) e) in
+      read-phase (m .slots) p ∙ r .inv .tickets .beyond p (ltb-false p (m .opening .parties) e) in
       subst (λ (f : Phase). isListed (stepIn f (queue.look m p)) ≡ true) (sym free) refl
 
   party-fits : (p : ℕ) → partyFits h p ≡ true
   unfolding partyFits isOneOf seenBy
   party-fits p =
       both _ _
-      (both _ _ (present (ltb p (h .figures .parties)) refl)
+      (both _ _ (present (ltb p (h .opening .parties)) refl)
       (ap (ticketFits (h .figures) (h .oldest)) (read-same k h m r p) ∙ ticket-fits p _ refl))
       (sym (listed-is-tabled (look h p))
       ∙ ap (λ (s : Sight). isListed (step s)) (look-same k h m r p) ∙ listed p _ refl)
     where
-      present : (b : Bool) → ltb p (h .figures .parties) ≡ b
+      present : (b : Bool) → ltb p (h .opening .parties) ≡ b
           → b || isFree (readSlot (h .slots) p .phase) ≡ true
       present true e = refl
       present false e =
           ap isFree (read-same k h m r p
           ∙ r .inv .tickets .beyond p
-          (omega (arith, ltb-false p (h .figures .parties) e, fig (λ f. f .parties))))
+          (omega (arith, ltb-false p (h .opening .parties) e, ap (λ (o : Opening). o .parties) (r .shows .opening))))
 
   place-fits : (t : ℕ) → h .oldest ≤ t → t < h .oldest + PLACES → placeFits h t ≡ true
   unfolding placeFits

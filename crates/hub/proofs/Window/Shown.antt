@@ -31,7 +31,7 @@ use Rattle.hub.proofs.Invariant.Keep.{Inv}
 
 -- A record that a schedule reaches: it shows a queue that keeps the invariant.
 pub record Reached (k : ℕ) (h : Hub) (m : Queue) : Type 0 where
-  pub permits : h .figures .permits ≡ k
+  pub permits : h .opening .permits ≡ k
   pub size : length (h .places) ≡ PLACES
   pub shows : Shows h m
   pub inv : Inv k m

@@ -1,0 +1,26 @@
+// The tests of the tidying's loops.
+
+use hub::phases::place_rank;
+use hub::record::PlaceSlot;
+ghost use mathlib.Core.Path.{_≡_};
+ghost use mathlib.Core.Bool.{_&&_};
+ghost use lib.Dec.{ltb};
+ghost use Rattle.hub.specs.Phases.{isCancelled, isDone};
+
+// Is ticket `resumed`, whose place this is, within the 256 that end before `end`, and cancelled?
+pub fn can_skip(seat: PlaceSlot, resumed: u32, end: u32) -> bool
+    ensures { λ r. ⌜ r ≡ (ltb resumed end && isCancelled (seat .place)) ⌝ }
+{
+    if end <= resumed {
+        return false;
+    }
+    let place = seat.place;
+    place_rank(place) == 3
+}
+
+pub fn can_retire(seat: PlaceSlot) -> bool
+    ensures { λ r. ⌜ r ≡ isDone (seat .place) ⌝ }
+{
+    let place = seat.place;
+    place_rank(place) == 5
+}
