@@ -1,3 +1,3 @@
 -- Laws that several proofs cite.
 pub mod Counter
-pub mod Steps
+pub mod Others

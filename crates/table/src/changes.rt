@@ -1,8 +1,8 @@
 // The changes that the rows of the table are made of.
 
+use crate::effect::Effect;
 use hub::answers::Answer;
-use hub::moves::Change;
-use hub::moves::Move;
+use hub::answers::Refusal;
 use hub::moves::Sight;
 use hub::record::Figures;
 use hub::record::Phase;
@@ -10,53 +10,108 @@ use hub::record::Place;
 use hub::slots::with_phase;
 use hub::slots::with_place;
 ghost use mathlib.Core.Path.{_≡_};
-ghost use Rattle.hub.specs.Table.{change, give, put, take, turn};
+ghost use Rattle.hub.specs.Moves.{Move, Refuse, Act};
+ghost use Rattle.hub.specs.Table.{change, give, put, take, turn, wake};
+ghost use Rattle.table.specs.Effect.{effectOf};
 ghost use Rattle.table.specs.Small.{CounterFits};
 
-// The party's phase and the figures change.
-pub(crate) fn change(phase: Phase, figures: Figures, answer: Answer, s: Sight) -> Change
-    ensures { λ r. ⌜ r ≡ change phase figures answer s ⌝ }
+pub(crate) fn refused(why: Refusal, s: Sight) -> Effect
+    ensures { λ r. ⌜ r ≡ effectOf (Refuse why) s ⌝ }
 {
+    let waiter = s.waiter;
     let slot = s.slot;
-    Change {
+    let seat = s.seat;
+    let figures = s.figures;
+    Effect {
+        turns: 0,
+        woken: 32,
+        waiter,
+        slot,
+        seat,
+        figures,
+        answer: Answer::Refused(why),
+    }
+}
+
+// The party's phase and the figures change.
+pub(crate) fn acted(phase: Phase, figures: Figures, answer: Answer, s: Sight) -> Effect
+    ensures { λ r. ⌜ r ≡ effectOf (Act (change phase figures answer s)) s ⌝ }
+{
+    let waiter = s.waiter;
+    let slot = s.slot;
+    let seat = s.seat;
+    Effect {
+        turns: 256,
+        woken: 32,
+        waiter,
         slot: with_phase(phase, slot),
+        seat,
         figures,
         answer,
     }
 }
 
 // Its phase alone.
-pub(crate) fn turned(phase: Phase, answer: Answer, s: Sight) -> Move
-    ensures { λ r. ⌜ r ≡ turn phase answer s ⌝ }
+pub(crate) fn turned(phase: Phase, answer: Answer, s: Sight) -> Effect
+    ensures { λ r. ⌜ r ≡ effectOf (turn phase answer s) s ⌝ }
 {
     let figures = s.figures;
-    Move::Act(change(phase, figures, answer, s))
-}
-
-// The place of its ticket, too.
-pub(crate) fn placed(place: Place, phase: Phase, answer: Answer, s: Sight) -> Move
-    ensures { λ r. ⌜ r ≡ put place phase answer s ⌝ }
-{
-    let seat = s.seat;
-    let figures = s.figures;
-    Move::Put(with_place(place, seat), change(phase, figures, answer, s))
+    acted(phase, figures, answer, s)
 }
 
 // The counter: one taken off, one added.
-pub(crate) fn taken(phase: Phase, answer: Answer, s: Sight) -> Move
+pub(crate) fn taken(phase: Phase, answer: Answer, s: Sight) -> Effect
     requires { ⌜ CounterFits (s .figures .counter) ⌝ }
-    ensures { λ r. ⌜ r ≡ take phase answer s ⌝ }
+    ensures { λ r. ⌜ r ≡ effectOf (take phase answer s) s ⌝ }
 {
     let mut figures = s.figures;
     figures.counter -= 1;
-    Move::Act(change(phase, figures, answer, s))
+    acted(phase, figures, answer, s)
 }
 
-pub(crate) fn given(phase: Phase, answer: Answer, s: Sight) -> Move
+pub(crate) fn given(phase: Phase, answer: Answer, s: Sight) -> Effect
     requires { ⌜ CounterFits (s .figures .counter) ⌝ }
-    ensures { λ r. ⌜ r ≡ give phase answer s ⌝ }
+    ensures { λ r. ⌜ r ≡ effectOf (give phase answer s) s ⌝ }
 {
     let mut figures = s.figures;
     figures.counter += 1;
-    Move::Act(change(phase, figures, answer, s))
+    acted(phase, figures, answer, s)
+}
+
+// The place of its ticket, too.
+pub(crate) fn placed(place: Place, phase: Phase, answer: Answer, s: Sight) -> Effect
+    ensures { λ r. ⌜ r ≡ effectOf (put place phase answer s) s ⌝ }
+{
+    let waiter = s.waiter;
+    let slot = s.slot;
+    let seat = s.seat;
+    let figures = s.figures;
+    Effect {
+        turns: 256,
+        woken: 32,
+        waiter,
+        slot: with_phase(phase, slot),
+        seat: with_place(place, seat),
+        figures,
+        answer,
+    }
+}
+
+// And the waiter's slot.
+pub(crate) fn woke(q: u32, t: u32, s: Sight) -> Effect
+    ensures { λ r. ⌜ r ≡ effectOf (wake q t s) s ⌝ }
+{
+    let waiter = s.waiter;
+    let slot = s.slot;
+    let seat = s.seat;
+    let figures = s.figures;
+    Effect {
+        turns: 256,
+        woken: q,
+        waiter: with_phase(Phase::Holding, waiter),
+        slot: with_phase(Phase::Free, slot),
+        seat: with_place(Place::Done, seat),
+        figures,
+        answer: Answer::Woke(q, t),
+    }
 }

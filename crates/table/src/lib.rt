@@ -1,6 +1,7 @@
 // What a call does, decided from the few values that it looks at: the step table and the other
-// calls, each function equal to a definition of the crate hub.
+// calls. Each function is equal to a definition of the crate hub, laid out flat.
 
+pub mod effect; // a decision as it is stored
 mod counter; // the side of zero that the counter is on
 mod changes; // what the rows are made of
 pub mod rows; // the step table

@@ -1,10 +1,11 @@
 // The three other calls: ask, give up, give back.
 
-use crate::changes::change;
+use crate::changes::acted;
+use crate::changes::refused;
 use crate::changes::turned;
+use crate::effect::Effect;
 use hub::answers::Answer;
 use hub::answers::Refusal;
-use hub::moves::Move;
 use hub::moves::Sight;
 use hub::record::Hub;
 use hub::record::Phase;
@@ -12,49 +13,50 @@ ghost use mathlib.Core.Path.{_≡_};
 ghost use mathlib.Core.Bool.{false};
 ghost use Rattle.hub.specs.declared.moves.Op.{Op};
 ghost use Rattle.hub.specs.Table.{decide};
+ghost use Rattle.table.specs.Effect.{effectOf};
 
 // Is there no place for one more ticket? Asked only of a party that is free.
-pub fn decide_acquire(full: bool, s: Sight) -> Move
-    ensures { λ r. ⌜ r ≡ decide Op.Acquire full s ⌝ }
+pub fn decide_acquire(full: bool, s: Sight) -> Effect
+    ensures { λ r. ⌜ r ≡ effectOf (decide Op.Acquire full s) s ⌝ }
 {
     let slot = s.slot;
     let phase = slot.phase;
     let Phase::Free = phase else {
-        return Move::Refuse(Refusal::NotFree);
+        return refused(Refusal::NotFree, s);
     };
     let mut figures = s.figures;
     if Hub::MAX_BEGUN <= figures.begun {
-        return Move::Refuse(Refusal::Exhausted);
+        return refused(Refusal::Exhausted, s);
     }
     if full {
-        return Move::Refuse(Refusal::Full);
+        return refused(Refusal::Full, s);
     }
     figures.begun += 1;
-    Move::Act(change(Phase::Acquiring, figures, Answer::Accepted, s))
+    acted(Phase::Acquiring, figures, Answer::Accepted, s)
 }
 
-pub fn decide_cancel(s: Sight) -> Move
-    ensures { λ r. ⌜ r ≡ decide Op.Cancel false s ⌝ }
+pub fn decide_cancel(s: Sight) -> Effect
+    ensures { λ r. ⌜ r ≡ effectOf (decide Op.Cancel false s) s ⌝ }
 {
     let slot = s.slot;
     let phase = slot.phase;
     let Phase::Waiting(t) = phase else {
-        return Move::Refuse(Refusal::NotWaiting);
+        return refused(Refusal::NotWaiting, s);
     };
     let kind = s.kind;
     if kind == 3 {
-        return Move::Refuse(Refusal::NotCancellable);
+        return refused(Refusal::NotCancellable, s);
     }
     turned(Phase::Aborting(t), Answer::Accepted, s)
 }
 
-pub fn decide_release(s: Sight) -> Move
-    ensures { λ r. ⌜ r ≡ decide Op.Release false s ⌝ }
+pub fn decide_release(s: Sight) -> Effect
+    ensures { λ r. ⌜ r ≡ effectOf (decide Op.Release false s) s ⌝ }
 {
     let slot = s.slot;
     let phase = slot.phase;
     let Phase::Holding = phase else {
-        return Move::Refuse(Refusal::NotHolding);
+        return refused(Refusal::NotHolding, s);
     };
     turned(Phase::Releasing, Answer::Accepted, s)
 }

@@ -1,29 +1,30 @@
 // The step table, a row a function.
 
-use crate::changes::change;
+use crate::changes::acted;
 use crate::changes::given;
 use crate::changes::placed;
+use crate::changes::refused;
 use crate::changes::taken;
+use crate::changes::woke;
 use crate::counter::above_zero;
 use crate::counter::below_zero;
+use crate::effect::Effect;
 use hub::answers::Answer;
 use hub::answers::Refusal;
-use hub::moves::Move;
 use hub::moves::Sight;
 use hub::record::Phase;
 use hub::record::Place;
-use hub::slots::with_phase;
-use hub::slots::with_place;
 ghost use mathlib.Core.Path.{_≡_};
 ghost use Prim.Native.Nat.{_≤_};
 ghost use Rattle.hub.specs.Phases.{isWaiting};
 ghost use Rattle.hub.specs.Table;
 ghost use Rattle.hub.specs.Table.{resumeWaiter, stepIn};
+ghost use Rattle.table.specs.Effect.{effectOf};
 ghost use Rattle.table.specs.Small.{Small, CounterFits};
 
-fn step_acquiring(s: Sight) -> Move
+fn step_acquiring(s: Sight) -> Effect
     requires { ⌜ CounterFits (s .figures .counter) ⌝ }
-    ensures { λ r. ⌜ r ≡ stepIn Phase.Acquiring s ⌝ }
+    ensures { λ r. ⌜ r ≡ effectOf (stepIn Phase.Acquiring s) s ⌝ }
 {
     if above_zero(s.figures.counter) {
         return taken(Phase::Holding, Answer::Acquired, s);
@@ -31,18 +32,18 @@ fn step_acquiring(s: Sight) -> Move
     taken(Phase::Suspending, Answer::MustWait, s)
 }
 
-fn step_suspending(s: Sight) -> Move
+fn step_suspending(s: Sight) -> Effect
     requires { ⌜ s .figures .issued ≤ 1000000 ⌝ }
-    ensures { λ r. ⌜ r ≡ stepIn Phase.Suspending s ⌝ }
+    ensures { λ r. ⌜ r ≡ effectOf (stepIn Phase.Suspending s) s ⌝ }
 {
     let mut figures = s.figures;
     let t = figures.issued;
     figures.issued = t + 1;
-    Move::Act(change(Phase::Ticketed(t), figures, Answer::DrewTicket(t), s))
+    acted(Phase::Ticketed(t), figures, Answer::DrewTicket(t), s)
 }
 
-fn step_ticketed(t: u32, s: Sight) -> Move
-    ensures { λ r. ⌜ r ≡ stepIn (Phase.Ticketed t) s ⌝ }
+fn step_ticketed(t: u32, s: Sight) -> Effect
+    ensures { λ r. ⌜ r ≡ effectOf (stepIn (Phase.Ticketed t) s) s ⌝ }
 {
     let seat = s.seat;
     let place = seat.place;
@@ -57,13 +58,13 @@ fn step_ticketed(t: u32, s: Sight) -> Move
             )
         }
         Place::Permit => placed(Place::Done, Phase::Holding, Answer::TookPermit(t), s),
-        _ => Move::Refuse(Refusal::Unfit),
+        _ => refused(Refusal::Unfit, s),
     }
 }
 
-fn step_releasing(s: Sight) -> Move
+fn step_releasing(s: Sight) -> Effect
     requires { ⌜ CounterFits (s .figures .counter) ⌝ }
-    ensures { λ r. ⌜ r ≡ stepIn Phase.Releasing s ⌝ }
+    ensures { λ r. ⌜ r ≡ effectOf (stepIn Phase.Releasing s) s ⌝ }
 {
     if below_zero(s.figures.counter) {
         return given(Phase::Resuming, Answer::MustResume, s);
@@ -71,37 +72,30 @@ fn step_releasing(s: Sight) -> Move
     given(Phase::Free, Answer::Returned, s)
 }
 
-fn step_resuming(s: Sight) -> Move
+fn step_resuming(s: Sight) -> Effect
     requires { ⌜ s .figures .resumed ≤ 1000000 ⌝ }
-    ensures { λ r. ⌜ r ≡ stepIn Phase.Resuming s ⌝ }
+    ensures { λ r. ⌜ r ≡ effectOf (stepIn Phase.Resuming s) s ⌝ }
 {
     let mut figures = s.figures;
     let t = figures.resumed;
     figures.resumed = t + 1;
-    Move::Act(change(Phase::ResumingAt(t), figures, Answer::StartedResume(t), s))
+    acted(Phase::ResumingAt(t), figures, Answer::StartedResume(t), s)
 }
 
 // The waiter is woken, or has given up and is left the permit.
-fn resume_waiter(q: u32, t: u32, s: Sight) -> Move
-    ensures { λ r. ⌜ r ≡ resumeWaiter (isWaiting (s .waiter .phase)) q t s ⌝ }
+fn resume_waiter(q: u32, t: u32, s: Sight) -> Effect
+    ensures { λ r. ⌜ r ≡ effectOf (resumeWaiter (isWaiting (s .waiter .phase)) q t s) s ⌝ }
 {
     let waiter = s.waiter;
     let phase = waiter.phase;
     let Phase::Waiting(_) = phase else {
         return placed(Place::Permit, Phase::Free, Answer::Delegated(t), s);
     };
-    let seat = s.seat;
-    let figures = s.figures;
-    Move::Wake(
-        q,
-        with_phase(Phase::Holding, waiter),
-        with_place(Place::Done, seat),
-        change(Phase::Free, figures, Answer::Woke(q, t), s),
-    )
+    woke(q, t, s)
 }
 
-fn step_resuming_at(t: u32, s: Sight) -> Move
-    ensures { λ r. ⌜ r ≡ stepIn (Phase.ResumingAt t) s ⌝ }
+fn step_resuming_at(t: u32, s: Sight) -> Effect
+    ensures { λ r. ⌜ r ≡ effectOf (stepIn (Phase.ResumingAt t) s) s ⌝ }
 {
     let seat = s.seat;
     let place = seat.place;
@@ -110,13 +104,13 @@ fn step_resuming_at(t: u32, s: Sight) -> Move
         Place::Waiting(q) => resume_waiter(q, t, s),
         Place::Cancelled => placed(Place::Done, Phase::Resuming, Answer::Skipped(t), s),
         Place::Refused => placed(Place::Done, Phase::Free, Answer::ResumeRefused(t), s),
-        _ => Move::Refuse(Refusal::Unfit),
+        _ => refused(Refusal::Unfit, s),
     }
 }
 
-fn step_aborting(t: u32, s: Sight) -> Move
+fn step_aborting(t: u32, s: Sight) -> Effect
     requires { ⌜ CounterFits (s .figures .counter) ⌝ }
-    ensures { λ r. ⌜ r ≡ stepIn (Phase.Aborting t) s ⌝ }
+    ensures { λ r. ⌜ r ≡ effectOf (stepIn (Phase.Aborting t) s) s ⌝ }
 {
     if below_zero(s.figures.counter) {
         return given(Phase::Cancelling(t), Answer::MustCancel, s);
@@ -124,34 +118,34 @@ fn step_aborting(t: u32, s: Sight) -> Move
     given(Phase::Refusing(t), Answer::MustRefuse, s)
 }
 
-fn step_cancelling(t: u32, s: Sight) -> Move
-    ensures { λ r. ⌜ r ≡ stepIn (Phase.Cancelling t) s ⌝ }
+fn step_cancelling(t: u32, s: Sight) -> Effect
+    ensures { λ r. ⌜ r ≡ effectOf (stepIn (Phase.Cancelling t) s) s ⌝ }
 {
     let seat = s.seat;
     let place = seat.place;
     match place {
         Place::Waiting(_) => placed(Place::Cancelled, Phase::Free, Answer::MarkedCancelled(t), s),
         Place::Permit => placed(Place::Done, Phase::Resuming, Answer::PassedOn(t), s),
-        _ => Move::Refuse(Refusal::Unfit),
+        _ => refused(Refusal::Unfit, s),
     }
 }
 
-fn step_refusing(t: u32, s: Sight) -> Move
-    ensures { λ r. ⌜ r ≡ stepIn (Phase.Refusing t) s ⌝ }
+fn step_refusing(t: u32, s: Sight) -> Effect
+    ensures { λ r. ⌜ r ≡ effectOf (stepIn (Phase.Refusing t) s) s ⌝ }
 {
     let seat = s.seat;
     let place = seat.place;
     match place {
         Place::Waiting(_) => placed(Place::Refused, Phase::Free, Answer::MarkedRefused(t), s),
         Place::Permit => placed(Place::Done, Phase::Free, Answer::DroppedPermit(t), s),
-        _ => Move::Refuse(Refusal::Unfit),
+        _ => refused(Refusal::Unfit, s),
     }
 }
 
 // The step table.
-pub fn decide_step(s: Sight) -> Move
+pub fn decide_step(s: Sight) -> Effect
     requires { ⌜ Small s ⌝ }
-    ensures { λ r. ⌜ r ≡ Table.step s ⌝ }
+    ensures { λ r. ⌜ r ≡ effectOf (Table.step s) s ⌝ }
 {
     let slot = s.slot;
     let phase = slot.phase;
@@ -165,6 +159,6 @@ pub fn decide_step(s: Sight) -> Move
         Phase::Releasing => step_releasing(s),
         Phase::Resuming => step_resuming(s),
         Phase::ResumingAt(t) => step_resuming_at(t, s),
-        _ => Move::Refuse(Refusal::AtRest),
+        _ => refused(Refusal::AtRest, s),
     }
 }

@@ -1,17 +1,29 @@
 -- `taken` meets its contract: a counter that fits still fits an `i32` once one is taken off it.
-use mathlib.Core.Path.{ap}
-use Rattle.hub.specs.Table.{tell}
+use borrow.Author.Needs.{needs}
+use mathlib.Core.Path.{ap, _∙_}
+use lib.IntN.{ℤ}
+use Rattle.hub.specs.Moves.{Act}
+use Rattle.hub.specs.Table.{change, withCounter}
+use Rattle.table.specs.Effect.{effectOf}
 use Rattle.table.proofs.Laws.Counter.{less, less-fits}
 use Rattle.table.proofs.changes.taken.Statement.{statement}
 use Rattle.table.proofs.changes.taken.Tie as tie
 
-sub-t6 : tie.Need-sub-t6
-sub-t6 c = less-fits (c .before .args .s .counter) (c .before .pre)
+sub-figures : tie.Need-sub-figures
+sub-figures c = less-fits (c .before .before .before .args .s .figures .counter) (c .before .before .before .pre)
+
+acted-requires : tie.Need-acted-requires
+acted-requires c κs = search needs
 
 returns : tie.Need-returns
 returns c =
-    let a = c .before .args in
-    ap (λ z. tell z (a .phase) (a .answer) (a .s)) (less (a .s .counter) (c .before .pre))
+    let b = c .before .before .before .before in
+    let a = b .args in
+    c .acted .ensures
+    ∙ ap
+    (λ (z : ℤ).
+    effectOf (Act (change (a .phase) (withCounter z (a .s .figures)) (a .answer) (a .s))) (a .s))
+    (less (a .s .figures .counter) (b .pre))
 
 pub taken-spec : {M : Type 1} → statement M
-taken-spec = tie.close (tie.spec sub-t6 returns)
+taken-spec = tie.close (tie.spec sub-figures acted-requires returns)

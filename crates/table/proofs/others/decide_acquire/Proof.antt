@@ -1,47 +1,83 @@
 -- `decide_acquire` meets its contract: its tests, in order, are those of the definition.
 use borrow.Author.Needs.{needs}
-use borrow.Author.Tests.{not-true, not-false, le-leb, lt-leb}
-use mathlib.Core.Path.{sym, _∙_}
+use borrow.Author.Tests.{le-leb, lt-leb}
+use mathlib.Core.Path.{refl, sym, ap, _∙_}
 use native.Mathlib.Omega.{arith}
+use Rattle.hub.proofs.Laws.Phases.{allBut, phase-arm}
+use Rattle.hub.specs.Phases.{isFree, isOneOf}
 use Rattle.hub.specs.Record.{MAX-BEGUN}
 use Rattle.hub.specs.Table.{acquire, decide}
+use Rattle.hub.specs.Moves.{Move}
+use Rattle.table.specs.Effect.{effectOf}
+use Rattle.table.proofs.Laws.Others.{exhausted, full-up}
 use Rattle.table.proofs.others.decide_acquire.Statement.{statement}
 use Rattle.table.proofs.others.decide_acquire.Tie as tie
 
-is-free-requires : tie.Need-is-free-requires
-is-free-requires c κs = search needs
+enum-told : tie.Need-enum-told
+enum-told c = search needs
+
+refused-requires : tie.Need-refused-requires
+refused-requires c κs = search needs
 
 returns : tie.Need-returns
-unfolding decide acquire
+unfolding decide acquire isOneOf
 returns c =
-    let free = sym (c .before .is-free .ensures) ∙ not-true _ (c .if1 .taken) in rw free
+    let f = c .before .before .before .args .s .slot .phase in
+    let e = sym (phase-arm (allBut 0) isFree f refl (c .before .match .keys2)) in
+    rw e (c .refused .ensures)
+
+refused-requires-2 : tie.Need-refused-requires-2
+refused-requires-2 c κs = search needs
 
 returns-2 : tie.Need-returns-2
-unfolding decide acquire
+unfolding decide isOneOf
 returns-2 c =
-    let b = c .before in
-    let free = sym (b .before .is-free .ensures) ∙ not-false _ (b .if1 .left) in
-    rw (free, le-leb MAX-BEGUN (b .before .before .args .s .begun) (omega arith))
+    let b = c .before .before .before .before in
+    let s = b .before .before .before .args .s in
+    c .refused2 .ensures
+    ∙ ap (λ (m : Move). effectOf m s)
+    (sym (exhausted _ _ _ s (ap isFree (b .enum-told .given .1))
+    (le-leb MAX-BEGUN (s .figures .begun) (omega arith))))
+
+refused-requires-3 : tie.Need-refused-requires-3
+refused-requires-3 c κs = search needs
 
 returns-3 : tie.Need-returns-3
-unfolding decide acquire
+unfolding decide isOneOf
 returns-3 c =
-    let b = c .before .before in
-    let free = sym (b .before .is-free .ensures) ∙ not-false _ (b .if1 .left) in
-    let begun = b .before .before .args .s .begun in
-    rw (free, lt-leb MAX-BEGUN begun (omega arith), c .if3 .taken)
+    let b = c .before .before .before .before .before in
+    let s = b .before .before .before .args .s in
+    c .refused3 .ensures
+    ∙ ap (λ (m : Move). effectOf m s)
+    (sym (full-up _ _ _ s (ap isFree (b .enum-told .given .1))
+    (lt-leb MAX-BEGUN (s .figures .begun) (omega arith)) (c .before .if2 .taken)))
 
-add-t12 : tie.Need-add-t12
-add-t12 c = search needs
+add-figures : tie.Need-add-figures
+add-figures c = search needs
+
+acted-requires : tie.Need-acted-requires
+acted-requires c κs = search needs
 
 returns-4 : tie.Need-returns-4
-unfolding decide acquire
+unfolding decide acquire isOneOf
 returns-4 c =
-    let b = c .before .before .before in
-    let free = sym (b .before .is-free .ensures) ∙ not-false _ (b .if1 .left) in
-    let begun = b .before .before .args .s .begun in
-    rw (free, lt-leb MAX-BEGUN begun (omega arith), c .before .if3 .left) (search needs)
+    let b = c .before .before .before .before .before .before in
+    let begun = b .before .before .before .args .s .figures .begun in
+    let e = b .enum-told .given .1 in
+    rw (e, lt-leb MAX-BEGUN begun (omega arith), c .before .before .if2 .left)
+    (c .acted .ensures)
 
 pub decide-acquire-spec : {M : Type 1} → statement M
 decide-acquire-spec =
-    tie.close (tie.spec is-free-requires returns returns-2 returns-3 add-t12 returns-4)
+    tie.close
+    (tie.spec
+    enum-told
+    refused-requires
+    returns
+    refused-requires-2
+    returns-2
+    refused-requires-3
+    returns-3
+    add-figures
+    acted-requires
+    returns-4)

@@ -1,27 +1,32 @@
 -- `decide_release` meets its contract: its test is that of the definition.
 use borrow.Author.Needs.{needs}
-use borrow.Author.Tests.{not-true, not-false}
-use mathlib.Core.Path.{sym, _∙_}
+use mathlib.Core.Path.{refl, sym}
+use Rattle.hub.proofs.Laws.Phases.{allBut, phase-arm}
+use Rattle.hub.specs.Phases.{isOneOf, isHolding}
 use Rattle.hub.specs.Table.{decide, release}
 use Rattle.table.proofs.others.decide_release.Statement.{statement}
 use Rattle.table.proofs.others.decide_release.Tie as tie
 
-is-holding-requires : tie.Need-is-holding-requires
-is-holding-requires c κs = search needs
+enum-told : tie.Need-enum-told
+enum-told c = search needs
+
+refused-requires : tie.Need-refused-requires
+refused-requires c κs = search needs
 
 returns : tie.Need-returns
-unfolding decide release
+unfolding decide release isOneOf
 returns c =
-    let e = sym (c .before .is-holding .ensures) ∙ not-true _ (c .if1 .taken) in rw e
+    let f = c .before .before .before .args .s .slot .phase in
+    let e = sym (phase-arm (allBut 1) isHolding f refl (c .before .match .keys2)) in
+    rw e (c .refused .ensures)
 
 turned-requires : tie.Need-turned-requires
 turned-requires c κs = search needs
 
 returns-2 : tie.Need-returns-2
-unfolding decide release
-returns-2 c =
-    let e = sym (c .before .before .is-holding .ensures) ∙ not-false _ (c .before .if1 .left) in
-    rw e (c .turned .ensures)
+unfolding decide release isOneOf
+returns-2 c = let e = c .before .enum-told .given .1 in rw e (c .turned .ensures)
 
 pub decide-release-spec : {M : Type 1} → statement M
-decide-release-spec = tie.close (tie.spec is-holding-requires returns turned-requires returns-2)
+decide-release-spec =
+    tie.close (tie.spec enum-told refused-requires returns turned-requires returns-2)

@@ -2,17 +2,19 @@
 use borrow.Author.Needs.{needs}
 use mathlib.Core.Path.{_≡_, refl, sym, ap, _∙_}
 use mathlib.Core.List.{[], _∷_}
-use Rattle.hub.specs.declared.moves.Move.{Move}
 use Rattle.hub.specs.declared.moves.Sight.{Sight}
 use Rattle.hub.specs.declared.record.Phase.{Phase}
-use Rattle.hub.specs.Table.{step, stepOf}
-use Rattle.table.specs.Rows.{stepAs}
-use Rattle.hub.proofs.Laws.Tags.{phase-arm}
+use Rattle.hub.specs.Moves.{Move}
+use Rattle.hub.specs.Table.{step, stepIn}
+use Rattle.hub.proofs.Laws.Phases.{phase-arm}
+use Rattle.table.specs.declared.effect.Effect.{Effect}
+use Rattle.table.specs.Effect.{effectOf}
 use Rattle.table.proofs.rows.decide_step.Statement.{statement}
 use Rattle.table.proofs.rows.decide_step.Tie as tie
 
-as-phase : (s : Sight) {f : Phase} {m : Move} → s .phase ≡ f → m ≡ stepAs f s → m ≡ stepOf s
-as-phase s e h = h ∙ ap (λ x. stepAs x s) (sym e)
+in-phase : (s : Sight) {f : Phase} {e : Effect} → s .slot .phase ≡ f → e ≡ effectOf (stepIn f s) s
+    → e ≡ effectOf (step s) s
+in-phase s i h = h ∙ ap (λ (x : Phase). effectOf (stepIn x s) s) (sym i)
 
 enum-told : tie.Need-enum-told
 enum-told c = search needs
@@ -68,56 +70,61 @@ enum-known-phase-5 c = search needs
 step-resuming-at-requires : tie.Need-step-resuming-at-requires
 step-resuming-at-requires c κs = search needs
 
+refused-requires : tie.Need-refused-requires
+refused-requires c κs = search needs
+
 returns : tie.Need-returns
 returns c =
     let b = c .before in
-    as-phase (b .before .before .args .s) (b .enum-told .given .1) (c .step-acquiring .ensures)
+    in-phase (b .before .before .before .args .s) (b .enum-told .given .1) (c .step-acquiring .ensures)
 
 returns-2 : tie.Need-returns-2
 returns-2 c =
     let b = c .before in
-    as-phase (b .before .before .args .s) (b .enum-told2 .given .1) (c .step-suspending .ensures)
+    in-phase (b .before .before .before .args .s) (b .enum-told2 .given .1) (c .step-suspending .ensures)
 
 returns-3 : tie.Need-returns-3
 returns-3 c =
     let b = c .before .before in
-    as-phase (b .before .before .args .s) (b .phase .given .1) (c .step-ticketed .ensures)
+    in-phase (b .before .before .before .args .s) (b .phase .given .1) (c .step-ticketed .ensures)
 
 returns-4 : tie.Need-returns-4
 returns-4 c =
     let b = c .before .before in
-    as-phase (b .before .before .args .s) (b .phase2 .given .1) (c .step-aborting .ensures)
+    in-phase (b .before .before .before .args .s) (b .phase2 .given .1) (c .step-aborting .ensures)
 
 returns-5 : tie.Need-returns-5
 returns-5 c =
     let b = c .before .before in
-    as-phase (b .before .before .args .s) (b .phase3 .given .1) (c .step-cancelling .ensures)
+    in-phase (b .before .before .before .args .s) (b .phase3 .given .1) (c .step-cancelling .ensures)
 
 returns-6 : tie.Need-returns-6
 returns-6 c =
     let b = c .before .before in
-    as-phase (b .before .before .args .s) (b .phase4 .given .1) (c .step-refusing .ensures)
+    in-phase (b .before .before .before .args .s) (b .phase4 .given .1) (c .step-refusing .ensures)
 
 returns-7 : tie.Need-returns-7
 returns-7 c =
     let b = c .before in
-    as-phase (b .before .before .args .s) (b .enum-told3 .given .1) (c .step-releasing .ensures)
+    in-phase (b .before .before .before .args .s) (b .enum-told3 .given .1) (c .step-releasing .ensures)
 
 returns-8 : tie.Need-returns-8
 returns-8 c =
     let b = c .before in
-    as-phase (b .before .before .args .s) (b .enum-told4 .given .1) (c .step-resuming .ensures)
+    in-phase (b .before .before .before .args .s) (b .enum-told4 .given .1) (c .step-resuming .ensures)
 
 returns-9 : tie.Need-returns-9
 returns-9 c =
     let b = c .before .before in
-    as-phase (b .before .before .args .s) (b .phase5 .given .1) (c .step-resuming-at .ensures)
+    in-phase (b .before .before .before .args .s) (b .phase5 .given .1) (c .step-resuming-at .ensures)
 
 returns-10 : tie.Need-returns-10
-unfolding step
+unfolding stepIn
 returns-10 c =
-    let s = c .before .args .s in
-    phase-arm (0 ∷ 1 ∷ 2 ∷ []) (λ f. stepAs f s) (s .phase) refl (c .match .keys10)
+    let s = c .before .before .before .args .s in
+    c .refused .ensures
+    ∙ ap (λ (m : Move). effectOf m s)
+    (phase-arm (0 ∷ 1 ∷ 2 ∷ []) (λ f. stepIn f s) (s .slot .phase) refl (c .before .match .keys10))
 
 pub decide-step-spec : {M : Type 1} → statement M
 decide-step-spec =
@@ -141,6 +148,7 @@ decide-step-spec =
     step-resuming-requires
     enum-known-phase-5
     step-resuming-at-requires
+    refused-requires
     returns
     returns-2
     returns-3

@@ -1,7 +1,7 @@
 -- `step_acquiring` meets its contract: the test of the counter picks the row.
 use borrow.Author.Needs.{needs}
 use mathlib.Core.Path.{_∙_}
-use Rattle.hub.specs.Table.{aboveZero, step}
+use Rattle.hub.specs.Table.{aboveZero, stepIn, stepAcquiring}
 use Rattle.table.proofs.Laws.Counter.{sign}
 use Rattle.table.proofs.rows.step_acquiring.Statement.{statement}
 use Rattle.table.proofs.rows.step_acquiring.Tie as tie
@@ -13,7 +13,7 @@ taken-requires : tie.Need-taken-requires
 taken-requires c κs = search needs
 
 returns : tie.Need-returns
-unfolding step
+unfolding stepIn stepAcquiring
 returns c =
     let b = c .before .before in
     let e = sign aboveZero _ (b .before .before .pre) (b .above-zero .ensures) in
@@ -23,7 +23,7 @@ taken-requires-2 : tie.Need-taken-requires-2
 taken-requires-2 c κs = search needs
 
 returns-2 : tie.Need-returns-2
-unfolding step
+unfolding stepIn stepAcquiring
 returns-2 c =
     let b = c .before .before in
     let e = sign aboveZero _ (b .before .before .pre) (b .above-zero .ensures) in

@@ -2,9 +2,11 @@
 use borrow.Author.Needs.{needs}
 use mathlib.Core.Path.{refl, sym, ap, _∙_}
 use mathlib.Core.List.{[], _∷_}
-use Rattle.hub.specs.declared.record.Phase.{Phase}
-use Rattle.hub.specs.Table.{step}
-use Rattle.table.proofs.Laws.Steps.{stepAt, unlisted}
+use Rattle.hub.proofs.Laws.Phases.{place-arm}
+use Rattle.hub.specs.declared.record.Place.{Place}
+use Rattle.hub.specs.Moves.{Move}
+use Rattle.hub.specs.Table.{stepIn, stepResumingAt}
+use Rattle.table.specs.Effect.{effectOf}
 use Rattle.table.proofs.rows.step_resuming_at.Statement.{statement}
 use Rattle.table.proofs.rows.step_resuming_at.Tie as tie
 
@@ -32,29 +34,37 @@ enum-told-3 c = search needs
 placed-requires-3 : tie.Need-placed-requires-3
 placed-requires-3 c κs = search needs
 
+refused-requires : tie.Need-refused-requires
+refused-requires c κs = search needs
+
 returns : tie.Need-returns
-unfolding step
+unfolding stepIn stepResumingAt
 returns c = let e = c .before .enum-told .given .1 in rw e (c .placed .ensures)
 
 returns-2 : tie.Need-returns-2
+unfolding stepIn stepResumingAt
 returns-2 c =
-    let a = c .before .before .before .before .args in
+    let a = c .before .before .before .before .before .args in
     c .resume-waiter .ensures
-    ∙ ap (stepAt (Phase.ResumingAt (a .t)) (a .s)) (sym (c .before .before .place .given .1))
+    ∙ ap (λ (x : Place). effectOf (stepResumingAt (a .t) x (a .s)) (a .s))
+    (sym (c .before .before .place .given .1))
 
 returns-3 : tie.Need-returns-3
-unfolding step
+unfolding stepIn stepResumingAt
 returns-3 c = let e = c .before .enum-told2 .given .1 in rw e (c .placed2 .ensures)
 
 returns-4 : tie.Need-returns-4
-unfolding step
+unfolding stepIn stepResumingAt
 returns-4 c = let e = c .before .enum-told3 .given .1 in rw e (c .placed3 .ensures)
 
 returns-5 : tie.Need-returns-5
-unfolding step
+unfolding stepIn stepResumingAt
 returns-5 c =
-    let a = c .before .args in
-    unlisted (2 ∷ 5 ∷ []) (Phase.ResumingAt (a .t)) (a .s) refl (c .match .keys5)
+    let a = c .before .before .before .args in
+    let s = a .s in
+    c .refused .ensures
+    ∙ ap (λ (m : Move). effectOf m s)
+    (place-arm (2 ∷ 5 ∷ []) (λ x. stepResumingAt (a .t) x s) (s .seat .place) refl (c .before .match .keys5))
 
 pub step-resuming-at-spec : {M : Type 1} → statement M
 step-resuming-at-spec =
@@ -68,6 +78,7 @@ step-resuming-at-spec =
     placed-requires-2
     enum-told-3
     placed-requires-3
+    refused-requires
     returns
     returns-2
     returns-3
