@@ -5,13 +5,102 @@ use hub::phases::phase_rank;
 use hub::phases::place_rank;
 use hub::record::Hub;
 use hub::record::PartySlot;
+use hub::record::Phase;
+use hub::record::Place;
 use hub::record::PlaceSlot;
 ghost use mathlib.Core.Path.{_≡_};
 ghost use mathlib.Core.List.{[], _∷_};
 ghost use Prim.Native.Nat.{_≤_};
-ghost use Rattle.hub.specs.Basics.{bit, among, count};
+ghost use Rattle.hub.specs.Basics.{among, bit, count};
 ghost use Rattle.hub.specs.Counts.{countsOf};
 ghost use Rattle.hub.specs.Ledger.{atCounter};
-ghost use Rattle.hub.specs.Phases.{drawsTicket};
+ghost use Rattle.hub.specs.Phases.{isOneOf, isPlaceOf};
 ghost use Rattle.hub.specs.Record.{phasesOf, placesOf};
-ghost use Rattle.transition.specs.Ranked.{ofRanks, ofRank};
+
+// 1 if x is a or b.
+fn one_if(x: u8, a: u8, b: u8) -> u32
+    ensures { λ r. ⌜ r ≡ bit (among (a ∷ b ∷ []) x) ⌝ }
+{
+    if x == a {
+        return 1;
+    }
+    if x == b {
+        return 1;
+    }
+    0
+}
+
+// The parties in one of two phases, whatever their tickets.
+pub fn count_phases(slots: [PartySlot; 32], a: Phase, b: Phase) -> u32
+    ensures { λ r. ⌜ (r ≡ count (isOneOf (a ∷ b ∷ [])) (phasesOf slots)) × (r ≤ 32) ⌝ }
+{
+    let first = phase_rank(a);
+    let second = phase_rank(b);
+    let mut n: u32 = 0;
+    let mut p: usize = 0;
+    while p < 32 {
+        let slot = slots[p];
+        let phase = slot.phase;
+        n += one_if(phase_rank(phase), first, second);
+        p += 1;
+    }
+    n
+}
+
+// The places in one state, whoever waits there.
+fn count_places(places: [PlaceSlot; 256], a: Place) -> u32
+    ensures { λ r. ⌜ (r ≡ count (isPlaceOf (a ∷ a ∷ [])) (placesOf places)) × (r ≤ 256) ⌝ }
+{
+    let state = place_rank(a);
+    let mut n: u32 = 0;
+    let mut i: usize = 0;
+    while i < 256 {
+        let slot = places[i];
+        let place = slot.place;
+        n += one_if(place_rank(place), state, state);
+        i += 1;
+    }
+    n
+}
+
+fn at_counter(counter: i32) -> u32
+    ensures { λ r. ⌜ r ≡ atCounter counter ⌝ }
+{
+    if 0 < counter {
+        return counter as u32;
+    }
+    0
+}
+
+pub fn counts(hub: Hub) -> Counts
+    ensures { λ r. ⌜ r ≡ countsOf hub ⌝ }
+    ensures few { λ r. ⌜ r .held ≤ 32 ⌝ }
+{
+    let slots = hub.slots;
+    let places = hub.places;
+    let bringing = count_phases(slots, Phase::Resuming, Phase::ResumingAt(0));
+    let coming = bringing + count_places(places, Place::Permit);
+    let refusing = count_phases(slots, Phase::Refusing(0), Phase::Refusing(0));
+    let declined = refusing + count_places(places, Place::Refused);
+    let held = count_phases(slots, Phase::Holding, Phase::Releasing);
+    let waiting = count_phases(slots, Phase::Waiting(0), Phase::Waiting(0));
+    let available = at_counter(hub.figures.counter);
+    if declined <= coming {
+        return Counts {
+            held,
+            available,
+            coming,
+            declined,
+            onway: coming - declined,
+            waiting,
+        };
+    }
+    Counts {
+        held,
+        available,
+        coming,
+        declined,
+        onway: 0,
+        waiting,
+    }
+}

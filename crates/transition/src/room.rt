@@ -1,14 +1,14 @@
 // Refusal 7: is there a place for one more ticket?
 
-use crate::counts::count_drawing;
-use hub::moves::Op;
+use crate::counts::count_phases;
 use hub::record::Hub;
 use hub::record::PartySlot;
+use hub::record::Phase;
 ghost use mathlib.Core.Path.{_≡_};
 ghost use Prim.Native.Nat.{_≤_};
 ghost use Rattle.hub.specs.Calls.{isFull};
 
-pub fn is_full(oldest: u32, issued: u32, slots: [PartySlot; 32]) -> bool
+pub(crate) fn is_full(oldest: u32, issued: u32, slots: [PartySlot; 32]) -> bool
     requires { ⌜ (oldest ≤ 1000000) × (issued ≤ 1000000) ⌝ }
     ensures { λ r. ⌜ r ≡ isFull oldest issued slots ⌝ }
 {
@@ -17,5 +17,6 @@ pub fn is_full(oldest: u32, issued: u32, slots: [PartySlot; 32]) -> bool
     if issued + parties < oldest + Hub::PLACES {
         return false;
     }
-    oldest + Hub::PLACES <= issued + count_drawing(slots)
+    let drawing = count_phases(slots, Phase::Acquiring, Phase::Suspending);
+    oldest + Hub::PLACES <= issued + drawing
 }

@@ -1,0 +1,10 @@
+-- The laws of one call, however the record is held.
+pub mod Tests
+pub mod Ops
+pub mod Counting  -- a loop that counts
+pub mod Counter  -- the counter as the code reads it
+pub mod Shown  -- what a record shows
+pub mod Sight  -- what a call looks at
+pub mod Loops  -- the tidying's loops
+pub mod Stored  -- what is stored of an effect
+pub mod Called  -- a whole call

@@ -1,0 +1,123 @@
+-- A whole call: what is refused before the table is asked, and what is decided, stored and tidied.
+use Prim.Native.Nat.{ℕ, _≤_}
+use mathlib.Core.Path.{_≡_, refl, sym, ap, ap₂, _∙_}
+use mathlib.Core.Bool.{Bool, true, false, _&&_}
+use native.Mathlib.Omega.{arith}
+use borrow.Author.Tests.{leb-true}
+use lib.Dec.{leb, ltb}
+use lib.ListN.{length}
+use Rattle.hub.specs.declared.answers.Answer.{Answer}
+use Rattle.hub.specs.declared.answers.Refusal.{Refusal}
+use Rattle.hub.specs.declared.moves.Call.{Call}
+use Rattle.hub.specs.declared.moves.Op.{Op}
+use Rattle.hub.specs.declared.moves.Sight.{Sight}
+use Rattle.hub.specs.declared.record.Hub.{Hub}
+use Rattle.hub.specs.declared.record.Outcome.{Outcome}
+use Rattle.hub.specs.declared.record.PartySlot.{PartySlot}
+use Rattle.hub.specs.declared.record.PlaceSlot.{PlaceSlot}
+use Rattle.hub.specs.Answers.{printed}
+use Rattle.hub.specs.Basics.{allFrom}
+use Rattle.hub.specs.Calls.{answerOf, apply, called, checked, isFull}
+use Rattle.hub.specs.Fits.{fits, figuresClauses, figuresFit, counterFits, partyFits, placeFits}
+use Rattle.hub.specs.Look.{look, seenBy}
+use Rattle.hub.specs.Moves.{Move}
+use Rattle.hub.specs.Record.{MAX-BEGUN, PARTIES}
+use Rattle.hub.specs.Ring.{PLACES}
+use Rattle.hub.specs.Table.{decide}
+use Rattle.hub.proofs.Laws.Bools.{clause, first, second}
+use Rattle.table.specs.declared.effect.Effect.{Effect}
+use Rattle.table.specs.Effect.{effectOf}
+use Rattle.table.specs.Small.{Small}
+use Rattle.transition.proofs.Laws.Sight.{Reads, looked, sightOf}
+use Rattle.transition.proofs.Laws.Stored.{applied, stored, tidiedBy, told}
+
+abbrev pub asks : Op → ℕ → Call
+asks o p = record { op = o; party = p }
+
+-- What a move answers and leaves.
+abbrev outcome : Hub → Sight → Move → Outcome
+outcome h s m = record { answer = answerOf m; hub = apply h s m }
+
+abbrev full : Hub → Bool
+full h = isFull (h .oldest) (h .figures .issued) (h .slots)
+
+-- Refused by 1, and by 4.
+pub unfit : (h : Hub) (p : ℕ) (o : Op) → fits h ≡ false
+    → record { answer = Answer.Refused Refusal.Unfit; hub = h } ≡ called h (asks o p)
+unfolding checked apply
+unfit h p o e =
+    sym (ap (λ (a : Bool).
+    outcome h (look h p) (checked a (ltb p (h .opening .parties)) (decide o (full h) (look h p)))) e)
+
+pub no-such-party : (h : Hub) (p : ℕ) (o : Op) → fits h ≡ true → ltb p (h .opening .parties) ≡ false
+    → record { answer = Answer.Refused Refusal.NoSuchParty; hub = h } ≡ called h (asks o p)
+unfolding checked apply
+no-such-party h p o e f =
+    sym (ap₂ (λ (a b : Bool).
+    outcome h (look h p) (checked a b (decide o (full h) (look h p)))) e f)
+
+-- A call that neither refuses does what is decided.
+pub admitted : (h : Hub) (p : ℕ) (o : Op) → fits h ≡ true → ltb p (h .opening .parties) ≡ true
+    → outcome h (look h p) (decide o (full h) (look h p)) ≡ called h (asks o p)
+unfolding checked
+admitted h p o e f =
+    sym (ap₂ (λ (a b : Bool).
+    outcome h (look h p) (checked a b (decide o (full h) (look h p)))) e f)
+
+-- The figures of a record that fits.
+pub record Counted (h : Hub) : Type 0 where
+  pub permits : (1 ≤ h .opening .permits) × (h .opening .permits ≤ 32)
+  pub parties : h .opening .parties ≤ 32
+  pub counter : counterFits (h .figures .counter) ≡ true
+  pub issued : h .figures .issued ≤ MAX-BEGUN
+  pub resumed : h .figures .resumed ≤ MAX-BEGUN
+  pub oldest : h .oldest ≤ MAX-BEGUN
+
+pub counted : (h : Hub) → fits h ≡ true → Counted h
+unfolding fits figuresFit
+counted h e =
+    let parties = allFrom (partyFits h) 0 PARTIES in
+    let places = allFrom (placeFits h) (h .oldest) PLACES in
+    let f = figuresFit (h .opening) (h .figures) (h .oldest) in
+    let all = first f parties (first (f && parties) places e) in
+    let cs = figuresClauses (h .opening) (h .figures) (h .oldest) in
+    let k = clause 0 cs all in
+    let n = clause 1 cs all in
+    let i = leb-true (h .figures .issued) MAX-BEGUN (clause 4 cs all) in
+    let o = leb-true (h .oldest) (h .figures .issued) (clause 6 cs all) in
+    record {
+      permits = (
+        leb-true 1 (h .opening .permits) (first (leb 1 (h .opening .permits)) _ k),
+        leb-true (h .opening .permits) 32 (second (leb 1 (h .opening .permits)) _ k),
+      );
+      parties = leb-true (h .opening .parties) 32 (second (leb 1 (h .opening .parties)) _ n);
+      counter = clause 2 cs all;
+      issued = i;
+      resumed = leb-true (h .figures .resumed) MAX-BEGUN (clause 5 cs all);
+      oldest = omega arith;
+    }
+
+module _ (h : Hub) (p : ℕ) (seat : PlaceSlot) (q : ℕ) (waiter : PartySlot)
+    (r : Reads h p seat q waiter) where
+  -- What is seen of a record that fits leaves room for one more.
+  pub small : Counted h → Small (sightOf h p seat waiter)
+  small n = record { counter = n .counter; issued = n .issued; resumed = n .resumed }
+
+  -- The effect e that was decided from it.
+  module _ (o : Op) (e : Effect)
+      (is : e ≡ effectOf (decide o (full h) (sightOf h p seat waiter)) (sightOf h p seat waiter)) where
+    abbrev pub move : Move
+    move = decide o (full h) (look h p)
+
+    effect : e ≡ effectOf move (look h p)
+    effect =
+        is
+        ∙ ap (λ (s : Sight). effectOf (decide o (full h) s) s) (looked h p seat q waiter r)
+
+    pub said : e .answer ≡ answerOf move
+    said = ap (λ (e : Effect). e .answer) effect ∙ told move (look h p)
+
+    pub left : tidiedBy (e .turns) (stored h p e) ≡ apply h (look h p) move
+    left =
+        ap (λ (e : Effect). tidiedBy (e .turns) (stored h p e)) effect
+        ∙ applied h p (r .size) move

@@ -1,0 +1,30 @@
+-- A call by the tag of an arm.
+use Prim.Native.Nat.{ℕ}
+use mathlib.Core.Path.{_≡_, refl, sym, ap, _∙_}
+use mathlib.Core.Bool.{Bool}
+use mathlib.Core.List.{[], _∷_}
+use lib.ListN.{getD}
+use types.Run.{OneOf}
+use denote.Enum.Declared.{tagOf}
+use Rattle.hub.specs.declared.moves.Op.{Op}
+use Rattle.hub.specs.declared.moves.Op.the-variants.{Acquire, Step, Cancel, Release}
+use Rattle.hub.specs.declared.moves.Sight.{Sight}
+use Rattle.hub.specs.Table.{decide}
+use Rattle.hub.proofs.moves.Op as op
+use Rattle.table.specs.declared.effect.Effect.{Effect}
+use Rattle.table.specs.Effect.{effectOf}
+
+abbrev opBy : ℕ → Op
+opBy k = getD (Acquire ∷ Step ∷ Cancel ∷ Release ∷ []) k Acquire
+
+op-same : (o : Op) → opBy (tagOf op.the-type o) ≡ o
+op-same Acquire = refl
+op-same Step = refl
+op-same Cancel = refl
+op-same Release = refl
+
+-- What is decided for the call of an arm is decided for the call at hand.
+pub by-op : (k : ℕ) (b : Bool) (s : Sight) (o : Op) {e : Effect} → OneOf (k ∷ []) (tagOf op.the-type o)
+    → e ≡ effectOf (decide (opBy k) b s) s → e ≡ effectOf (decide o b s) s
+by-op k b s o t f =
+    f ∙ ap (λ (x : Op). effectOf (decide x b s) s) (ap opBy (sym t) ∙ op-same o)
