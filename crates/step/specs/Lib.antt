@@ -1,3 +1,2 @@
 -- What the functions of this crate speak of besides the definitions of the crate hub.
-pub mod Moves
-pub mod Ranked
+pub mod Tidied

@@ -1,77 +1,61 @@
-// The tidying, which ends every success.
+// The tidying of a record by value.
 
 use hub::record::Hub;
 use hub::record::Place;
-use hub::record::PlaceSlot;
-use table::sight::is_cancelled;
-use table::sight::is_done;
+use hub::slots::empty_seat;
+use hub::slots::with_place;
+use transition::tidy::can_retire;
+use transition::tidy::can_skip;
 ghost use mathlib.Core.Path.{_≡_};
-ghost use mathlib.Core.Bool.{_||_};
 ghost use Prim.Native.Nat.{_≤_};
-ghost use Rattle.hub.specs.Phases.{isCancelled, isDone};
-ghost use Rattle.hub.specs.Reclaim.{reclaimed};
+ghost use Rattle.hub.specs.Calls.{ringOf, withRing};
+ghost use Rattle.hub.specs.Ring.{skip, retire};
+ghost use Rattle.step.specs.Tidied.{tidiedBy};
 
-// Is there anything to tidy, by the places of the next ticket to resume and of the oldest?
-pub(crate) fn is_untidy(next: Place, first: Place) -> bool
-    ensures { λ r. ⌜ r ≡ (isCancelled next || isDone first) ⌝ }
-{
-    if is_cancelled(next) {
-        return true;
-    }
-    is_done(first)
-}
-
-// Passes the cancelled places at the next ticket to resume.
-fn skip_cancelled(mut hub: Hub) -> Hub
-    requires { ⌜ hub .oldest ≤ 1000000 ⌝ }
-    ensures { λ r. ⌜ r ≡ Rattle.hub.specs.Reclaim.skip 256 (Rattle.hub.specs.Reclaim.canSkip hub) hub ⌝ }
+// Passes the cancelled places at the next ticket to resume, so many at most.
+fn skip_cancelled(mut hub: Hub, turns: u32) -> Hub
+    requires { ⌜ (hub .oldest ≤ 1000000) × (turns ≤ 256) ⌝ }
+    ensures { λ r. ⌜ r ≡ withRing hub (skip turns (ringOf hub)) ⌝ }
 {
     let end = hub.oldest + Hub::PLACES;
     let mut n: u32 = 0;
-    while n < Hub::PLACES {
-        let t = hub.resumed;
-        if end <= t {
-            break;
-        }
+    while n < turns {
+        let t = hub.figures.resumed;
         let i = (t % Hub::PLACES) as usize;
-        let slot = hub.places[i];
-        let place = slot.place;
-        if !is_cancelled(place) {
+        let seat = hub.places[i];
+        if !can_skip(seat, t, end) {
             break;
         }
-        hub.places[i] = PlaceSlot { place: Place::Done };
-        hub.resumed = t + 1;
+        hub.places[i] = with_place(Place::Done, seat);
+        hub.figures.resumed = t + 1;
         n += 1;
     }
     hub
 }
 
-// Frees the places at the oldest ticket that are done.
-fn retire_done(mut hub: Hub) -> Hub
-    requires { ⌜ hub .oldest ≤ 1000000 ⌝ }
-    ensures { λ r. ⌜ r ≡ Rattle.hub.specs.Reclaim.retire 256 (Rattle.hub.specs.Reclaim.canRetire hub) hub ⌝ }
+// Frees the places at the oldest ticket that are done, so many at most.
+fn retire_done(mut hub: Hub, turns: u32) -> Hub
+    requires { ⌜ (hub .oldest ≤ 1000000) × (turns ≤ 256) ⌝ }
+    ensures { λ r. ⌜ r ≡ withRing hub (retire turns (ringOf hub)) ⌝ }
 {
     let mut n: u32 = 0;
-    while n < Hub::PLACES {
+    while n < turns {
         let t = hub.oldest;
         let i = (t % Hub::PLACES) as usize;
-        let slot = hub.places[i];
-        let place = slot.place;
-        if !is_done(place) {
+        let seat = hub.places[i];
+        if !can_retire(seat) {
             break;
         }
-        hub.places[i] = PlaceSlot {
-            place: Place::Empty,
-        };
+        hub.places[i] = empty_seat();
         hub.oldest = t + 1;
         n += 1;
     }
     hub
 }
 
-pub(crate) fn reclaim(hub: Hub) -> Hub
-    requires { ⌜ hub .oldest ≤ 1000000 ⌝ }
-    ensures { λ r. ⌜ r ≡ reclaimed hub ⌝ }
+pub(crate) fn reclaim(hub: Hub, turns: u32) -> Hub
+    requires { ⌜ (hub .oldest ≤ 1000000) × (turns ≤ 256) ⌝ }
+    ensures { λ r. ⌜ r ≡ tidiedBy turns hub ⌝ }
 {
-    retire_done(skip_cancelled(hub))
+    retire_done(skip_cancelled(hub, turns), turns)
 }

@@ -3,7 +3,7 @@
 use hub::phases::place_rank;
 use hub::record::PlaceSlot;
 ghost use mathlib.Core.Path.{_≡_};
-ghost use mathlib.Core.Bool.{_&&_};
+ghost use mathlib.Core.Bool.{_&&_, _||_};
 ghost use lib.Dec.{ltb};
 ghost use Rattle.hub.specs.Phases.{isCancelled, isDone};
 
@@ -23,4 +23,15 @@ pub fn can_retire(seat: PlaceSlot) -> bool
 {
     let place = seat.place;
     place_rank(place) == 5
+}
+
+// Is there anything to tidy, by the places of the next ticket to resume and of the oldest?
+pub fn is_untidy(next: PlaceSlot, first: PlaceSlot) -> bool
+    ensures { λ r. ⌜ r ≡ (isCancelled (next .place) || isDone (first .place)) ⌝ }
+{
+    let place = next.place;
+    if place_rank(place) == 3 {
+        return true;
+    }
+    can_retire(first)
 }
