@@ -1,9 +1,5 @@
--- What the proofs of this crate share.
-pub mod Hubs
-pub mod Doors
-pub mod Reached
-pub mod Turns
-pub mod Stored
+-- Laws that the loop's proof cites.
+pub mod Admitted
+pub mod Reachable
 pub mod Answered
-pub mod Looked
-pub mod Tabled
+pub mod Responses

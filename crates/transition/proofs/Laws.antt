@@ -8,3 +8,4 @@ pub mod Sight  -- what a call looks at
 pub mod Loops  -- the tidying's loops
 pub mod Stored  -- what is stored of an effect
 pub mod Called  -- a whole call
+pub mod Indexed  -- the indices of the code

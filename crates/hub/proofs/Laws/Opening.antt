@@ -4,10 +4,13 @@ use mathlib.Core.Bool.{Bool, true, false}
 use Rattle.hub.specs.declared.answers.Answer.{Answer}
 use Rattle.hub.specs.declared.answers.Refusal.{Refusal}
 use Rattle.hub.specs.declared.moves.Call.{Call}
+use Rattle.hub.specs.declared.moves.Sight.{Sight}
 use Rattle.hub.specs.declared.opening.Opening.{Opening}
+use Rattle.hub.specs.declared.record.Hub.{Hub}
 use Rattle.hub.specs.Basics.{allOf}
-use Rattle.hub.specs.Calls.{called, checked, apply}
+use Rattle.hub.specs.Calls.{called, checked, apply, tidied}
 use Rattle.hub.specs.Fits.{fits, figuresFit}
+use Rattle.hub.specs.Moves.{Move, Refuse, Act, Put, Wake}
 use Rattle.hub.specs.Opening.{fresh, notOpened, openingIf}
 
 module _ (a b : Bool) (o : Opening) where
@@ -30,3 +33,11 @@ pub never-opened : (r : Refusal) (c : Call)
     ≡ record { answer = Answer.Refused Refusal.Unfit; hub = notOpened r .hub }
 unfolding fresh fits figuresFit allOf checked apply
 never-opened r c = refl
+
+-- No call changes what the hub was opened with.
+pub kept-opening : (h : Hub) (s : Sight) (m : Move) → apply h s m .opening ≡ h .opening
+unfolding apply tidied
+kept-opening h s (Refuse r) = refl
+kept-opening h s (Act c) = refl
+kept-opening h s (Put a c) = refl
+kept-opening h s (Wake q x a c) = refl

@@ -1,78 +1,97 @@
 -- `answer_requests` meets its contract: the record made of the locals is that of the requests so
 -- far, and what is written with what is still to come is the whole.
 use borrow.Author.Needs.{needs}
-use borrow.Author.Tests.{not-true, not-false, ne-eqb}
-use mathlib.Core.Path.{_≡_, refl, sym, ap, subst, _∙_}
+use borrow.Author.Tests.{not-true, not-false}
+use mathlib.Core.Path.{_≡_, refl, sym, ap, ap₂, subst, _∙_}
 use mathlib.Core.Bool.{Bool}
 use mathlib.Core.List.{List, map}
 use mathlib.Core.Logic.{⊎-elim}
 use native.Mathlib.Omega.{arith}
-use Prim.Native.Nat.{ℕ, _+_, _-_, _*_, _≤_}
-use lib.ListN.{length, getD, length-map}
-use mir.Facts.{toZ-ofZ}
-use mir.Syntax.{w32}
-use mir.Val.{SFits}
-use Rattle.hub.specs.declared.moves.Move.{Move}
+use Prim.Native.Nat.{ℕ, _+_, _-_, _*_, _%_, _≤_}
+use lib.ListN.{length, getD, set, length-map}
+use Rattle.hub.specs.declared.moves.Op.{Op}
 use Rattle.hub.specs.declared.moves.Sight.{Sight}
+use Rattle.hub.specs.declared.opening.Opening.{Opening}
+use Rattle.hub.specs.declared.record.Figures.{Figures}
 use Rattle.hub.specs.declared.record.Hub.{Hub}
 use Rattle.hub.specs.declared.record.PartySlot.{PartySlot}
-use Rattle.hub.specs.declared.record.Phase.{Phase}
+use Rattle.hub.specs.declared.record.PlaceSlot.{PlaceSlot}
 use Rattle.hub.specs.Answers.{Printed, printed}
-use Rattle.hub.specs.Calls.{answerOf, apply, isFull}
-use Rattle.hub.specs.Fits.{look}
-use Rattle.hub.specs.Reclaim.{canSkip, skip, canRetire, retire}
-use Rattle.hub.specs.Record.{readPhase, writePhase, readPlace, writePlace}
-use Rattle.hub.specs.Table.{decide}
+use Rattle.hub.specs.Calls.{answerOf, apply, isFull, ringOf}
+use Rattle.hub.specs.Look.{look}
+use Rattle.hub.specs.Moves.{Move}
+use Rattle.hub.specs.Phases.{ticketOf}
+use Rattle.hub.specs.Record.{readSlot, writeSlot}
+use Rattle.hub.specs.Ring.{PLACES, Ring, readSeat, writeSeat, skip, retire}
+use Rattle.hub.specs.Table.{decide, withResumed}
 use Rattle.line.specs.Frame.{opOf, frameOf, paper}
-use Rattle.line.specs.Form.{inForm}
-use Rattle.line.specs.Program.{after, turn}
-use Rattle.live.specs.declared.effect.Effect.{Effect}
-use Rattle.live.specs.Live.{Reached, requestsIn, replied}
-use Rattle.live.proofs.Laws.Answered.{Passed, passed, door-turn, LetIn, let-in}
-use Rattle.live.proofs.Laws.Answered.{call-turn}
-use Rattle.live.proofs.Laws.Hubs.{hubOf, counting}
-use Rattle.live.proofs.Laws.Looked.{waits, nobody-waits, not-asked}
-use Rattle.step.proofs.Laws.Loops.{Skipping, skipping, can-skip, in-window, skipping-on}
-use Rattle.step.proofs.Laws.Loops.{skipping-stop, skipping-end}
-use Rattle.step.proofs.Laws.Loops.{Retiring, retiring, retiring-on, retiring-stop}
-use Rattle.step.proofs.Laws.Loops.{retiring-end}
-use Rattle.live.proofs.Laws.Reached.{same-counter}
-use Rattle.live.proofs.Laws.Stored.{nobody, still, keeps-oldest, few-turns}
-use Rattle.live.proofs.Laws.Tabled.{Read, small-sight, left, said}
-use Rattle.live.proofs.Laws.Turns.{Upto, theRequest, start, two-bytes, whole-request}
-use Rattle.live.proofs.Laws.Turns.{whole-reply, reply-part, turned, ended}
+use Rattle.line.specs.Form.{formOf, inForm}
+use Rattle.line.specs.Program.{after, respond}
+use Rattle.table.specs.declared.effect.Effect.{Effect}
+use Rattle.table.specs.Effect.{effectOf}
+use Rattle.transition.proofs.Laws.Called.{said, left}
+use Rattle.transition.proofs.Laws.Indexed.{reads, stores, tidies}
+use Rattle.transition.proofs.Laws.Loops.{Skipping, skipping, can-skip, in-window, skipping-on}
+use Rattle.transition.proofs.Laws.Loops.{skipping-stop, skipping-end}
+use Rattle.transition.proofs.Laws.Loops.{Retiring, retiring, retiring-on, retiring-stop, retiring-end}
+use Rattle.transition.proofs.Laws.Sight.{Reads, sightOf}
+use Rattle.transition.proofs.Laws.Stored.{nobody, still, few-turns, tidiedBy}
+use Rattle.live.specs.Live.{Reachable, requestsIn, replied}
+use Rattle.live.proofs.Laws.Answered.{Admitted, is-admitted, refused-response, LetIn}
+use Rattle.live.proofs.Laws.Answered.{let-in, call-response}
+use Rattle.live.proofs.Laws.Responses.{Upto, requestAt, start, whole-request}
+use Rattle.live.proofs.Laws.Responses.{whole-reply, reply-part, responded, ended}
 use Rattle.live.proofs.answer_requests.Statement.{statement}
 use Rattle.live.proofs.answer_requests.Tie as tie
 
+-- The record that the locals make, and the ring of the tidying.
+abbrev hubOf : Opening → Figures → ℕ → List PlaceSlot → List PartySlot → Hub
+hubOf opening figures oldest places slots =
+    record {
+      opening = opening;
+      figures = figures;
+      oldest = oldest;
+      places = places;
+      slots = slots;
+    }
+
+abbrev ring : Figures → ℕ → List PlaceSlot → Ring
+ring f o l = record { resumed = f .resumed; oldest = o; places = l }
+
 abbrev Inv-loop2 : tie.InvT-loop2
-Inv-loop2 l k form out figures₀ places₀ slots z v i o c x y a b p t w f turns q limit n₀ figures places n =
-    Skipping turns (hubOf figures₀ places₀ slots) (hubOf figures places slots) n
-    × (limit ≡ figures₀ .oldest + 256) × (figures₀ .oldest ≤ 1000000)
+Inv-loop2 requests count form out opening figures₀ oldest places₀ slots width i from code party at end own t q woken turns limit n₀ figures places n =
+    Skipping turns (ring figures₀ oldest places₀) (ring figures oldest places) n
+    × (figures ≡ withResumed (figures .resumed) figures₀) × (limit ≡ oldest + 256)
+    × (oldest ≤ 1000000)
 
 abbrev μ-loop2 : tie.MeasureT-loop2
-μ-loop2 l k form out figures₀ places₀ slots z v i o c x y a b p t w f turns q limit n₀ figures places n =
+μ-loop2 requests count form out opening figures₀ oldest places₀ slots width i from code party at end own t q woken turns limit n₀ figures places n =
     turns - n
 
 abbrev Inv-loop3 : tie.InvT-loop3
-Inv-loop3 l k form out figures₀ places₀ slots z v i o c x y a b p t w f turns q limit n m₀ figures places m =
-    Retiring turns (hubOf figures₀ places₀ slots) (hubOf figures places slots) m
-    × (figures₀ .oldest + turns ≤ 1000256)
+Inv-loop3 requests count form out opening figures oldest₀ places₀ slots width i from code party at end own t q woken turns limit n m₀ oldest places m =
+    Retiring turns (ring figures oldest₀ places₀) (ring figures oldest places) m
+    × (oldest₀ + turns ≤ 1000256)
 
 abbrev μ-loop3 : tie.MeasureT-loop3
-μ-loop3 l k form out figures₀ places₀ slots z v i o c x y a b p t w f turns q limit n m₀ figures places m =
+μ-loop3 requests count form out opening figures oldest₀ places₀ slots width i from code party at end own t q woken turns limit n m₀ oldest places m =
     turns - m
 
 abbrev Inv-loop : tie.InvT-loop
-Inv-loop requests count form out₀ figures₀ places₀ slots₀ size width i₀ out figures places slots i =
-    Upto form size width (hubOf figures₀ places₀ slots₀) count requests out₀
-    (hubOf figures places slots) out i
+Inv-loop requests count form out₀ opening figures₀ oldest₀ places₀ slots₀ width i₀ out figures oldest places slots i =
+    Upto (formOf form) width (hubOf opening figures₀ oldest₀ places₀ slots₀) count requests out₀
+    (hubOf opening figures oldest places slots) out i
     × (length slots ≡ 32)
 
 abbrev μ-loop : tie.MeasureT-loop
-μ-loop requests count form out₀ figures₀ places₀ slots₀ size width i₀ out figures places slots i =
+μ-loop requests count form out₀ opening figures₀ oldest₀ places₀ slots₀ width i₀ out figures oldest places slots i =
     count - i
 
--- The contexts that the facts below speak of.
+-- The places in the code that the facts below speak of, and the way back from each to the one
+-- before it. Only these know how many steps lie between.
+abbrev Begun : Type 0
+Begun = tie.Start Inv-loop2 μ-loop2 Inv-loop3 μ-loop3 Inv-loop μ-loop
+
 abbrev Head : Type 0
 Head = tie.At-loop Inv-loop2 μ-loop2 Inv-loop3 μ-loop3 Inv-loop μ-loop
 
@@ -82,207 +101,259 @@ Turning = tie.In-loop Inv-loop2 μ-loop2 Inv-loop3 μ-loop3 Inv-loop μ-loop
 abbrev Entered : Type 0
 Entered = tie.Else1 Inv-loop2 μ-loop2 Inv-loop3 μ-loop3 Inv-loop μ-loop
 
-abbrev Joined : Type 0
-Joined = tie.Joined3 Inv-loop2 μ-loop2 Inv-loop3 μ-loop3 Inv-loop μ-loop
+abbrev Named : Type 0
+Named = tie.After-op-of Inv-loop2 μ-loop2 Inv-loop3 μ-loop3 Inv-loop μ-loop
 
-abbrev Called : Type 0
-Called = tie.After-called Inv-loop2 μ-loop2 Inv-loop3 μ-loop3 Inv-loop μ-loop
+abbrev Decided : Type 0
+Decided = tie.After-decide Inv-loop2 μ-loop2 Inv-loop3 μ-loop3 Inv-loop μ-loop
+
+abbrev Printing : Type 0
+Printing = tie.After-print-of Inv-loop2 μ-loop2 Inv-loop3 μ-loop3 Inv-loop μ-loop
+
+abbrev Placed : Type 0
+Placed = tie.After-by-ticket2 Inv-loop2 μ-loop2 Inv-loop3 μ-loop3 Inv-loop μ-loop
+
+abbrev Woken : Type 0
+Woken = tie.Joined2 Inv-loop2 μ-loop2 Inv-loop3 μ-loop3 Inv-loop μ-loop
 
 abbrev Tidying : Type 0
 Tidying = tie.At-loop2 Inv-loop2 μ-loop2 Inv-loop3 μ-loop3 Inv-loop μ-loop
 
-abbrev turning : Entered → Turning
-turning c = c .before .before .before .before .before .before
+abbrev begun : Head → Begun
+begun c = c .before .before .before .before .before .before .before .before
 
+abbrev turning : Entered → Turning
+turning c = c .before .before .before .before .before
+
+abbrev entered : Named → Entered
+entered c = c .before .before .before .before .before .before .before .before .before .before
+
+abbrev printing : Placed → Printing
+printing c = c .before .before .before .before .before .before
+
+abbrev decided : Placed → Decided
+decided c = printing c .before .before
+
+abbrev woken : Tidying → Woken
+woken c = c .before .before
+
+-- The same from further on.
 abbrev head : Entered → Head
 head c = turning c .before
 
-abbrev entered : Joined → Entered
-entered c = c .before .before .before .before .before .before .before
+abbrev entering : Decided → Entered
+entering c = entered (c .before)
 
-abbrev called : Tidying → Called
-called c = c .before .before .before .before .before .before .before .before .before .before
+abbrev placed : Tidying → Placed
+placed c = woken c .before
 
--- The record at the head of a turn, and the bytes of the request.
+abbrev effected : Tidying → Decided
+effected c = decided (placed c)
+
+abbrev within : Tidying → Entered
+within c = entering (effected c)
+
+-- The record at the head of a turn, and the request.
 abbrev hub : Head → Hub
-hub c = hubOf (c .loop .figures) (c .loop .places) (c .loop .slots)
-
-abbrev begun : Head → tie.Start Inv-loop2 μ-loop2 Inv-loop3 μ-loop3 Inv-loop μ-loop
-begun c = c .before .before .before .before .before .before .before .before
+hub c =
+    hubOf (begun c .args .hub .opening) (c .loop .figures) (c .loop .oldest) (c .loop .places)
+    (c .loop .slots)
 
 abbrev bytes : Head → List ℕ
 bytes c = begun c .args .requests .now
-
-abbrev size : Head → ℕ
-size c = c .before .before .request-size .result
 
 abbrev width : Head → ℕ
 width c = c .before .reply-size .result
 
 abbrev code : Head → ℕ
-code c = getD (bytes c) (size c * c .loop .i) 0
+code c = getD (bytes c) (2 * c .loop .i) 0
 
 abbrev party : Head → ℕ
-party c = getD (bytes c) (size c * c .loop .i + 1) 0
+party c = getD (bytes c) (2 * c .loop .i + 1) 0
 
 -- There is still a request to read, and room for its reply.
-two : (c : Turning) → 2 ≤ size (c .before)
-two c = two-bytes _ _ _ _ _ _ _ _ _ _ (c .before .loop .inv .0) (c .loop-test .taken)
-
-asks : (c : Turning)
-    → size (c .before) * c .before .loop .i + size (c .before) ≤ length (bytes (c .before))
-asks c = whole-request _ _ _ _ _ _ _ _ _ _ (c .before .loop .inv .0) (c .loop-test .taken)
+asks : (c : Turning) → 2 * c .before .loop .i + 2 ≤ length (bytes (c .before))
+asks c = whole-request _ _ _ _ _ _ _ _ _ (c .before .loop .inv .0) (c .loop-test .taken)
 
 room : (c : Turning)
     → width (c .before) * c .before .loop .i + width (c .before) ≤ length (c .before .loop .out)
-room c = whole-reply _ _ _ _ _ _ _ _ _ _ (c .before .loop .inv .0) (c .loop-test .taken)
+room c = whole-reply _ _ _ _ _ _ _ _ _ (c .before .loop .inv .0) (c .loop-test .taken)
 
--- The door let the call in.
-pass : (c : Entered) → Passed (code (head c)) (party (head c)) (head c .loop .figures)
-pass c = passed _ _ _ _ _ (c .before .before .at-door .ensures) (not-false _ (c .if1 .left))
+-- The call is admitted.
+pass : (c : Entered)
+    → Admitted (code (head c)) (party (head c)) (hub (head c) .opening .parties)
+pass c = is-admitted _ _ _ _ (c .before .before .admit .ensures) (not-false _ (c .if1 .left))
 
 admitted : (c : Entered) → LetIn (hub (head c)) (party (head c))
-admitted c = let-in _ _ _ _ _ 0 (head c .loop .inv .0 .reached) (pass c)
+admitted c = let-in _ _ _ (head c .loop .inv .0 .reachable) (pass c)
 
--- What the code read for it.
-abbrev number : Joined → ℕ
-number c = c .before .before .before .before .before .ticket .result
+-- What the code read for it is what the party sees.
+abbrev seat : Named → PlaceSlot
+seat c = c .before .before .before .before .before .by-ticket .result
 
-abbrev Reading : Joined → Type 0
-Reading c =
-    let h = head (entered c) in
-    Read (h .loop .figures) (h .loop .places) (h .loop .slots) (party h)
-    (number c) (c .before .before .before .by-ticket .result) (c .before .if2 .waiter)
+abbrev waiter : Named → PartySlot
+waiter c = c .before .before .slot-within .result
 
-reading : (c : Joined) → Reading c
-unfolding readPhase readPlace
+index : (c : Named)
+    → c .before .before .before .before .before .before .before .before .seat-index .result
+    ≡ ticketOf (readSlot (hub (head (entered c)) .slots) (party (head (entered c))) .phase) % PLACES
+unfolding readSlot
+index c = c .before .before .before .before .before .before .before .before .seat-index .ensures
+
+reading : (c : Named)
+    → Reads (hub (head (entered c))) (party (head (entered c))) (seat c)
+    (c .before .before .before .before .waiter-at .result) (waiter c)
+unfolding readSlot
 reading c =
-    let l = head (entered c) .loop .slots in
-    let size = head (entered c) .loop .inv .1 in
-    let a = c .before .before .before .by-ticket .result in
-    let q = c .before .before .waiter-at .ensures in
+    reads (hub (head (entered c))) (party (head (entered c))) _ (index c) _ _ _ _
+    (head (entered c) .loop .inv .1)
+    (c .before .before .before .before .before .before .empty-seat .ensures)
+    (c .before .before .before .before .before .by-ticket .ensures)
+    (c .before .before .before .before .waiter-at .ensures) (c .before .before .slot-within .ensures)
+
+-- The effect is that of the call.
+abbrev op : Head → Op
+op h = opOf (code h)
+
+abbrev full : Head → Bool
+full h = isFull (h .loop .oldest) (h .loop .figures .issued) (h .loop .slots)
+
+abbrev sight : Named → Sight
+sight c = sightOf (hub (head (entered c))) (party (head (entered c))) (seat c) (waiter c)
+
+abbrev of-kind : ℕ → Sight → Sight
+of-kind k s =
     record {
-      ticket = c .before .before .before .before .before .ticket .ensures;
-      place = c .before .before .before .by-ticket .ensures;
-      waiter =
-          ⊎-elim
-          (λ w. waits l size a _ _ q (w .0 .taken) (w .2))
-          (λ w. nobody-waits l size a _ _ q (w .0 .left) (w .1))
-          (c .before .if2 .came);
+      party = s .party;
+      kind = k;
+      slot = s .slot;
+      seat = s .seat;
+      waiter = s .waiter;
+      figures = s .figures;
     }
 
-fullness : (c : Joined) (s : Sight)
-    → let h = head (entered c) in
-    decide (opOf (code h)) (c .if3 .full) s ≡ decide (opOf (code h)) (isFull (hub h)) s
-fullness c s =
-    let h = head (entered c) in
-    ⊎-elim {C = decide (opOf (code h)) (c .if3 .full) s ≡ decide (opOf (code h)) (isFull (hub h)) s}
-    (λ w. ap (λ (b : Bool). decide (opOf (code h)) b s) (w .2 ∙ w .1 .ensures))
-    (λ w. ap (λ (b : Bool). decide (opOf (code h)) b s) (w .1)
-    ∙ not-asked (code h) (isFull (hub h)) s (ne-eqb _ _ (w .0 .left)))
-    (c .if3 .came)
+effect-is : (c : Decided)
+    → let h = head (entering c) in
+    c .decide .result ≡ effectOf (decide (op h) (full h) (sight (c .before))) (sight (c .before))
+unfolding readSlot
+effect-is c =
+    let h = head (entering c) in
+    let s : ℕ → Sight = λ k. of-kind k (sight (c .before)) in
+    c .decide .ensures
+    ∙ ap₂ (λ (o : Op) (k : ℕ). effectOf (decide o (full h) (s k)) (s k)) (c .before .op-of .ensures)
+    (c .before .before .kind .ensures)
+
+abbrev move : Head → Move
+move h = decide (op h) (full h) (look (hub h) (party h))
+
+answered : (c : Entered)
+    → let h = head c in
+    respond (hub h) (requestAt (bytes h) (2 * h .loop .i))
+    ≡ record {
+      reply = record { party = party h; answer = printed (answerOf (move h)) };
+      hub = apply (hub h) (look (hub h) (party h)) (move h);
+    }
+answered c = call-response _ _ _ (head c .loop .inv .0 .reachable) (pass c)
 
 long-unmapped : (X Y : Type 0) (f : X → Y) (l : List X) (n : ℕ) → length (map f l) ≡ n
     → length l ≡ n
 long-unmapped X Y f l n e = sym (length-map l f) ∙ e
 
-full-house : (s : tie.Start Inv-loop2 μ-loop2 Inv-loop3 μ-loop3 Inv-loop μ-loop)
-    → length (s .args .house .slots) ≡ 32
-full-house s = search (needs, long-unmapped)
+full-slots : (s : Begun) → length (s .args .hub .slots) ≡ 32
+full-slots s = search (needs, long-unmapped)
 
--- The move of the call, and its turn.
-abbrev move : Head → Move
-move h = decide (opOf (code h)) (isFull (hub h)) (look (hub h) (party h))
-
-answered : (c : Entered)
-    → let h = head c in
-    turn (hub h) (theRequest (bytes h) (size h * h .loop .i) (size h))
-    ≡ record {
-      party = party h;
-      answer = printed (answerOf (move h));
-      hub = apply (hub h) (look (hub h) (party h)) (move h);
-    }
-answered c = call-turn _ _ _ _ _ _ (head c .loop .inv .0 .reached) (pass c) _ refl
-
-low : (c : Called) → c .called .result .figures .oldest ≤ 1000000
-low c =
-    omega (
-      arith,
-      admitted (entered (c .before)) .counts .oldest,
-      keeps-oldest _ _ _ _ (c .called .result) (c .called .ensures),
-    )
-
--- The record that the tidying starts from, and the one between its loops.
+-- The effect, and the record that the tidying starts from.
 abbrev effect : Tidying → Effect
-effect t = called t .called .result
+effect t = effected t .decide .result
 
-abbrev slots : Tidying → List PartySlot
-slots t =
-    writePhase (t .before .before .if4 .slots) (party (head (entered (called t .before))))
-    (effect t .phase)
+low : (c : Decided) → head (entering c) .loop .oldest ≤ 1000000
+low c = omega (arith, admitted (entering c) .counts .oldest)
+
+turns-most : (c : Decided) → c .decide .result .turns ≤ 256
+turns-most c =
+    let h = head (entering c) in
+    let s = sight (c .before) in
+    few-turns (decide (op h) (full h) s) s (c .decide .result) (effect-is c)
 
 abbrev untidied : Tidying → Hub
 untidied t =
-    let j = called t .before in
-    hubOf (effect t .figures)
-    (writePlace (head (entered j) .loop .places) (number j) (t .before .before .before .by-ticket2 .result))
-    (slots t)
+    let h = head (within t) in
+    hubOf (hub h .opening) (effect t .figures) (h .loop .oldest)
+    (set (h .loop .places)
+    (effected t .before .before .before .before .before .before .before .before .before .seat-index .result)
+    (placed t .by-ticket2 .result))
+    (writeSlot (woken t .if2 .slots) (party h) (effect t .slot))
 
-abbrev between : Tidying → Hub
-between t = hubOf (t .loop2 .figures) (t .loop2 .places) (slots t)
+woken-slots : (t : Tidying)
+    → woken t .if2 .slots
+    ≡ writeSlot (head (within t) .loop .slots) (effect t .woken) (effect t .waiter)
+unfolding writeSlot
+woken-slots t =
+    let h = head (within t) in
+    ⊎-elim (λ w. w .2)
+    (λ w. w .1
+    ∙ nobody (h .loop .slots) (effect t .woken) (effect t .waiter)
+    (omega (arith, h .loop .inv .1, w .0 .left)))
+    (woken t .if2 .came)
+
+-- The ring between the tidying's loops.
+abbrev between : Tidying → Ring
+between t = ring (t .loop2 .figures) (head (within t) .loop .oldest) (t .loop2 .places)
 
 skipped-all : (c : tie.Left-loop2 Inv-loop2 μ-loop2 Inv-loop3 μ-loop3 Inv-loop μ-loop)
-    → let t = c .before in
-    between t ≡ skip (effect t .turns) (canSkip (untidied t)) (untidied t)
-unfolding readPlace writePlace writePhase
+    → between (c .before) ≡ skip (effect (c .before) .turns) (ringOf (untidied (c .before)))
+unfolding readSeat writeSeat
 skipped-all c =
     let s = c .before .loop2 .inv in
     ⊎-elim (λ w. skipping-end _ _ _ _ (s .0) (w .left))
     (λ w. skipping-stop _ _ _ _ (s .0)
-    (can-skip _ _ _ _ (s .0) _ _ (s .1) (w .2 .ensures) ∙ not-true _ (w .3 .taken)))
+    (can-skip _ _ _ _ (s .0) _ _ (s .2) (w .2 .ensures) ∙ not-true _ (w .3 .taken)))
     (c .loop2-test .came)
 
-woken-slots : (t : Tidying)
-    → t .before .before .if4 .slots
-    ≡ writePhase (head (entered (called t .before)) .loop .slots) (effect t .woken) Phase.Holding
-unfolding writePhase
-woken-slots t =
-    let h = head (entered (called t .before)) in
-    ⊎-elim (λ w. w .1)
-    (λ w. w .1
-    ∙ nobody (h .loop .slots) (effect t .woken) Phase.Holding
-    (omega (arith, h .loop .inv .1, w .0 .left)))
-    (t .before .before .if4 .came)
-
--- What the tidying leaves is what the call leaves, and the line says what it answers.
-done : (c : tie.At-loop3 Inv-loop2 μ-loop2 Inv-loop3 μ-loop3 Inv-loop μ-loop) (g : Hub)
-    → let t = c .before .before in
-    let h = head (entered (called t .before)) in
-    g ≡ retire (effect t .turns) (canRetire (between t)) (between t)
-    → g ≡ apply (hub h) (look (hub h) (party h)) (move h)
-unfolding readPhase readPlace
-done c g e =
-    let t = c .before .before in
-    let j = called t .before in
-    left _ _ _ _ _ _ _ (reading j) (code (head (entered j))) (j .if3 .full) (effect t) (fullness j _)
-    (called t .called .ensures) _ _ (head (entered j) .loop .inv .1) (t .before .before .before .by-ticket2 .ensures)
-    (woken-slots t) (between t) g (skipped-all (c .before)) e
-
-abbrev print : Tidying → tie.After-print-of Inv-loop2 μ-loop2 Inv-loop3 μ-loop3 Inv-loop μ-loop
-print t = t .before .before .before .before .before .before .before .before
+-- What the tidying leaves is what the call leaves, and the reply says what it answers.
+done : (c : tie.Left-loop2 Inv-loop2 μ-loop2 Inv-loop3 μ-loop3 Inv-loop μ-loop) (o : ℕ) (l : List PlaceSlot)
+    → let t = c .before in
+    let h = head (within t) in
+    ring (t .loop2 .figures) o l ≡ retire (effect t .turns) (between t)
+    → hubOf (hub h .opening) (t .loop2 .figures) o l (untidied t .slots)
+    ≡ apply (hub h) (look (hub h) (party h)) (move h)
+unfolding readSlot
+done c o l e =
+    let t = c .before in
+    let d = effected t in
+    let h = head (within t) in
+    tidies (untidied t) (effect t .turns) (t .loop2 .figures) (between t) (ring (t .loop2 .figures) o l)
+    (t .loop2 .inv .1) (skipped-all c) e
+    ∙ ap (tidiedBy (effect t .turns))
+    (stores (hub h) (party h) _ (index (d .before)) (effect t) _ _ (placed t .by-ticket2 .ensures)
+    (woken-slots t))
+    ∙ left _ _ _ _ _ (reading (d .before)) (op h) (effect t) (effect-is d)
 
 worded : (t : Tidying)
-    → paper (print t .print-of .result)
-    ≡ printed (answerOf (move (head (entered (called t .before)))))
-unfolding readPhase
+    → paper (printing (placed t) .print-of .result)
+    ≡ printed (answerOf (move (head (within t))))
 worded t =
-    let j = called t .before in
-    said _ _ _ _ _ _ _ (reading j) (code (head (entered j))) (j .if3 .full) (effect t) (fullness j _)
-    (called t .called .ensures) (print t .print-of .ensures)
+    let d = effected t in
+    printing (placed t) .print-of .ensures
+    ∙ ap printed (said _ _ _ _ _ (reading (d .before)) (op (head (within t))) (effect t) (effect-is d))
 
-request-size-requires :
-    tie.Need-request-size-requires Inv-loop2 μ-loop2 Inv-loop3 μ-loop3 Inv-loop μ-loop
-request-size-requires c κs = search needs
+-- The slots stay as many.
+still-32 : (t : Tidying) → length (untidied t .slots) ≡ 32
+still-32 t =
+    let h = head (within t) in
+    still (h .loop .slots) _ (effect t .woken) (party h) (effect t .waiter) (effect t .slot) (woken-slots t)
+    ∙ h .loop .inv .1
+
+-- What was written.
+replied-with : (t : Tidying)
+    → let h = head (within t) in
+    placed t .before .before .before .before .before .put-reply2 .last .0
+    ≡ inForm (formOf (begun h .args .form))
+    (frameOf (party h) (printed (answerOf (move h))))
+replied-with t =
+    let h = head (within t) in
+    placed t .before .before .before .before .before .put-reply2 .ensures
+    ∙ ap (λ (q : Printed). inForm (formOf (begun h .args .form)) (frameOf (party h) q)) (worded t)
 
 reply-size-requires :
     tie.Need-reply-size-requires Inv-loop2 μ-loop2 Inv-loop3 μ-loop3 Inv-loop μ-loop
@@ -290,12 +361,9 @@ reply-size-requires c κs = search needs
 
 loop-holds : tie.Need-loop-holds Inv-loop2 μ-loop2 Inv-loop3 μ-loop3 Inv-loop μ-loop
 loop-holds c =
-    let a = c .before .before .before .before .before .before .before in
-    let f : SFits w32 (a .args .house .counter) = search needs in
-    let same = ap (counting (a .args .house)) (sym (toZ-ofZ f)) in (
-      start _ _ _ _ _ _ _ (c .before .request-size .ensures) (c .reply-size .ensures)
-          (subst Reached same (a .pre .0)) (a .pre .1 .0) (a .pre .1 .1),
-      full-house a,
+    let a = c .before .before .before .before .before .before .before in (
+      start _ _ _ _ _ _ (c .reply-size .ensures) (a .pre .0) (a .pre .1 .0) (a .pre .1 .1),
+      full-slots a,
     )
 
 mul-from : tie.Need-mul-from Inv-loop2 μ-loop2 Inv-loop3 μ-loop3 Inv-loop μ-loop
@@ -303,37 +371,26 @@ mul-from c = omega (arith, asks c)
 
 shared-slice-read-code :
     tie.Need-shared-slice-read-code Inv-loop2 μ-loop2 Inv-loop3 μ-loop3 Inv-loop μ-loop
-shared-slice-read-code c = omega (arith, two (c .before), asks (c .before))
+shared-slice-read-code c = omega (arith, asks (c .before))
 
-add-first : tie.Need-add-first Inv-loop2 μ-loop2 Inv-loop3 μ-loop3 Inv-loop μ-loop
-add-first c = omega (arith, two (c .before), asks (c .before))
+add-party : tie.Need-add-party Inv-loop2 μ-loop2 Inv-loop3 μ-loop3 Inv-loop μ-loop
+add-party c = omega (arith, asks (c .before))
 
-shared-slice-read-first :
-    tie.Need-shared-slice-read-first Inv-loop2 μ-loop2 Inv-loop3 μ-loop3 Inv-loop μ-loop
-shared-slice-read-first c = omega (arith, two (c .before .before), asks (c .before .before))
-
-add-second : tie.Need-add-second Inv-loop2 μ-loop2 Inv-loop3 μ-loop3 Inv-loop μ-loop
-add-second c = omega (arith, asks (c .before .before))
-
-sub-second : tie.Need-sub-second Inv-loop2 μ-loop2 Inv-loop3 μ-loop3 Inv-loop μ-loop
-sub-second c = omega (arith, two (c .before .before))
-
-shared-slice-read-second :
-    tie.Need-shared-slice-read-second Inv-loop2 μ-loop2 Inv-loop3 μ-loop3 Inv-loop μ-loop
-shared-slice-read-second c =
-    omega (arith, two (c .before .before .before), asks (c .before .before .before))
+shared-slice-read-party :
+    tie.Need-shared-slice-read-party Inv-loop2 μ-loop2 Inv-loop3 μ-loop3 Inv-loop μ-loop
+shared-slice-read-party c = omega (arith, asks (c .before .before))
 
 mul-at : tie.Need-mul-at Inv-loop2 μ-loop2 Inv-loop3 μ-loop3 Inv-loop μ-loop
-mul-at c = omega (arith, room (c .before .before .before))
+mul-at c = omega (arith, room (c .before .before))
 
 add-end : tie.Need-add-end Inv-loop2 μ-loop2 Inv-loop3 μ-loop3 Inv-loop μ-loop
-add-end c = omega (arith, room (c .before .before .before))
+add-end c = omega (arith, room (c .before .before))
 
 add-i : tie.Need-add-i Inv-loop2 μ-loop2 Inv-loop3 μ-loop3 Inv-loop μ-loop
 add-i c = search needs
 
-at-door-requires : tie.Need-at-door-requires Inv-loop2 μ-loop2 Inv-loop3 μ-loop3 Inv-loop μ-loop
-at-door-requires c κs = search needs
+admit-requires : tie.Need-admit-requires Inv-loop2 μ-loop2 Inv-loop3 μ-loop3 Inv-loop μ-loop
+admit-requires c κs = search needs
 
 sub-put-reply : tie.Need-sub-put-reply Inv-loop2 μ-loop2 Inv-loop3 μ-loop3 Inv-loop μ-loop
 sub-put-reply c = search needs
@@ -343,28 +400,38 @@ part-put-reply-start :
 part-put-reply-start c = search needs
 
 part-put-reply-end : tie.Need-part-put-reply-end Inv-loop2 μ-loop2 Inv-loop3 μ-loop3 Inv-loop μ-loop
-part-put-reply-end c = omega (arith, room (c .before .before .before .before .before .before))
+part-put-reply-end c = omega (arith, room (c .before .before .before .before .before))
+
+plain-requires : tie.Need-plain-requires Inv-loop2 μ-loop2 Inv-loop3 μ-loop3 Inv-loop μ-loop
+plain-requires c κs = search needs
 
 put-reply-requires : tie.Need-put-reply-requires Inv-loop2 μ-loop2 Inv-loop3 μ-loop3 Inv-loop μ-loop
-put-reply-requires c κs = search needs
+put-reply-requires c κs =
+    let e = c .before .before .before .before .before .before .before in
+    reply-part _ _ _ _ _ _ _ _ _ (e .before .loop .inv .0) (e .loop-test .taken)
 
 loop-less : tie.Need-loop-less Inv-loop2 μ-loop2 Inv-loop3 μ-loop3 Inv-loop μ-loop
 loop-less c = search needs
 
 loop-again : tie.Need-loop-again Inv-loop2 μ-loop2 Inv-loop3 μ-loop3 Inv-loop μ-loop
 loop-again c =
-    let p = c .before .before .before .before .before in
+    let w = c .before .before .before in
+    let p = w .before .before in
     let d = p .before .before in
-    let h = d .before .before .before .before .before in
-    let u = h .loop .inv .0 in (
-      turned _ _ _ _ _ _ _ _ _ _ u (d .before .before .before .before .loop-test .taken) _ _ _
-          (door-turn _ _ _ _ _ _ (u .reached) _ (d .at-door .ensures) (not-true _ (p .if1 .taken)))
-          (c .before .before .before .put-reply .ensures) refl,
+    let h = d .before .before .before .before in
+    let u = h .loop .inv .0 in
+    let line =
+    c .before .before .put-reply .ensures
+    ∙ ap (λ (q : Printed). inForm (formOf (begun h .args .form)) (frameOf (d .admit .result .party) q))
+    (w .plain .ensures) in (
+      responded _ _ _ _ _ _ _ _ _ u (d .before .before .before .loop-test .taken) _ _ _
+          (refused-response _ _ _ (u .reachable) _ (d .admit .ensures) (not-true _ (p .if1 .taken)))
+          line refl,
       h .loop .inv .1,
     )
 
-cast-party : tie.Need-cast-party Inv-loop2 μ-loop2 Inv-loop3 μ-loop3 Inv-loop μ-loop
-cast-party c = omega (arith, admitted c .party)
+cast-own : tie.Need-cast-own Inv-loop2 μ-loop2 Inv-loop3 μ-loop3 Inv-loop μ-loop
+cast-own c = omega (arith, admitted c .party)
 
 mul-slot : tie.Need-mul-slot Inv-loop2 μ-loop2 Inv-loop3 μ-loop3 Inv-loop μ-loop
 mul-slot c = omega (arith, admitted c .party)
@@ -373,45 +440,51 @@ array-copy-out-slot :
     tie.Need-array-copy-out-slot Inv-loop2 μ-loop2 Inv-loop3 μ-loop3 Inv-loop μ-loop
 array-copy-out-slot c = omega (arith, admitted c .party)
 
-ticket-requires : tie.Need-ticket-requires Inv-loop2 μ-loop2 Inv-loop3 μ-loop3 Inv-loop μ-loop
-ticket-requires c κs = search needs
+seat-index-requires :
+    tie.Need-seat-index-requires Inv-loop2 μ-loop2 Inv-loop3 μ-loop3 Inv-loop μ-loop
+seat-index-requires c κs = search needs
 
-cast-t : tie.Need-cast-t Inv-loop2 μ-loop2 Inv-loop3 μ-loop3 Inv-loop μ-loop
-cast-t c = search needs
+mul-there : tie.Need-mul-there Inv-loop2 μ-loop2 Inv-loop3 μ-loop3 Inv-loop μ-loop
+mul-there c = search needs
 
-mul-seat : tie.Need-mul-seat Inv-loop2 μ-loop2 Inv-loop3 μ-loop3 Inv-loop μ-loop
-mul-seat c = search needs
+array-copy-out-there :
+    tie.Need-array-copy-out-there Inv-loop2 μ-loop2 Inv-loop3 μ-loop3 Inv-loop μ-loop
+array-copy-out-there c = search needs
 
-array-copy-out-seat :
-    tie.Need-array-copy-out-seat Inv-loop2 μ-loop2 Inv-loop3 μ-loop3 Inv-loop μ-loop
-array-copy-out-seat c = search needs
+empty-seat-requires :
+    tie.Need-empty-seat-requires Inv-loop2 μ-loop2 Inv-loop3 μ-loop3 Inv-loop μ-loop
+empty-seat-requires c κs = search needs
 
-by-ticket-requires :
-    tie.Need-by-ticket-requires Inv-loop2 μ-loop2 Inv-loop3 μ-loop3 Inv-loop μ-loop
+by-ticket-requires : tie.Need-by-ticket-requires Inv-loop2 μ-loop2 Inv-loop3 μ-loop3 Inv-loop μ-loop
 by-ticket-requires c κs = search needs
 
-waiter-at-requires :
-    tie.Need-waiter-at-requires Inv-loop2 μ-loop2 Inv-loop3 μ-loop3 Inv-loop μ-loop
+waiter-at-requires : tie.Need-waiter-at-requires Inv-loop2 μ-loop2 Inv-loop3 μ-loop3 Inv-loop μ-loop
 waiter-at-requires c κs = search needs
 
-cast-seen : tie.Need-cast-seen Inv-loop2 μ-loop2 Inv-loop3 μ-loop3 Inv-loop μ-loop
-cast-seen c = search needs
+cast-near : tie.Need-cast-near Inv-loop2 μ-loop2 Inv-loop3 μ-loop3 Inv-loop μ-loop
+cast-near c = search needs
 
-mul-seen : tie.Need-mul-seen Inv-loop2 μ-loop2 Inv-loop3 μ-loop3 Inv-loop μ-loop
-mul-seen c = search needs
+mul-near : tie.Need-mul-near Inv-loop2 μ-loop2 Inv-loop3 μ-loop3 Inv-loop μ-loop
+mul-near c = search needs
 
-array-copy-out-seen :
-    tie.Need-array-copy-out-seen Inv-loop2 μ-loop2 Inv-loop3 μ-loop3 Inv-loop μ-loop
-array-copy-out-seen c = search needs
+array-copy-out-near :
+    tie.Need-array-copy-out-near Inv-loop2 μ-loop2 Inv-loop3 μ-loop3 Inv-loop μ-loop
+array-copy-out-near c = search needs
 
-is-full-requires : tie.Need-is-full-requires Inv-loop2 μ-loop2 Inv-loop3 μ-loop3 Inv-loop μ-loop
-is-full-requires c κs =
-    let a = admitted (c .before .before .before .before .before .before .before) in
-    (a .counts .oldest, a .counts .issued)
+slot-within-requires :
+    tie.Need-slot-within-requires Inv-loop2 μ-loop2 Inv-loop3 μ-loop3 Inv-loop μ-loop
+slot-within-requires c κs = search needs
 
-called-requires : tie.Need-called-requires Inv-loop2 μ-loop2 Inv-loop3 μ-loop3 Inv-loop μ-loop
-unfolding readPhase
-called-requires c κs = small-sight _ _ _ _ _ _ _ (reading c) (admitted (entered c) .counts)
+kind-requires : tie.Need-kind-requires Inv-loop2 μ-loop2 Inv-loop3 μ-loop3 Inv-loop μ-loop
+kind-requires c κs = search needs
+
+op-of-requires : tie.Need-op-of-requires Inv-loop2 μ-loop2 Inv-loop3 μ-loop3 Inv-loop μ-loop
+op-of-requires c κs = search needs
+
+decide-requires : tie.Need-decide-requires Inv-loop2 μ-loop2 Inv-loop3 μ-loop3 Inv-loop μ-loop
+decide-requires c κs =
+    let n = admitted (entered c) .counts in
+    (record { counter = n .counter; issued = n .issued; resumed = n .resumed }, n .oldest)
 
 sub-put-reply-2 : tie.Need-sub-put-reply-2 Inv-loop2 μ-loop2 Inv-loop3 μ-loop3 Inv-loop μ-loop
 sub-put-reply-2 c = search needs
@@ -422,8 +495,7 @@ part-put-reply-start-2 c = search needs
 
 part-put-reply-end-2 :
     tie.Need-part-put-reply-end-2 Inv-loop2 μ-loop2 Inv-loop3 μ-loop3 Inv-loop μ-loop
-part-put-reply-end-2 c =
-    omega (arith, room (turning (entered (c .before))))
+part-put-reply-end-2 c = omega (arith, room (turning (entering c)))
 
 print-of-requires : tie.Need-print-of-requires Inv-loop2 μ-loop2 Inv-loop3 μ-loop3 Inv-loop μ-loop
 print-of-requires c κs = search needs
@@ -431,19 +503,19 @@ print-of-requires c κs = search needs
 put-reply-requires-2 :
     tie.Need-put-reply-requires-2 Inv-loop2 μ-loop2 Inv-loop3 μ-loop3 Inv-loop μ-loop
 put-reply-requires-2 c κs =
-    let e = turning (entered (c .before .before .before)) in
-    reply-part _ _ _ _ _ _ _ _ _ _ (e .before .loop .inv .0) (e .loop-test .taken)
+    let e = turning (entering (c .before .before)) in
+    reply-part _ _ _ _ _ _ _ _ _ (e .before .loop .inv .0) (e .loop-test .taken)
 
 by-ticket-requires-2 :
     tie.Need-by-ticket-requires-2 Inv-loop2 μ-loop2 Inv-loop3 μ-loop3 Inv-loop μ-loop
 by-ticket-requires-2 c κs = search needs
 
 mul-places : tie.Need-mul-places Inv-loop2 μ-loop2 Inv-loop3 μ-loop3 Inv-loop μ-loop
-mul-places c = search needs
+mul-places c = omega (arith, index (decided c .before))
 
 array-set-from-places :
     tie.Need-array-set-from-places Inv-loop2 μ-loop2 Inv-loop3 μ-loop3 Inv-loop μ-loop
-array-set-from-places c = search needs
+array-set-from-places c = omega (arith, index (decided c .before))
 
 cast-slots : tie.Need-cast-slots Inv-loop2 μ-loop2 Inv-loop3 μ-loop3 Inv-loop μ-loop
 cast-slots c = search needs
@@ -456,25 +528,18 @@ array-set-from-slots :
 array-set-from-slots c = search needs
 
 mul-slots-2 : tie.Need-mul-slots-2 Inv-loop2 μ-loop2 Inv-loop3 μ-loop3 Inv-loop μ-loop
-mul-slots-2 c =
-    let j = c .before .before .before .before .before .before .before .before .before in
-    omega (arith, admitted (entered j) .party)
+mul-slots-2 c = omega (arith, admitted (entering (decided (c .before .before))) .party)
 
 array-set-from-slots-2 :
     tie.Need-array-set-from-slots-2 Inv-loop2 μ-loop2 Inv-loop3 μ-loop3 Inv-loop μ-loop
-array-set-from-slots-2 c =
-    let j = c .before .before .before .before .before .before .before .before .before in
-    omega (arith, admitted (entered j) .party)
+array-set-from-slots-2 c = omega (arith, admitted (entering (decided (c .before .before))) .party)
 
 add-limit : tie.Need-add-limit Inv-loop2 μ-loop2 Inv-loop3 μ-loop3 Inv-loop μ-loop
-add-limit c =
-    let d = c .before .before .before .before .before .before .before .before .before in
-    omega (arith, low d)
+add-limit c = omega (arith, low (decided (c .before .before)))
 
 loop2-holds : tie.Need-loop2-holds Inv-loop2 μ-loop2 Inv-loop3 μ-loop3 Inv-loop μ-loop
 loop2-holds c =
-    let d = c .before .before .before .before .before .before .before .before .before in
-    (skipping _ _, refl, low d)
+    (skipping _ _, refl, refl, low (decided (c .before .before)))
 
 cast-a : tie.Need-cast-a Inv-loop2 μ-loop2 Inv-loop3 μ-loop3 Inv-loop μ-loop
 cast-a c = search needs
@@ -489,6 +554,10 @@ array-copy-out-head c = search needs
 can-skip-requires : tie.Need-can-skip-requires Inv-loop2 μ-loop2 Inv-loop3 μ-loop3 Inv-loop μ-loop
 can-skip-requires c κs = search needs
 
+with-place-requires :
+    tie.Need-with-place-requires Inv-loop2 μ-loop2 Inv-loop3 μ-loop3 Inv-loop μ-loop
+with-place-requires c κs = search needs
+
 mul-places-2 : tie.Need-mul-places-2 Inv-loop2 μ-loop2 Inv-loop3 μ-loop3 Inv-loop μ-loop
 mul-places-2 c = search needs
 
@@ -497,58 +566,55 @@ array-set-from-places-2 :
 array-set-from-places-2 c = search needs
 
 add-figures : tie.Need-add-figures Inv-loop2 μ-loop2 Inv-loop3 μ-loop3 Inv-loop μ-loop
-unfolding readPlace
+unfolding readSeat
 add-figures c =
-    let l = c .before .before .before .before in
-    let s = l .loop2 .inv in
-    let e = can-skip _ _ _ _ (s .0) _ _ (s .1) (c .before .can-skip .ensures) in
-    omega (arith, in-window _ _ _ _ (s .0) (e ∙ not-false _ (c .if5 .left)), s .2)
+    let s = c .before .before .before .before .before .loop2 .inv in
+    let e = can-skip _ _ _ _ (s .0) _ _ (s .2) (c .before .before .can-skip .ensures) in
+    omega (arith, in-window _ _ _ _ (s .0) (e ∙ not-false _ (c .before .if3 .left)), s .3)
 
 add-n : tie.Need-add-n Inv-loop2 μ-loop2 Inv-loop3 μ-loop3 Inv-loop μ-loop
 add-n c =
-    let d = called (c .before .before .before .before) in
     omega (
       arith,
-      c .before .before .before .loop2-test .taken,
-      few-turns _ _ _ _ (d .called .result) (d .called .ensures),
+      c .before .before .before .before .loop2-test .taken,
+      turns-most (effected (c .before .before .before .before .before)),
     )
 
 loop2-less : tie.Need-loop2-less Inv-loop2 μ-loop2 Inv-loop3 μ-loop3 Inv-loop μ-loop
-loop2-less c = omega (arith, c .before .before .before .loop2-test .taken)
+loop2-less c = omega (arith, c .before .before .before .before .loop2-test .taken)
 
 loop2-again : tie.Need-loop2-again Inv-loop2 μ-loop2 Inv-loop3 μ-loop3 Inv-loop μ-loop
-unfolding readPlace writePlace
+unfolding readSeat writeSeat
 loop2-again c =
-    let s = c .before .before .before .before .loop2 .inv in
-    let e = can-skip _ _ _ _ (s .0) _ _ (s .1) (c .before .can-skip .ensures) in
-    let on = skipping-on _ _ _ _ (s .0) (c .before .before .before .loop2-test .taken) in
-    (on (e ∙ not-false _ (c .if5 .left)), s .1, s .2)
+    let s = c .before .before .before .before .before .loop2 .inv in
+    let e = can-skip _ _ _ _ (s .0) _ _ (s .2) (c .before .before .can-skip .ensures) in
+    let l = c .before .before .before .before .before .loop2 in
+    let r = l .figures .resumed in
+    let on =
+    skipping-on _ _ _ _ (s .0) _ (c .with-place .ensures)
+    (c .before .before .before .before .loop2-test .taken) (e ∙ not-false _ (c .before .if3 .left)) in (
+      on,
+      ap (withResumed (r + 1)) (s .1),
+      s .2,
+      s .3,
+    )
 
 loop3-holds : tie.Need-loop3-holds Inv-loop2 μ-loop2 Inv-loop3 μ-loop3 Inv-loop μ-loop
 loop3-holds c =
-    let s = c .before .loop2 .inv in
-    let d = called (c .before) in (
-      retiring _ _,
-      omega (arith, s .0 .low, s .2, few-turns _ _ _ _ (d .called .result) (d .called .ensures)),
-    )
+    (retiring _ _, omega (arith, c .before .loop2 .inv .3, turns-most (effected (c .before))))
 
 loop-less-2 : tie.Need-loop-less-2 Inv-loop2 μ-loop2 Inv-loop3 μ-loop3 Inv-loop μ-loop
-loop-less-2 c = omega (arith, turning (entered (called (c .before .before .before) .before)) .loop-test .taken)
+loop-less-2 c = omega (arith, turning (within (c .before .before .before)) .loop-test .taken)
 
 loop-again-2 : tie.Need-loop-again-2 Inv-loop2 μ-loop2 Inv-loop3 μ-loop3 Inv-loop μ-loop
-unfolding readPlace writePlace writePhase
+unfolding readSeat writeSlot
 loop-again-2 c =
     let t = c .before .before .before in
-    let e = entered (called t .before) in
-    let h = head e in
-    let line =
-    t .before .before .before .before .before .before .before .put-reply2 .ensures
-    ∙ ap (λ (q : Printed). inForm (begun h .args .form) (frameOf (party h) q)) (worded t) in
-    let long = still (h .loop .slots) _ (effect t .woken) _ Phase.Holding _ (woken-slots t) in
+    let e = within t in
     let last = retiring-end _ _ _ _ (c .before .loop3 .inv .0) (c .loop3-test .left) in (
-      turned _ _ _ _ _ _ _ _ _ _ (h .loop .inv .0) (turning e .loop-test .taken) _ _ _
-          (answered e) line (done (c .before) _ last),
-      long ∙ h .loop .inv .1,
+      responded _ _ _ _ _ _ _ _ _ (head e .loop .inv .0) (turning e .loop-test .taken) _ _ _
+          (answered e) (replied-with t) (done (c .before .before) _ _ last),
+      still-32 t,
     )
 
 cast-a-2 : tie.Need-cast-a-2 Inv-loop2 μ-loop2 Inv-loop3 μ-loop3 Inv-loop μ-loop
@@ -561,33 +627,30 @@ array-copy-out-head-2 :
     tie.Need-array-copy-out-head-2 Inv-loop2 μ-loop2 Inv-loop3 μ-loop3 Inv-loop μ-loop
 array-copy-out-head-2 c = search needs
 
-is-done-requires :
-    tie.Need-is-done-requires Inv-loop2 μ-loop2 Inv-loop3 μ-loop3 Inv-loop μ-loop
-is-done-requires c κs = search needs
+can-retire-requires :
+    tie.Need-can-retire-requires Inv-loop2 μ-loop2 Inv-loop3 μ-loop3 Inv-loop μ-loop
+can-retire-requires c κs = search needs
 
 loop-less-3 : tie.Need-loop-less-3 Inv-loop2 μ-loop2 Inv-loop3 μ-loop3 Inv-loop μ-loop
-loop-less-3 c =
-    let t = c .before .before .before .before .before .before in
-    omega (arith, turning (entered (called t .before)) .loop-test .taken)
+loop-less-3 c = omega (arith, turning (within (c .before .before .before .before .before .before)) .loop-test .taken)
 
 loop-again-3 : tie.Need-loop-again-3 Inv-loop2 μ-loop2 Inv-loop3 μ-loop3 Inv-loop μ-loop
-unfolding readPlace writePlace writePhase
+unfolding readSeat writeSlot
 loop-again-3 c =
     let l = c .before .before .before .before in
-    let t = c .before .before .before .before .before .before in
-    let e = entered (called t .before) in
-    let h = head e in
-    let line =
-    t .before .before .before .before .before .before .before .put-reply2 .ensures
-    ∙ ap (λ (q : Printed). inForm (begun h .args .form) (frameOf (party h) q)) (worded t) in
-    let long = still (h .loop .slots) _ (effect t .woken) _ Phase.Holding _ (woken-slots t) in
+    let t = l .before .before in
+    let e = within t in
     let last =
     retiring-stop _ _ _ _ (l .loop3 .inv .0)
-    (sym (c .before .is-done .ensures) ∙ not-true _ (c .if6 .taken)) in (
-      turned _ _ _ _ _ _ _ _ _ _ (h .loop .inv .0) (turning e .loop-test .taken) _ _ _
-          (answered e) line (done l _ last),
-      long ∙ h .loop .inv .1,
+    (sym (c .before .can-retire .ensures) ∙ not-true _ (c .if4 .taken)) in (
+      responded _ _ _ _ _ _ _ _ _ (head e .loop .inv .0) (turning e .loop-test .taken) _ _ _
+          (answered e) (replied-with t) (done (l .before) _ _ last),
+      still-32 t,
     )
+
+empty-seat-requires-2 :
+    tie.Need-empty-seat-requires-2 Inv-loop2 μ-loop2 Inv-loop3 μ-loop3 Inv-loop μ-loop
+empty-seat-requires-2 c κs = search needs
 
 mul-places-3 : tie.Need-mul-places-3 Inv-loop2 μ-loop2 Inv-loop3 μ-loop3 Inv-loop μ-loop
 mul-places-3 c = search needs
@@ -596,28 +659,30 @@ array-set-from-places-3 :
     tie.Need-array-set-from-places-3 Inv-loop2 μ-loop2 Inv-loop3 μ-loop3 Inv-loop μ-loop
 array-set-from-places-3 c = search needs
 
-add-figures-2 : tie.Need-add-figures-2 Inv-loop2 μ-loop2 Inv-loop3 μ-loop3 Inv-loop μ-loop
-add-figures-2 c =
-    let s = c .before .before .before .before .loop3 .inv in
-    omega (arith, s .0 .low, s .1, c .before .before .before .loop3-test .taken)
+add-oldest : tie.Need-add-oldest Inv-loop2 μ-loop2 Inv-loop3 μ-loop3 Inv-loop μ-loop
+add-oldest c =
+    let s = c .before .before .before .before .before .loop3 .inv in
+    omega (arith, s .0 .low, s .1, c .before .before .before .before .loop3-test .taken)
 
 add-m : tie.Need-add-m Inv-loop2 μ-loop2 Inv-loop3 μ-loop3 Inv-loop μ-loop
 add-m c =
     omega (
       arith,
-      c .before .before .before .before .loop3 .inv .1,
-      c .before .before .before .loop3-test .taken,
+      c .before .before .before .before .before .loop3 .inv .1,
+      c .before .before .before .before .loop3-test .taken,
     )
 
 loop3-less : tie.Need-loop3-less Inv-loop2 μ-loop2 Inv-loop3 μ-loop3 Inv-loop μ-loop
-loop3-less c = omega (arith, c .before .before .before .loop3-test .taken)
+loop3-less c = omega (arith, c .before .before .before .before .loop3-test .taken)
 
 loop3-again : tie.Need-loop3-again Inv-loop2 μ-loop2 Inv-loop3 μ-loop3 Inv-loop μ-loop
-unfolding readPlace writePlace
+unfolding readSeat writeSeat
 loop3-again c =
-    let s = c .before .before .before .before .loop3 .inv in (
-      retiring-on _ _ _ _ (s .0) (c .before .before .before .loop3-test .taken)
-          (sym (c .before .is-done .ensures) ∙ not-false _ (c .if6 .left)),
+    let l = c .before .before .before .before .before .loop3 in
+    let s = l .inv in (
+      retiring-on _ _ _ _ (s .0) _ (c .empty-seat2 .ensures)
+          (c .before .before .before .before .loop3-test .taken)
+          (sym (c .before .before .can-retire .ensures) ∙ not-false _ (c .before .if4 .left)),
       s .1,
     )
 
@@ -626,16 +691,9 @@ same-length c = search needs
 
 returns : tie.Need-returns Inv-loop2 μ-loop2 Inv-loop3 μ-loop3 Inv-loop μ-loop
 returns c =
-    let l = c .before .before in
-    let a = begun l .args in
-    let u = l .loop .inv .0 in
-    let e = ended _ _ _ _ _ _ _ _ _ _ u (c .before .loop-test .left) in
-    let f : SFits w32 (a .house .counter) = search needs in
-    let same = ap (counting (a .house)) (toZ-ofZ f) in (
-      ap (counting (hub l)) (same-counter (hub l) (u .reached)) ∙ e .0
-          ∙ ap (λ (h : Hub). after h (requestsIn (a .form) (a .count) (a .requests .now))) same,
-      e .1 ∙ ap (λ (h : Hub). replied (a .form) h (a .count) (a .requests .now) (a .out .now)) same,
-    )
+    let l = c .before in
+    let e = ended _ _ _ _ _ _ _ _ _ (l .loop .inv .0) (c .loop-test .left) in
+    (e .0, e .1)
 
 pub answer-requests-spec : {M : Type 1} → statement M
 answer-requests-spec =
@@ -647,40 +705,39 @@ answer-requests-spec =
     μ-loop3
     Inv-loop
     μ-loop
-    request-size-requires
     reply-size-requires
     loop-holds
     mul-from
     shared-slice-read-code
-    add-first
-    shared-slice-read-first
-    add-second
-    sub-second
-    shared-slice-read-second
+    add-party
+    shared-slice-read-party
     mul-at
     add-end
     add-i
-    at-door-requires
+    admit-requires
     sub-put-reply
     part-put-reply-start
     part-put-reply-end
+    plain-requires
     put-reply-requires
     loop-less
     loop-again
-    cast-party
+    cast-own
     mul-slot
     array-copy-out-slot
-    ticket-requires
-    cast-t
-    mul-seat
-    array-copy-out-seat
+    seat-index-requires
+    mul-there
+    array-copy-out-there
+    empty-seat-requires
     by-ticket-requires
     waiter-at-requires
-    cast-seen
-    mul-seen
-    array-copy-out-seen
-    is-full-requires
-    called-requires
+    cast-near
+    mul-near
+    array-copy-out-near
+    slot-within-requires
+    kind-requires
+    op-of-requires
+    decide-requires
     sub-put-reply-2
     part-put-reply-start-2
     part-put-reply-end-2
@@ -700,6 +757,7 @@ answer-requests-spec =
     mul-head
     array-copy-out-head
     can-skip-requires
+    with-place-requires
     mul-places-2
     array-set-from-places-2
     add-figures
@@ -712,12 +770,13 @@ answer-requests-spec =
     cast-a-2
     mul-head-2
     array-copy-out-head-2
-    is-done-requires
+    can-retire-requires
     loop-less-3
     loop-again-3
+    empty-seat-requires-2
     mul-places-3
     array-set-from-places-3
-    add-figures-2
+    add-oldest
     add-m
     loop3-less
     loop3-again

@@ -1,14 +1,17 @@
 -- The tidying's loops with k turns at most: what is left of each, from any turn on, comes to the
 -- same. With 256 turns they are the tidying, with none they leave the ring.
 use Prim.Native.Nat.{ℕ, zero, suc, _+_, _-_, _≤_, _<_}
-use mathlib.Core.Path.{_≡_, refl, sym, ap, _∙_}
+use mathlib.Core.Path.{_≡_, refl, sym, ap, subst, _∙_}
 use mathlib.Core.Bool.{Bool, true, false, true≢false, cond, _&&_, _||_}
 use native.Mathlib.Omega.{arith}
 use borrow.Author.Tests.{ltb-true}
 use lib.Dec.{ltb}
+use Rattle.hub.specs.declared.record.Place.{Place}
+use Rattle.hub.specs.declared.record.PlaceSlot.{PlaceSlot}
 use Rattle.hub.specs.Phases.{isCancelled, isDone}
-use Rattle.hub.specs.Ring.{PLACES, Ring, readPlace, canSkip, skipped, skip, canRetire, retired, retire}
-use Rattle.hub.specs.Ring.{reclaimed}
+use Rattle.hub.specs.Record.{emptySeat, withPlace}
+use Rattle.hub.specs.Ring.{PLACES, Ring, readPlace, readSeat, writeSeat, canSkip, skipped, skip}
+use Rattle.hub.specs.Ring.{canRetire, retired, retire}
 use Rattle.hub.proofs.Laws.Bools.{first}
 use Rattle.hub.proofs.Laws.Ring.{skip-yes, skip-no, retire-yes, retire-no}
 
@@ -93,12 +96,29 @@ module _ (k : ℕ) (r₀ r : Ring) (n : ℕ) (s : Skipping k r₀ r n) where
       let l = first (ltb (r .resumed) (r .oldest + PLACES)) _ e in
       omega (arith, s .low, ltb-true (r .resumed) (r .oldest + PLACES) l)
 
-  pub skipping-on : n < k → canSkip r ≡ true → Skipping k r₀ (skipped r) (n + 1)
-  skipping-on l e =
-      record {
+  -- A turn, in which x is written.
+  pub skipping-on : (x : PlaceSlot) → x ≡ withPlace Place.Done (readSeat (r .places) (r .resumed))
+      → n < k → canSkip r ≡ true
+      → Skipping k r₀
+      (record {
+        resumed = r .resumed + 1;
+        oldest = r .oldest;
+        places = writeSeat (r .places) (r .resumed) x;
+      }) (n + 1)
+  skipping-on x d l e =
+      subst
+      (λ (y : PlaceSlot).
+      Skipping k r₀
+      (record {
+        resumed = r .resumed + 1;
+        oldest = r .oldest;
+        places = writeSeat (r .places) (r .resumed) y;
+      }) (n + 1))
+      (sym d)
+      (record {
         low = s .low;
         turns = on skip canSkip skipped skip-none skip-yes skip-no k r₀ r n (s .turns) l e;
-      }
+      })
 
   pub skipping-stop : canSkip r ≡ false → r ≡ skip k r₀
   skipping-stop = stop skip canSkip skipped skip-none skip-yes skip-no k r₀ r n (s .turns)
@@ -119,13 +139,28 @@ retiring k r =
     }
 
 module _ (k : ℕ) (r₀ r : Ring) (n : ℕ) (s : Retiring k r₀ r n) where
-  pub retiring-on : n < k → canRetire r ≡ true → Retiring k r₀ (retired r) (n + 1)
-  retiring-on l e =
-      record {
+  pub retiring-on : (x : PlaceSlot) → x ≡ emptySeat → n < k → canRetire r ≡ true
+      → Retiring k r₀
+      (record {
+        resumed = r .resumed;
+        oldest = r .oldest + 1;
+        places = writeSeat (r .places) (r .oldest) x;
+      }) (n + 1)
+  retiring-on x d l e =
+      subst
+      (λ (y : PlaceSlot).
+      Retiring k r₀
+      (record {
+        resumed = r .resumed;
+        oldest = r .oldest + 1;
+        places = writeSeat (r .places) (r .oldest) y;
+      }) (n + 1))
+      (sym d)
+      (record {
         low = omega (arith, s .low);
         turns =
             on retire canRetire retired retire-none retire-yes retire-no k r₀ r n (s .turns) l e;
-      }
+      })
 
   pub retiring-stop : canRetire r ≡ false → r ≡ retire k r₀
   retiring-stop = stop retire canRetire retired retire-none retire-yes retire-no k r₀ r n (s .turns)
