@@ -1,5 +1,4 @@
 -- Laws of the definitions, by which the functions' proofs know them.
 pub mod Bools
 pub mod Ranges
-pub mod Variants
-pub mod Parts
+pub mod Clauses

@@ -1,2 +1,2 @@
--- The clauses of "a record that fits" over the few values that each looks at.
-pub mod Parts
+-- What the check goes through.
+pub mod Window

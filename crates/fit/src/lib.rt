@@ -1,73 +1,67 @@
 // Does a record fit? The check of every clause, for any value of the type.
 
+use hub::opening::Opening;
 use hub::opening::up_to_32;
-use hub::phases::is_free;
 use hub::phases::ticket;
+use hub::record::Figures;
 use hub::record::Hub;
 use hub::record::Phase;
 use hub::record::Place;
 ghost use mathlib.Core.Path.{_≡_};
+ghost use mathlib.Core.Bool.{_&&_};
 ghost use Prim.Native.Nat.{_≤_, _<_};
-ghost use Rattle.hub.specs.Fits.{counterFits, countsFit, inWindow, ticketFits, standsAt};
-ghost use Rattle.hub.specs.Phases.{ticketOf};
-ghost use Rattle.fit.specs.Parts.{scalars, windowed, listedAt, partyTest, ticketAt};
+ghost use Rattle.hub.specs.Fits.{counterFits, figuresFit, inWindow, ticketFits, placeListed};
+ghost use Rattle.hub.specs.Fits.{standsAt};
+ghost use Rattle.fit.specs.Window.{ticketAt};
 
 // −32 to 32.
-fn counter_fits(counter: i32) -> bool
-    ensures { λ r. ⌜ r ≡ counterFits counter ⌝ }
+fn counter_fits(figures: Figures) -> bool
+    ensures { λ r. ⌜ r ≡ counterFits (figures .counter) ⌝ }
 {
-    if counter < -32 {
+    if figures.counter < -32 {
         return false;
     }
-    counter <= 32
+    figures.counter <= 32
 }
 
-// The counts, clause by clause.
-fn counts_fit(
-    permits: u8,
-    parties: u8,
-    counter: i32,
-    issued: u32,
-    resumed: u32,
-    begun: u32,
-    oldest: u32,
-) -> bool
-    ensures { λ r. ⌜ r ≡ countsFit (scalars permits parties counter issued resumed begun oldest) ⌝ }
+// K and n, the figures and the oldest ticket that has a place, clause by clause.
+fn figures_fit(opening: Opening, figures: Figures, oldest: u32) -> bool
+    ensures { λ r. ⌜ r ≡ figuresFit opening figures oldest ⌝ }
 {
-    if !up_to_32(permits) {
+    if !up_to_32(opening.permits) {
         return false;
     }
-    if !up_to_32(parties) {
+    if !up_to_32(opening.parties) {
         return false;
     }
-    if !counter_fits(counter) {
+    if !counter_fits(figures) {
         return false;
     }
-    if Hub::MAX_BEGUN < begun {
+    if Hub::MAX_BEGUN < figures.begun {
         return false;
     }
-    if Hub::MAX_BEGUN < issued {
+    if Hub::MAX_BEGUN < figures.issued {
         return false;
     }
-    if Hub::MAX_BEGUN < resumed {
+    if Hub::MAX_BEGUN < figures.resumed {
         return false;
     }
-    if issued < oldest {
+    if figures.issued < oldest {
         return false;
     }
-    if resumed < oldest {
+    if figures.resumed < oldest {
         return false;
     }
-    if oldest + Hub::PLACES < issued {
+    if oldest + Hub::PLACES < figures.issued {
         return false;
     }
-    resumed <= oldest + Hub::PLACES
+    figures.resumed <= oldest + Hub::PLACES
 }
 
 // Has t a place, and is it below end?
 fn in_window(oldest: u32, end: u32, t: u32) -> bool
     requires { ⌜ oldest ≤ 1000000 ⌝ }
-    ensures { λ r. ⌜ r ≡ inWindow (windowed 0 0 oldest) end t ⌝ }
+    ensures { λ r. ⌜ r ≡ inWindow oldest end t ⌝ }
 {
     if t < oldest {
         return false;
@@ -78,27 +72,27 @@ fn in_window(oldest: u32, end: u32, t: u32) -> bool
     t < end
 }
 
-// Is the ticket t of this phase one that fits? Drawing a ticket needs room.
-fn ticket_fits(phase: Phase, t: u32, issued: u32, resumed: u32, oldest: u32) -> bool
-    requires { ⌜ (t ≡ ticketOf phase) × (oldest ≤ 1000000) ⌝ }
-    ensures { λ r. ⌜ r ≡ ticketFits (windowed issued resumed oldest) phase ⌝ }
+// Is the ticket of this phase one that fits? Drawing a ticket needs room.
+fn ticket_fits(phase: Phase, figures: Figures, oldest: u32) -> bool
+    requires { ⌜ oldest ≤ 1000000 ⌝ }
+    ensures { λ r. ⌜ r ≡ ticketFits figures oldest phase ⌝ }
 {
     match phase {
         Phase::Waiting(_)
         | Phase::Ticketed(_)
         | Phase::Aborting(_)
         | Phase::Cancelling(_)
-        | Phase::Refusing(_) => in_window(oldest, issued, t),
-        Phase::ResumingAt(_) => in_window(oldest, resumed, t),
-        Phase::Suspending => issued < oldest + Hub::PLACES,
-        Phase::Resuming => resumed < oldest + Hub::PLACES,
+        | Phase::Refusing(_) => in_window(oldest, figures.issued, ticket(phase)),
+        Phase::ResumingAt(_) => in_window(oldest, figures.resumed, ticket(phase)),
+        Phase::Suspending => figures.issued < oldest + Hub::PLACES,
+        Phase::Resuming => figures.resumed < oldest + Hub::PLACES,
         _ => true,
     }
 }
 
 // Does the step table list the place that a party of this phase is about to act on?
 fn listed(phase: Phase, place: Place) -> bool
-    ensures { λ r. ⌜ r ≡ listedAt phase place ⌝ }
+    ensures { λ r. ⌜ r ≡ placeListed phase place ⌝ }
 {
     match phase {
         Phase::Ticketed(_) => match place {
@@ -117,13 +111,12 @@ fn listed(phase: Phase, place: Place) -> bool
     }
 }
 
-// The clauses of one of the n parties, over its phase, its ticket t and what lies at the place of
-// that ticket.
-fn party_fits(phase: Phase, t: u32, place: Place, issued: u32, resumed: u32, oldest: u32) -> bool
-    requires { ⌜ (t ≡ ticketOf phase) × (oldest ≤ 1000000) ⌝ }
-    ensures { λ r. ⌜ r ≡ partyTest phase place (windowed issued resumed oldest) ⌝ }
+// The clauses of one of the n parties, over its phase and what lies at the place of its ticket.
+fn party_fits(phase: Phase, place: Place, figures: Figures, oldest: u32) -> bool
+    requires { ⌜ oldest ≤ 1000000 ⌝ }
+    ensures { λ r. ⌜ r ≡ ticketFits figures oldest phase && placeListed phase place ⌝ }
 {
-    if !ticket_fits(phase, t, issued, resumed, oldest) {
+    if !ticket_fits(phase, figures, oldest) {
         return false;
     }
     listed(phase, place)
@@ -134,10 +127,9 @@ fn stands_at(phase: Phase, t: u32) -> bool
     ensures { λ r. ⌜ r ≡ standsAt phase t ⌝ }
 {
     match phase {
-        Phase::Waiting(u) => u == t,
-        Phase::Aborting(u) => u == t,
-        Phase::Cancelling(u) => u == t,
-        Phase::Refusing(u) => u == t,
+        Phase::Waiting(_) | Phase::Aborting(_) | Phase::Cancelling(_) | Phase::Refusing(_) => {
+            ticket(phase) == t
+        }
         _ => false,
     }
 }
@@ -147,12 +139,7 @@ fn ticket_at(oldest: u32, i: usize) -> u32
     requires { ⌜ (oldest ≤ 1000000) × (i < 256) ⌝ }
     ensures { λ r. ⌜ r ≡ ticketAt oldest i ⌝ }
 {
-    let first = oldest % Hub::PLACES;
-    let k = i as u32;
-    if k < first {
-        return oldest - first + k + Hub::PLACES;
-    }
-    oldest - first + k
+    oldest + (i as u32 + Hub::PLACES - oldest % Hub::PLACES) % Hub::PLACES
 }
 
 // Does the record fit? Little is done where there is little to test: a free party, a party from n
@@ -160,34 +147,25 @@ fn ticket_at(oldest: u32, i: usize) -> u32
 pub fn fits(hub: Hub) -> bool
     ensures { λ r. ⌜ r ≡ Rattle.hub.specs.Fits.fits hub ⌝ }
 {
-    if !counts_fit(
-        hub.permits,
-        hub.parties,
-        hub.counter,
-        hub.issued,
-        hub.resumed,
-        hub.begun,
-        hub.oldest,
-    ) {
+    let opening = hub.opening;
+    let figures = hub.figures;
+    let oldest = hub.oldest;
+    if !figures_fit(opening, figures, oldest) {
         return false;
     }
-    let issued = hub.issued;
-    let resumed = hub.resumed;
-    let oldest = hub.oldest;
-    let n = hub.parties as usize;
+    let n = opening.parties as usize;
     let mut p: usize = 0;
     while p < n {
         let slot = hub.slots[p];
         let phase = slot.phase;
-        if is_free(phase) {
+        if let Phase::Free = phase {
             p += 1;
             continue;
         }
-        let t = ticket(phase);
-        let i = (t % Hub::PLACES) as usize;
+        let i = (ticket(phase) % Hub::PLACES) as usize;
         let seat = hub.places[i];
         let place = seat.place;
-        if !party_fits(phase, t, place, issued, resumed, oldest) {
+        if !party_fits(phase, place, figures, oldest) {
             return false;
         }
         p += 1;
@@ -196,8 +174,9 @@ pub fn fits(hub: Hub) -> bool
     while p < 32 {
         let slot = hub.slots[p];
         let phase = slot.phase;
-        if !is_free(phase) {
-            free = false;
+        match phase {
+            Phase::Free => {}
+            _ => free = false,
         }
         p += 1;
     }

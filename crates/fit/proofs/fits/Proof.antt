@@ -3,368 +3,330 @@ use Prim.Native.Nat.{ℕ, _+_, _-_, _*_, _≤_}
 use borrow.Author.Needs.{needs}
 use borrow.Author.Tests.{not-true, not-false}
 use mathlib.Core.Path.{_≡_, refl, sym, ap, subst, _∙_}
-use mathlib.Core.Bool.{Bool, true, and-false, _&&_}
+use mathlib.Core.Bool.{Bool, true}
 use mathlib.Core.Logic.{⊎-elim}
 use native.Mathlib.Omega.{arith}
 use lib.ListN.{length}
-use mir.Facts.{toZ-ofZ}
-use mir.Syntax.{w32}
-use mir.Val.{SFits}
 use Rattle.hub.specs.declared.record.Hub.{Hub}
 use Rattle.hub.specs.Basics.{allFrom}
-use Rattle.hub.specs.Fits.{countsFit, fits, partyFits, placeFits, standsAt}
-use Rattle.hub.specs.Record.{readPhase, readPlace}
-use Rattle.fit.specs.Parts.{ticketAt}
+use Rattle.hub.specs.Fits.{figuresFit, partyFits, placeFits, standsAt}
+use Rattle.hub.specs.Record.{readSlot}
+use Rattle.hub.specs.Ring.{readSeat}
+use Rattle.fit.specs.Window.{ticketAt}
 use Rattle.fit.proofs.Laws.Bools.{failed, passed}
-use Rattle.fit.proofs.Laws.Parts.{oldest-small, parties-few, party-test, free-fits, past-parties}
-use Rattle.fit.proofs.Laws.Parts.{waited-at, not-waited-at, past-slots, mapped-size}
-use Rattle.fit.proofs.Laws.Ranges.{all-pass, one-fails, one-passes, by-index}
-use Rattle.fit.proofs.Laws.Ranges.{note-fails, note-passes, noted, none-noted}
+use Rattle.fit.proofs.Laws.Ranges.{Left, one-fails, one-passes, none-left, by-index}
+use Rattle.fit.proofs.Laws.Clauses.{oldest-small, parties-few, mapped-size}
+use Rattle.fit.proofs.Laws.Clauses.{party-test, free-fits, past-parties}
+use Rattle.fit.proofs.Laws.Clauses.{waited, not-waited, past-slots}
+use Rattle.fit.proofs.Laws.Clauses.{figures-fail, parties-fail, places-fail, none-fails}
 use Rattle.fit.proofs.fits.Statement.{statement}
 use Rattle.fit.proofs.fits.Tie as tie
 
--- From party p on, what is left to test says the same as all 32.
-abbrev Parties : Hub → ℕ → Type 0
-Parties h p = allFrom (partyFits h) p (32 - p) ≡ allFrom (partyFits h) 0 32
+-- The parties below p are tested, and x is what is noted of them; so are the places below index i.
+abbrev Parties : Hub → Bool → ℕ → Type 0
+Parties h = Left (partyFits h) 32 (allFrom (partyFits h) 0 32)
 
--- From index i on, what is left to test says the same as all 256 places.
-abbrev Left : Hub → ℕ → Type 0
-Left h i =
-    allFrom (λ n. placeFits h (ticketAt (h .oldest) n)) i (256 - i)
-    ≡ allFrom (placeFits h) (h .oldest) 256
+abbrev Places : Hub → ℕ → Type 0
+Places h =
+    Left (λ i. placeFits h (ticketAt (h .oldest) i)) 256
+    (allFrom (placeFits h) (h .oldest) 256) true
 
-moved : (h : Hub) {i j : ℕ} → Left h i → i ≡ j → Left h j
-moved h l e = subst (Left h) e l
+moved : (h : Hub) {i j : ℕ} → Places h i → i ≡ j → Places h j
+moved h l e = subst (Places h) e l
 
 abbrev Inv-loop : tie.InvT-loop
-Inv-loop hub issued resumed oldest n p₀ p = Parties hub p
+Inv-loop hub figures oldest n p₀ p = Parties hub true p
 
 abbrev μ-loop : tie.MeasureT-loop
-μ-loop hub issued resumed oldest n p₀ p = n - p
+μ-loop hub figures oldest n p₀ p = n - p
 
 abbrev Inv-loop2 : tie.InvT-loop2
-Inv-loop2 hub issued resumed oldest n p₀ free₀ p free =
-    (n ≤ p) × (free && allFrom (partyFits hub) p (32 - p) ≡ allFrom (partyFits hub) 0 32)
+Inv-loop2 hub oldest n p₀ free₀ p free = (n ≤ p) × Parties hub free p
 
 abbrev μ-loop2 : tie.MeasureT-loop2
-μ-loop2 hub issued resumed oldest n p₀ free₀ p free = 32 - p
+μ-loop2 hub oldest n p₀ free₀ p free = 32 - p
 
 abbrev Inv-loop4 : tie.InvT-loop4
-Inv-loop4 hub issued resumed oldest n p free j k₀ k = (k ≤ 8) × Left hub (8 * j + k)
+Inv-loop4 hub oldest n p free j k₀ k = (k ≤ 8) × Places hub (8 * j + k)
 
 abbrev μ-loop4 : tie.MeasureT-loop4
-μ-loop4 hub issued resumed oldest n p free j k₀ k = 8 - k
+μ-loop4 hub oldest n p free j k₀ k = 8 - k
 
 abbrev Inv-loop3 : tie.InvT-loop3
-Inv-loop3 hub issued resumed oldest n p free j₀ j = Left hub (8 * j)
+Inv-loop3 hub oldest n p free j₀ j = Places hub (8 * j)
 
 abbrev μ-loop3 : tie.MeasureT-loop3
-μ-loop3 hub issued resumed oldest n p free j₀ j = 32 - j
+μ-loop3 hub oldest n p free j₀ j = 32 - j
 
-counted : (c : tie.After-counts-fit Inv-loop μ-loop Inv-loop2 μ-loop2 Inv-loop4 μ-loop4 Inv-loop3 μ-loop3)
-    → c .counts-fit .result ≡ countsFit (c .before .before .args .t1)
-unfolding countsFit
-counted c =
-    let f : SFits w32 (c .before .before .args .t1 .counter) = search needs in
-    rw (toZ-ofZ f) at (c .counts-fit .ensures)
+-- A state or a need of the function, with these invariants and measures.
+abbrev At :
+    (tie.InvT-loop → tie.MeasureT-loop → tie.InvT-loop2 → tie.MeasureT-loop2 → tie.InvT-loop4
+    → tie.MeasureT-loop4 → tie.InvT-loop3 → tie.MeasureT-loop3 → Type 0)
+    → Type 0
+At f = f Inv-loop μ-loop Inv-loop2 μ-loop2 Inv-loop4 μ-loop4 Inv-loop3 μ-loop3
 
-counts : (c : tie.Else1 Inv-loop μ-loop Inv-loop2 μ-loop2 Inv-loop4 μ-loop4 Inv-loop3 μ-loop3)
-    → countsFit (c .before .before .before .args .t1) ≡ true
-counts c = passed (counted (c .before)) (c .if1 .left)
+-- From the third loop back to the first; the start, and the record.
+abbrev loop : At tie.At-loop3 → At tie.At-loop
+loop c = c .before .before .before .before .before
 
--- The record, in each of the loops.
-abbrev hub : tie.At-loop Inv-loop μ-loop Inv-loop2 μ-loop2 Inv-loop4 μ-loop4 Inv-loop3 μ-loop3 → Hub
-hub c = c .before .before .before .before .args .t1
+abbrev start : At tie.At-loop → At tie.Start
+start c = c .before .before .before .before .before .before
 
-abbrev hub2 : tie.At-loop2 Inv-loop μ-loop Inv-loop2 μ-loop2 Inv-loop4 μ-loop4 Inv-loop3 μ-loop3 → Hub
-hub2 c = hub (c .before .before)
+abbrev hub : At tie.At-loop → Hub
+hub c = start c .args .t1
 
-abbrev hub3 : tie.At-loop3 Inv-loop μ-loop Inv-loop2 μ-loop2 Inv-loop4 μ-loop4 Inv-loop3 μ-loop3 → Hub
-hub3 c = hub2 (c .before .before .before)
+-- The record and the index in the inner loop.
+abbrev hub4 : At tie.At-loop4 → Hub
+hub4 c = hub (loop (c .before .before))
+
+abbrev index : At tie.At-loop4 → ℕ
+index c = 8 * c .before .before .loop3 .j + c .loop4 .k
+
+figures : (c : At tie.At-loop) → figuresFit (hub c .opening) (hub c .figures) (hub c .oldest) ≡ true
+figures c = passed (c .before .before .before .figures-fit .ensures) (c .before .before .if1 .left)
 
 -- No party below n is past the slots, and no sum with the oldest ticket past 32 bits.
-few : (c : tie.At-loop Inv-loop μ-loop Inv-loop2 μ-loop2 Inv-loop4 μ-loop4 Inv-loop3 μ-loop3)
-    → hub c .parties ≤ 32
-few c = parties-few _ (counts (c .before))
+few : (c : At tie.At-loop) → hub c .opening .parties ≤ 32
+few c = parties-few _ _ _ (figures c)
 
-oldest : (c : tie.At-loop Inv-loop μ-loop Inv-loop2 μ-loop2 Inv-loop4 μ-loop4 Inv-loop3 μ-loop3)
-    → hub c .oldest ≤ 1000000
-oldest c = oldest-small _ (counts (c .before))
+oldest : (c : At tie.At-loop) → hub c .oldest ≤ 1000000
+oldest c = oldest-small _ _ _ (figures c)
 
--- The party's test is the definition's.
-told : (c : tie.After-party-fits Inv-loop μ-loop Inv-loop2 μ-loop2 Inv-loop4 μ-loop4 Inv-loop3 μ-loop3)
-    → c .party-fits .result
-    ≡ partyFits (hub (c .before .before .before .before .before .before .before))
-    (c .before .before .before .before .before .before .before .loop .p)
-unfolding readPhase readPlace
-told c =
-    let l = c .before .before .before .before .before .before in
-    c .party-fits .ensures
-    ∙ party-test (hub (l .before)) _ _ (l .loop-test .taken) (c .before .before .ticket .ensures)
-
--- The turn of the inner loop; the place's test is the definition's.
-abbrev turn :
-    tie.After-stands-at Inv-loop μ-loop Inv-loop2 μ-loop2 Inv-loop4 μ-loop4 Inv-loop3 μ-loop3
-    → tie.At-loop4 Inv-loop μ-loop Inv-loop2 μ-loop2 Inv-loop4 μ-loop4 Inv-loop3 μ-loop3
-turn c = c .before .before .before .before .before .before .before .before .before
-
-stood : (c : tie.After-stands-at Inv-loop μ-loop Inv-loop2 μ-loop2 Inv-loop4 μ-loop4 Inv-loop3 μ-loop3)
-    → c .stands-at .result
-    ≡ placeFits (hub3 (turn c .before .before))
-    (ticketAt (hub3 (turn c .before .before) .oldest) (8 * turn c .before .before .loop3 .j + turn c .loop4 .k))
-unfolding readPhase
-stood c =
-    let l = turn c .before .before in
-    c .stands-at .ensures
-    ∙ ap (standsAt _) (c .before .ticket-at .ensures)
-    ∙ waited-at (hub3 l) (8 * l .loop3 .j + turn c .loop4 .k) _ (omega arith)
-    (c .before .before .before .before .before .place .given .1)
-
-size : (c : tie.Start Inv-loop μ-loop Inv-loop2 μ-loop2 Inv-loop4 μ-loop4 Inv-loop3 μ-loop3)
-    → length (c .args .t1 .slots) ≡ 32
+size : (c : At tie.Start) → length (c .args .t1 .slots) ≡ 32
 size c = search mapped-size
 
-counts-fit-requires : tie.Need-counts-fit-requires Inv-loop μ-loop Inv-loop2 μ-loop2 Inv-loop4 μ-loop4 Inv-loop3 μ-loop3
-counts-fit-requires c κs = search needs
+-- The party's test is the definition's.
+told : (c : At tie.After-party-fits)
+    → c .party-fits .result
+    ≡ partyFits (hub (c .before .before .before .before .before .before))
+    (c .before .before .before .before .before .before .loop .p)
+unfolding readSlot readSeat
+told c =
+    let l = c .before .before .before .before .before in
+    party-test (hub (l .before)) _ _ (l .loop-test .taken) (c .before .before .ticket .ensures)
+    (c .party-fits .ensures)
 
-returns : tie.Need-returns Inv-loop μ-loop Inv-loop2 μ-loop2 Inv-loop4 μ-loop4 Inv-loop3 μ-loop3
-unfolding fits
-returns c = simp (failed (counted (c .before)) (c .if1 .taken))
+-- The turn of the inner loop; the place's test is the definition's.
+abbrev turn : At tie.After-stands-at → At tie.At-loop4
+turn c = c .before .before .before .before .before .before .before .before .before
 
-cast-n : tie.Need-cast-n Inv-loop μ-loop Inv-loop2 μ-loop2 Inv-loop4 μ-loop4 Inv-loop3 μ-loop3
+stood : (c : At tie.After-stands-at)
+    → c .stands-at .result
+    ≡ placeFits (hub4 (turn c)) (ticketAt (hub4 (turn c) .oldest) (index (turn c)))
+unfolding readSlot
+stood c =
+    c .stands-at .ensures
+    ∙ ap (standsAt _) (c .before .ticket-at .ensures)
+    ∙ waited (hub4 (turn c)) (index (turn c)) (omega arith) _
+    (c .before .before .before .before .before .place .given .1)
+
+figures-fit-requires : At tie.Need-figures-fit-requires
+figures-fit-requires c κs = search needs
+
+returns : At tie.Need-returns
+returns c = figures-fail _ (failed (c .before .figures-fit .ensures) (c .if1 .taken))
+
+cast-n : At tie.Need-cast-n
 cast-n c = search needs
 
-loop-holds : tie.Need-loop-holds Inv-loop μ-loop Inv-loop2 μ-loop2 Inv-loop4 μ-loop4 Inv-loop3 μ-loop3
+loop-holds : At tie.Need-loop-holds
 loop-holds c = refl
 
-mul-slot : tie.Need-mul-slot Inv-loop μ-loop Inv-loop2 μ-loop2 Inv-loop4 μ-loop4 Inv-loop3 μ-loop3
+mul-slot : At tie.Need-mul-slot
 mul-slot c = search needs
 
-element-copy-out-slot :
-    tie.Need-element-copy-out-slot Inv-loop μ-loop Inv-loop2 μ-loop2 Inv-loop4 μ-loop4 Inv-loop3 μ-loop3
+element-copy-out-slot : At tie.Need-element-copy-out-slot
 element-copy-out-slot c = omega (arith, few (c .before), c .loop-test .taken)
 
-is-free-requires : tie.Need-is-free-requires Inv-loop μ-loop Inv-loop2 μ-loop2 Inv-loop4 μ-loop4 Inv-loop3 μ-loop3
-is-free-requires c κs = search needs
+enum-told : At tie.Need-enum-told
+enum-told c = search needs
 
-add-p : tie.Need-add-p Inv-loop μ-loop Inv-loop2 μ-loop2 Inv-loop4 μ-loop4 Inv-loop3 μ-loop3
+add-p : At tie.Need-add-p
 add-p c = search needs
 
-loop-less : tie.Need-loop-less Inv-loop μ-loop Inv-loop2 μ-loop2 Inv-loop4 μ-loop4 Inv-loop3 μ-loop3
+loop-less : At tie.Need-loop-less
 loop-less c = search needs
 
-loop-again : tie.Need-loop-again Inv-loop μ-loop Inv-loop2 μ-loop2 Inv-loop4 μ-loop4 Inv-loop3 μ-loop3
-unfolding readPhase
+loop-again : At tie.Need-loop-again
+unfolding readSlot
 loop-again c =
     let l = c .before .before .before .before in
-    one-passes _ _ _ _ (l .loop .inv) _ _ (omega (arith, few l)) (omega (arith, few l))
-    (free-fits _ _ (sym (c .before .is-free .ensures) ∙ c .if2 .taken))
+    one-passes _ 32 _ true _ (l .loop .inv) _ (omega arith) (omega (arith, few l))
+    (free-fits _ _ (c .enum-told .given .1))
 
-ticket-requires : tie.Need-ticket-requires Inv-loop μ-loop Inv-loop2 μ-loop2 Inv-loop4 μ-loop4 Inv-loop3 μ-loop3
+ticket-requires : At tie.Need-ticket-requires
 ticket-requires c κs = search needs
 
-cast-i : tie.Need-cast-i Inv-loop μ-loop Inv-loop2 μ-loop2 Inv-loop4 μ-loop4 Inv-loop3 μ-loop3
+cast-i : At tie.Need-cast-i
 cast-i c = search needs
 
-mul-seat : tie.Need-mul-seat Inv-loop μ-loop Inv-loop2 μ-loop2 Inv-loop4 μ-loop4 Inv-loop3 μ-loop3
+mul-seat : At tie.Need-mul-seat
 mul-seat c = search needs
 
-element-copy-out-seat :
-    tie.Need-element-copy-out-seat Inv-loop μ-loop Inv-loop2 μ-loop2 Inv-loop4 μ-loop4 Inv-loop3 μ-loop3
+element-copy-out-seat : At tie.Need-element-copy-out-seat
 element-copy-out-seat c = search needs
 
-party-fits-requires : tie.Need-party-fits-requires Inv-loop μ-loop Inv-loop2 μ-loop2 Inv-loop4 μ-loop4 Inv-loop3 μ-loop3
-party-fits-requires c κs =
-    (c .before .ticket .ensures, oldest (c .before .before .before .before .before .before))
+party-fits-requires : At tie.Need-party-fits-requires
+party-fits-requires c κs = oldest (c .before .before .before .before .before)
 
-returns-2 : tie.Need-returns-2 Inv-loop μ-loop Inv-loop2 μ-loop2 Inv-loop4 μ-loop4 Inv-loop3 μ-loop3
-unfolding fits
+returns-2 : At tie.Need-returns-2
 returns-2 c =
-    let l = c .before .before .before .before .before .before .before .before in
-    simp (
-      sym (one-fails _ _ _ _ (l .loop .inv) (omega (arith, few l)) (failed (told (c .before)) (c .if3 .taken))),
-      and-false,
-    )
+    let l = c .before .before .before .before .before .before .before in
+    parties-fail _
+    (one-fails _ 32 _ true _ (l .loop .inv) (omega (arith, few l))
+    (failed (told (c .before)) (c .if2 .taken)))
 
-add-p-2 : tie.Need-add-p-2 Inv-loop μ-loop Inv-loop2 μ-loop2 Inv-loop4 μ-loop4 Inv-loop3 μ-loop3
+add-p-2 : At tie.Need-add-p-2
 add-p-2 c = search needs
 
-loop-less-2 : tie.Need-loop-less-2 Inv-loop μ-loop Inv-loop2 μ-loop2 Inv-loop4 μ-loop4 Inv-loop3 μ-loop3
+loop-less-2 : At tie.Need-loop-less-2
 loop-less-2 c = search needs
 
-loop-again-2 : tie.Need-loop-again-2 Inv-loop μ-loop Inv-loop2 μ-loop2 Inv-loop4 μ-loop4 Inv-loop3 μ-loop3
+loop-again-2 : At tie.Need-loop-again-2
 loop-again-2 c =
-    let l = c .before .before .before .before .before .before .before .before in
-    one-passes _ _ _ _ (l .loop .inv) _ _ (omega (arith, few l)) (omega (arith, few l))
-    (passed (told (c .before)) (c .if3 .left))
+    let l = c .before .before .before .before .before .before .before in
+    one-passes _ 32 _ true _ (l .loop .inv) _ (omega arith) (omega (arith, few l))
+    (passed (told (c .before)) (c .if2 .left))
 
-loop2-holds : tie.Need-loop2-holds Inv-loop μ-loop Inv-loop2 μ-loop2 Inv-loop4 μ-loop4 Inv-loop3 μ-loop3
+loop2-holds : At tie.Need-loop2-holds
 loop2-holds c = (omega (arith, c .loop-test .left), c .before .loop .inv)
 
-mul-slot-2 : tie.Need-mul-slot-2 Inv-loop μ-loop Inv-loop2 μ-loop2 Inv-loop4 μ-loop4 Inv-loop3 μ-loop3
+mul-slot-2 : At tie.Need-mul-slot-2
 mul-slot-2 c = search needs
 
-element-copy-out-slot-2 :
-    tie.Need-element-copy-out-slot-2 Inv-loop μ-loop Inv-loop2 μ-loop2 Inv-loop4 μ-loop4 Inv-loop3 μ-loop3
+element-copy-out-slot-2 : At tie.Need-element-copy-out-slot-2
 element-copy-out-slot-2 c = search needs
 
-is-free-requires-2 : tie.Need-is-free-requires-2 Inv-loop μ-loop Inv-loop2 μ-loop2 Inv-loop4 μ-loop4 Inv-loop3 μ-loop3
-is-free-requires-2 c κs = search needs
+enum-told-2 : At tie.Need-enum-told-2
+enum-told-2 c = search needs
 
-add-p-3 : tie.Need-add-p-3 Inv-loop μ-loop Inv-loop2 μ-loop2 Inv-loop4 μ-loop4 Inv-loop3 μ-loop3
+add-p-3 : At tie.Need-add-p-3
 add-p-3 c = search needs
 
-loop2-less : tie.Need-loop2-less Inv-loop μ-loop Inv-loop2 μ-loop2 Inv-loop4 μ-loop4 Inv-loop3 μ-loop3
+loop2-less : At tie.Need-loop2-less
 loop2-less c = search needs
 
-loop2-again : tie.Need-loop2-again Inv-loop μ-loop Inv-loop2 μ-loop2 Inv-loop4 μ-loop4 Inv-loop3 μ-loop3
-unfolding readPhase
+loop2-again : At tie.Need-loop2-again
+unfolding readSlot
 loop2-again c =
-    let l = c .before .before .before .before in
-    let f = partyFits (hub2 l) in
-    let p = l .loop2 .p in
+    let l = c .before .before .before in
+    let x = l .loop2 .free in
     let i = l .loop2 .inv in (
       omega (arith, i .0),
       ⊎-elim
-          (λ w. note-fails f p (32 - p) (l .loop2 .free) (allFrom f 0 32) (i .1) (c .if4 .free) _ (omega arith)
-          (past-parties _ _ (i .0) (failed (c .before .is-free2 .ensures) (w .0 .taken))) (w .1))
-          (λ w. note-passes f p (32 - p) (l .loop2 .free) (allFrom f 0 32) (i .1) (c .if4 .free) _ _
-          (omega arith) (omega arith)
-          (free-fits _ _ (passed (c .before .is-free2 .ensures) (w .0 .left))) (w .1))
-          (c .if4 .came),
+          (λ w. rw (w .2)
+          (one-passes _ 32 _ x _ (i .1) _ (omega arith) (omega arith)
+          (free-fits _ _ (w .1 .given .1))))
+          (λ w. rw (w .1)
+          (one-fails _ 32 _ x _ (i .1) (omega arith) (past-parties _ _ (i .0) (w .0 .keys2))))
+          (c .match2 .came),
     )
 
-returns-3 : tie.Need-returns-3 Inv-loop μ-loop Inv-loop2 μ-loop2 Inv-loop4 μ-loop4 Inv-loop3 μ-loop3
-unfolding fits
+returns-3 : At tie.Need-returns-3
 returns-3 c =
     let q = c .before .before in
-    let f = partyFits (hub2 q) in
-    let p = q .loop2 .p in
-    simp (
-      sym (noted f p (32 - p) (q .loop2 .free) (allFrom f 0 32) (q .loop2 .inv .1) (not-true _ (c .if5 .taken))),
-      and-false,
-    )
+    parties-fail _
+    (sym (not-true _ (c .if3 .taken))
+    ∙ none-left _ 32 _ (q .loop2 .free) _ (q .loop2 .inv .1) (omega arith))
 
-loop3-holds : tie.Need-loop3-holds Inv-loop μ-loop Inv-loop2 μ-loop2 Inv-loop4 μ-loop4 Inv-loop3 μ-loop3
-loop3-holds c = by-index (placeFits (hub2 (c .before .before))) _
+loop3-holds : At tie.Need-loop3-holds
+loop3-holds c = by-index (placeFits (hub (c .before .before .before .before))) _
 
-loop4-holds : tie.Need-loop4-holds Inv-loop μ-loop Inv-loop2 μ-loop2 Inv-loop4 μ-loop4 Inv-loop3 μ-loop3
+loop4-holds : At tie.Need-loop4-holds
 loop4-holds c =
-    let l = c .before in
-    (omega arith, moved (hub3 l) (l .loop3 .inv) (omega arith))
+    (omega arith, moved (hub (loop (c .before))) (c .before .loop3 .inv) (omega arith))
 
-mul-i : tie.Need-mul-i Inv-loop μ-loop Inv-loop2 μ-loop2 Inv-loop4 μ-loop4 Inv-loop3 μ-loop3
+mul-i : At tie.Need-mul-i
 mul-i c = search needs
 
-add-i : tie.Need-add-i Inv-loop μ-loop Inv-loop2 μ-loop2 Inv-loop4 μ-loop4 Inv-loop3 μ-loop3
+add-i : At tie.Need-add-i
 add-i c = search needs
 
-mul-seat-2 : tie.Need-mul-seat-2 Inv-loop μ-loop Inv-loop2 μ-loop2 Inv-loop4 μ-loop4 Inv-loop3 μ-loop3
+mul-seat-2 : At tie.Need-mul-seat-2
 mul-seat-2 c = search needs
 
-element-copy-out-seat-2 :
-    tie.Need-element-copy-out-seat-2 Inv-loop μ-loop Inv-loop2 μ-loop2 Inv-loop4 μ-loop4 Inv-loop3 μ-loop3
+element-copy-out-seat-2 : At tie.Need-element-copy-out-seat-2
 element-copy-out-seat-2 c = search needs
 
-enum-known-place : tie.Need-enum-known-place Inv-loop μ-loop Inv-loop2 μ-loop2 Inv-loop4 μ-loop4 Inv-loop3 μ-loop3
+enum-known-place : At tie.Need-enum-known-place
 enum-known-place c = search needs
 
-add-k : tie.Need-add-k Inv-loop μ-loop Inv-loop2 μ-loop2 Inv-loop4 μ-loop4 Inv-loop3 μ-loop3
+add-k : At tie.Need-add-k
 add-k c = search needs
 
-loop4-less : tie.Need-loop4-less Inv-loop μ-loop Inv-loop2 μ-loop2 Inv-loop4 μ-loop4 Inv-loop3 μ-loop3
+loop4-less : At tie.Need-loop4-less
 loop4-less c = search needs
 
-loop4-again : tie.Need-loop4-again Inv-loop μ-loop Inv-loop2 μ-loop2 Inv-loop4 μ-loop4 Inv-loop3 μ-loop3
+loop4-again : At tie.Need-loop4-again
 loop4-again c =
-    let k = c .before .before .before in
-    let l = k .before .before in (
+    let k = c .before .before .before in (
       omega arith,
-      one-passes _ _ _ _ (k .loop4 .inv .1) _ _ (omega arith) (omega arith)
-          (not-waited-at (hub3 l) (8 * l .loop3 .j + k .loop4 .k) (omega arith) (c .match .keys2)),
+      one-passes _ 256 _ true _ (k .loop4 .inv .1) _ (omega arith) (omega arith)
+          (not-waited (hub4 k) (index k) (omega arith) (c .match3 .keys2)),
     )
 
-returns-4 : tie.Need-returns-4 Inv-loop μ-loop Inv-loop2 μ-loop2 Inv-loop4 μ-loop4 Inv-loop3 μ-loop3
-unfolding fits
+returns-4 : At tie.Need-returns-4
 returns-4 c =
     let k = c .before .before .before .before .before .before in
-    let l = k .before .before in
-    simp (
-      sym (one-fails _ _ _ _ (k .loop4 .inv .1) (omega arith)
-          (sym (waited-at (hub3 l) (8 * l .loop3 .j + k .loop4 .k) _ (omega arith)
-          (c .before .before .place .given .1))
-          ∙ past-slots _ _ _
-          (size (l .before .before .before .before .before .before .before .before .before)) (c .if6 .taken))),
-      and-false,
-    )
+    places-fail _
+    (one-fails _ 256 _ true _ (k .loop4 .inv .1) (omega arith)
+    (sym (waited (hub4 k) (index k) (omega arith) _ (c .before .before .place .given .1))
+    ∙ past-slots _ _ _ (size (start (loop (k .before .before)))) (c .if4 .taken)))
 
-cast-slot : tie.Need-cast-slot Inv-loop μ-loop Inv-loop2 μ-loop2 Inv-loop4 μ-loop4 Inv-loop3 μ-loop3
+cast-slot : At tie.Need-cast-slot
 cast-slot c = search needs
 
-mul-slot-3 : tie.Need-mul-slot-3 Inv-loop μ-loop Inv-loop2 μ-loop2 Inv-loop4 μ-loop4 Inv-loop3 μ-loop3
+mul-slot-3 : At tie.Need-mul-slot-3
 mul-slot-3 c = search needs
 
-element-copy-out-slot-3 :
-    tie.Need-element-copy-out-slot-3 Inv-loop μ-loop Inv-loop2 μ-loop2 Inv-loop4 μ-loop4 Inv-loop3 μ-loop3
+element-copy-out-slot-3 : At tie.Need-element-copy-out-slot-3
 element-copy-out-slot-3 c = search needs
 
-ticket-at-requires : tie.Need-ticket-at-requires Inv-loop μ-loop Inv-loop2 μ-loop2 Inv-loop4 μ-loop4 Inv-loop3 μ-loop3
+ticket-at-requires : At tie.Need-ticket-at-requires
 ticket-at-requires c κs =
     let k = c .before .before .before .before .before .before .before in
-    (oldest (k .before .before .before .before .before .before .before), omega arith)
+    (oldest (loop (k .before .before)), omega arith)
 
-stands-at-requires : tie.Need-stands-at-requires Inv-loop μ-loop Inv-loop2 μ-loop2 Inv-loop4 μ-loop4 Inv-loop3 μ-loop3
+stands-at-requires : At tie.Need-stands-at-requires
 stands-at-requires c κs = search needs
 
-returns-5 : tie.Need-returns-5 Inv-loop μ-loop Inv-loop2 μ-loop2 Inv-loop4 μ-loop4 Inv-loop3 μ-loop3
-unfolding fits
+returns-5 : At tie.Need-returns-5
 returns-5 c =
-    let k = turn (c .before) in
-    simp (
-      sym (one-fails _ _ _ _ (k .loop4 .inv .1) (omega arith)
-          (failed (stood (c .before)) (c .if7 .taken))),
-      and-false,
-    )
+    places-fail _
+    (one-fails _ 256 _ true _ (turn (c .before) .loop4 .inv .1) (omega arith)
+    (failed (stood (c .before)) (c .if5 .taken)))
 
-add-k-2 : tie.Need-add-k-2 Inv-loop μ-loop Inv-loop2 μ-loop2 Inv-loop4 μ-loop4 Inv-loop3 μ-loop3
+add-k-2 : At tie.Need-add-k-2
 add-k-2 c = search needs
 
-loop4-less-2 : tie.Need-loop4-less-2 Inv-loop μ-loop Inv-loop2 μ-loop2 Inv-loop4 μ-loop4 Inv-loop3 μ-loop3
+loop4-less-2 : At tie.Need-loop4-less-2
 loop4-less-2 c = search needs
 
-loop4-again-2 : tie.Need-loop4-again-2 Inv-loop μ-loop Inv-loop2 μ-loop2 Inv-loop4 μ-loop4 Inv-loop3 μ-loop3
-loop4-again-2 c =
-    let k = turn (c .before) in (
-      omega arith,
-      one-passes _ _ _ _ (k .loop4 .inv .1) _ _ (omega arith) (omega arith)
-          (passed (stood (c .before)) (c .if7 .left)),
-    )
+loop4-again-2 : At tie.Need-loop4-again-2
+loop4-again-2 c = (
+  omega arith,
+  one-passes _ 256 _ true _ (turn (c .before) .loop4 .inv .1) _ (omega arith) (omega arith)
+      (passed (stood (c .before)) (c .if5 .left)),
+)
 
-add-j : tie.Need-add-j Inv-loop μ-loop Inv-loop2 μ-loop2 Inv-loop4 μ-loop4 Inv-loop3 μ-loop3
+add-j : At tie.Need-add-j
 add-j c = search needs
 
-loop3-less : tie.Need-loop3-less Inv-loop μ-loop Inv-loop2 μ-loop2 Inv-loop4 μ-loop4 Inv-loop3 μ-loop3
+loop3-less : At tie.Need-loop3-less
 loop3-less c = search needs
 
-loop3-again : tie.Need-loop3-again Inv-loop μ-loop Inv-loop2 μ-loop2 Inv-loop4 μ-loop4 Inv-loop3 μ-loop3
+loop3-again : At tie.Need-loop3-again
 loop3-again c =
-    let k = c .before in
-    moved (hub3 (k .before .before)) (k .loop4 .inv .1) (omega (arith, k .loop4 .inv .0))
+    moved (hub4 (c .before)) (c .before .loop4 .inv .1) (omega (arith, c .before .loop4 .inv .0))
 
-returns-6 : tie.Need-returns-6 Inv-loop μ-loop Inv-loop2 μ-loop2 Inv-loop4 μ-loop4 Inv-loop3 μ-loop3
-unfolding fits
+returns-6 : At tie.Need-returns-6
 returns-6 c =
     let l = c .before in
-    let e = l .before in
-    let q = e .before .before in
-    let f = partyFits (hub2 q) in
-    let p = q .loop2 .p in
-    simp (
-      counts (q .before .before .before),
-      sym (none-noted f p (32 - p) (q .loop2 .free) (allFrom f 0 32) (q .loop2 .inv .1)
-          (not-false _ (e .if5 .left)) (omega arith)),
-      sym (all-pass _ _ _ _ (l .loop3 .inv) (omega arith)),
-    )
+    let q = l .before .before .before in
+    none-fails _ (figures (loop l))
+    (sym (not-false _ (l .before .if3 .left))
+    ∙ none-left _ 32 _ (q .loop2 .free) _ (q .loop2 .inv .1) (omega arith))
+    (none-left _ 256 _ true _ (l .loop3 .inv) (omega arith))
 
 pub fits-spec : {M : Type 1} → statement M
 fits-spec =
@@ -378,13 +340,13 @@ fits-spec =
     μ-loop4
     Inv-loop3
     μ-loop3
-    counts-fit-requires
+    figures-fit-requires
     returns
     cast-n
     loop-holds
     mul-slot
     element-copy-out-slot
-    is-free-requires
+    enum-told
     add-p
     loop-less
     loop-again
@@ -400,7 +362,7 @@ fits-spec =
     loop2-holds
     mul-slot-2
     element-copy-out-slot-2
-    is-free-requires-2
+    enum-told-2
     add-p-3
     loop2-less
     loop2-again

@@ -1,29 +1,37 @@
--- `listed` meets its contract: each of its arms says what the rows of the step table say.
+-- `listed` meets its contract: an arm says what the definition says of its phases at its places.
 use Prim.Native.Nat.{ℕ}
 use borrow.Author.Needs.{needs}
-use mathlib.Core.Path.{_≡_}
-use mathlib.Core.Bool.{Bool, true}
-use mathlib.Core.List.{List, [], _∷_}
+use mathlib.Core.Path.{_≡_, refl, sym}
+use mathlib.Core.Bool.{Bool}
+use mathlib.Core.List.{List, [], _∷_, map}
+use lib.ListN.{getD, length, replicate}
 use types.Run.{OneOf}
 use denote.Enum.Declared.{tagOf}
 use Rattle.hub.specs.declared.record.Phase.{Phase}
 use Rattle.hub.specs.declared.record.Place.{Place}
-use Rattle.hub.specs.Table.{step}
+use Rattle.hub.specs.Basics.{allOf}
+use Rattle.hub.specs.Fits.{placeListed}
+use Rattle.hub.specs.Phases.{isOneOf, isPlaceOf, ticketOf}
 use Rattle.hub.proofs.record.Phase as phase
 use Rattle.hub.proofs.record.Place as place
-use Rattle.fit.specs.Parts.{listedAt}
-use Rattle.fit.proofs.Laws.Variants.{Each, phaseBy, of-phase, placeBy, of-place}
+use Rattle.hub.proofs.Laws.Phases.{phase-arm, place-arm, phasesWith, placesWith, waiterOf}
 use Rattle.fit.proofs.listed.Statement.{statement}
 use Rattle.fit.proofs.listed.Tie as tie
 
--- The table says b of each of some phases at each of some places.
-rows : (b : Bool) (ks js : List ℕ) (f : Phase) (a : Place) → OneOf ks (tagOf phase.the-type f)
-    → OneOf js (tagOf place.the-type a)
-    → ((t q : ℕ) → Each (λ k. Each (λ j. b ≡ listedAt (phaseBy k t) (placeBy j q)) js) ks)
-    → b ≡ listedAt f a
-rows b ks js f a x y h =
-    of-place (λ e. b ≡ listedAt f e) js a y
-    (λ q. of-phase (λ g. Each (λ j. b ≡ listedAt g (placeBy j q)) js) ks f x (λ t. h t q))
+-- What the definition says of some phases at a place.
+abbrev column : List ℕ → ℕ → Place → List Bool
+column ks t a = map (λ k. placeListed (getD (phasesWith t) k Phase.Free) a) ks
+
+-- It says b of each of some phases at each of some places.
+rows : (c : tie.Start) (ks js : List ℕ) {b : Bool}
+    → let f = c .args .phase in let a = c .args .place in
+    map (λ j. column ks (ticketOf f) (getD (placesWith (waiterOf a)) j Place.Empty)) js
+    ≡ replicate (length js) (replicate (length ks) b)
+    → OneOf ks (tagOf phase.the-type f) → OneOf js (tagOf place.the-type a) → b ≡ placeListed f a
+rows c ks js e x y =
+    let f = c .args .phase in
+    let a = c .args .place in
+    phase-arm ks (λ g. placeListed g a) f (sym (place-arm js (column ks (ticketOf f)) a e y)) x
 
 enum-told : tie.Need-enum-told
 enum-told c = search needs
@@ -32,53 +40,46 @@ enum-told-2 : tie.Need-enum-told-2
 enum-told-2 c = search needs
 
 returns : tie.Need-returns
-unfolding listedAt step
+unfolding placeListed allOf isOneOf isPlaceOf
 returns c =
-    let s = c .before .before .before .args in
-    rows _ (5 ∷ []) (0 ∷ 2 ∷ []) (s .phase) (s .place) (c .before .before .match .keys1)
-    (c .match2 .keys1) (λ t q. search depth 13)
+    rows (c .before .before .before) (5 ∷ []) (0 ∷ 2 ∷ []) refl (c .before .before .match .keys1)
+    (c .match2 .keys1)
 
 returns-2 : tie.Need-returns-2
-unfolding listedAt step
+unfolding placeListed allOf isOneOf isPlaceOf
 returns-2 c =
-    let s = c .before .before .before .args in
-    rows _ (5 ∷ []) (1 ∷ 3 ∷ 4 ∷ 5 ∷ []) (s .phase) (s .place)
-    (c .before .before .match .keys1) (c .match2 .keys2) (λ t q. search depth 13)
+    rows (c .before .before .before) (5 ∷ []) (1 ∷ 3 ∷ 4 ∷ 5 ∷ []) refl
+    (c .before .before .match .keys1) (c .match2 .keys2)
 
 returns-3 : tie.Need-returns-3
-unfolding listedAt step
+unfolding placeListed allOf isOneOf isPlaceOf
 returns-3 c =
-    let s = c .before .before .args in
-    rows _ (7 ∷ 8 ∷ []) (1 ∷ 2 ∷ []) (s .phase) (s .place) (c .before .match .keys2)
-    (c .match3 .keys1) (λ t q. search depth 13)
+    rows (c .before .before) (7 ∷ 8 ∷ []) (1 ∷ 2 ∷ []) refl (c .before .match .keys2)
+    (c .match3 .keys1)
 
 returns-4 : tie.Need-returns-4
-unfolding listedAt step
+unfolding placeListed allOf isOneOf isPlaceOf
 returns-4 c =
-    let s = c .before .before .args in
-    rows _ (7 ∷ 8 ∷ []) (0 ∷ 3 ∷ 4 ∷ 5 ∷ []) (s .phase) (s .place) (c .before .match .keys2)
-    (c .match3 .keys2) (λ t q. search depth 13)
+    rows (c .before .before) (7 ∷ 8 ∷ []) (0 ∷ 3 ∷ 4 ∷ 5 ∷ []) refl
+    (c .before .match .keys2) (c .match3 .keys2)
 
 returns-5 : tie.Need-returns-5
-unfolding listedAt step
+unfolding placeListed allOf isOneOf isPlaceOf
 returns-5 c =
-    let s = c .before .before .before .args in
-    rows _ (11 ∷ []) (2 ∷ 5 ∷ []) (s .phase) (s .place) (c .before .before .match .keys3)
-    (c .match4 .keys1) (λ t q. search depth 13)
+    rows (c .before .before .before) (11 ∷ []) (2 ∷ 5 ∷ []) refl (c .before .before .match .keys3)
+    (c .match4 .keys1)
 
 returns-6 : tie.Need-returns-6
-unfolding listedAt step
+unfolding placeListed allOf isOneOf isPlaceOf
 returns-6 c =
-    let s = c .before .before .before .args in
-    rows _ (11 ∷ []) (0 ∷ 1 ∷ 3 ∷ 4 ∷ []) (s .phase) (s .place)
-    (c .before .before .match .keys3) (c .match4 .keys2) (λ t q. search depth 13)
+    rows (c .before .before .before) (11 ∷ []) (0 ∷ 1 ∷ 3 ∷ 4 ∷ []) refl
+    (c .before .before .match .keys3) (c .match4 .keys2)
 
 returns-7 : tie.Need-returns-7
-unfolding listedAt step
+unfolding placeListed allOf isOneOf
 returns-7 c =
-    let s = c .before .args in
-    of-phase (λ f. true ≡ listedAt f (s .place)) (0 ∷ 1 ∷ 2 ∷ 3 ∷ 4 ∷ 6 ∷ 9 ∷ 10 ∷ []) (s .phase)
-    (c .match .keys4) (λ t. search depth 13)
+    phase-arm (0 ∷ 1 ∷ 2 ∷ 3 ∷ 4 ∷ 6 ∷ 9 ∷ 10 ∷ []) (λ f. placeListed f (c .before .args .place))
+    (c .before .args .phase) refl (c .match .keys4)
 
 pub listed-spec : {M : Type 1} → statement M
 listed-spec =

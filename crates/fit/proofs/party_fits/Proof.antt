@@ -15,7 +15,8 @@ listed-requires c κs = search needs
 
 returns-2 : tie.Need-returns-2
 returns-2 c =
-    simp (passed (c .before .before .ticket-fits .ensures) (c .before .if1 .left)) (c .listed .ensures)
+    simp (passed (c .before .before .ticket-fits .ensures) (c .before .if1 .left))
+    (c .listed .ensures)
 
 pub party-fits-spec : {M : Type 1} → statement M
 party-fits-spec =

@@ -1,0 +1,148 @@
+-- What the definition says of a party, of a place and of the whole, from what the code has read.
+use Prim.Native.Nat.{ℕ, _≤_, _<_}
+use mathlib.Core.Path.{_≡_, refl, sym, ap, _∙_}
+use mathlib.Core.Bool.{Bool, true, false, and-false, or-true, _&&_, _||_}
+use mathlib.Core.List.{List, [], _∷_, map}
+use lib.Dec.{leb, ltb}
+use lib.ListN.{length, length-map, getD, List·getD-eq-default}
+use borrow.Author.Tests.{leb-true, lt-ltb, le-ltb}
+use native.Mathlib.Omega.{arith}
+use types.Run.{OneOf}
+use denote.Enum.Declared.{tagOf}
+use Rattle.hub.specs.declared.opening.Opening.{Opening}
+use Rattle.hub.specs.declared.record.Figures.{Figures}
+use Rattle.hub.specs.declared.record.Hub.{Hub}
+use Rattle.hub.specs.declared.record.Phase.{Phase}
+use Rattle.hub.specs.declared.record.Place.{Place}
+use Rattle.hub.specs.declared.record.PartySlot.{PartySlot}
+use Rattle.hub.specs.declared.record.PlaceSlot.{PlaceSlot}
+use Rattle.hub.specs.Basics.{allFrom, allOf}
+use Rattle.hub.specs.Fits.{figuresClauses, figuresFit, ticketFits, placeListed}
+use Rattle.hub.specs.Fits.{fits, partyFits, standsAt, placeFits}
+use Rattle.hub.specs.Look.{seenBy}
+use Rattle.hub.specs.Phases.{byTicket, byWaiter, isFree, isOneOf, ticketOf}
+use Rattle.hub.specs.Record.{PARTIES, MAX-BEGUN, emptySeat, freeSlot, readSlot}
+use Rattle.hub.specs.Ring.{PLACES, readPlace, readSeat}
+use Rattle.hub.proofs.record.Phase as phase
+use Rattle.hub.proofs.record.Place as place
+use Rattle.hub.proofs.Laws.Bools.{clause, second}
+use Rattle.hub.proofs.Laws.Phases.{phases-alike, phase-arm, place-arm, allBut}
+use Rattle.fit.specs.Window.{ticketAt}
+use Rattle.fit.proofs.Laws.Ranges.{index-of}
+
+-- Figures that fit.
+module _ (x : Opening) (f : Figures) (o : ℕ) (e : figuresFit x f o ≡ true) where
+  -- No sum of a ticket and 256 goes past 32 bits.
+  pub oldest-small : o ≤ MAX-BEGUN
+  unfolding figuresFit
+  oldest-small =
+      omega (
+        arith,
+        leb-true o (f .issued) (clause 6 (figuresClauses x f o) e),
+        leb-true (f .issued) MAX-BEGUN (clause 4 (figuresClauses x f o) e),
+      )
+
+  -- Every party below n has a slot.
+  pub parties-few : x .parties ≤ PARTIES
+  unfolding figuresFit
+  parties-few =
+      leb-true (x .parties) PARTIES
+      (second (leb 1 (x .parties)) _ (clause 1 (figuresClauses x f o) e))
+
+-- A phase without a ticket is listed at any place.
+listed-any : (g : ℕ → PlaceSlot) (f : Phase)
+    → placeListed f (g (ticketOf f) .place) ≡ placeListed f (byTicket emptySeat g f .place)
+unfolding placeListed allOf isOneOf
+listed-any g =
+    phases-alike (λ f. placeListed f (g (ticketOf f) .place))
+    (λ f. placeListed f (byTicket emptySeat g f .place)) (λ t. refl)
+
+-- A party's clauses, with the place at its ticket, whether or not it has one.
+abbrev clauses : Hub → ℕ → Phase → Bool
+clauses h p f =
+    (ltb p (h .opening .parties) || isFree f) && ticketFits (h .figures) (h .oldest) f
+    && placeListed f (readPlace (h .places) (ticketOf f))
+
+module _ (h : Hub) (p : ℕ) where
+  by-clauses : clauses h p (readSlot (h .slots) p .phase) ≡ partyFits h p
+  unfolding partyFits seenBy
+  by-clauses = rw (listed-any (readSeat (h .places)) (readSlot (h .slots) p .phase))
+
+  -- One of the n parties.
+  pub party-test : {r : Bool} (t : ℕ) → p < h .opening .parties
+      → t ≡ ticketOf (readSlot (h .slots) p .phase)
+      → r
+      ≡ ticketFits (h .figures) (h .oldest) (readSlot (h .slots) p .phase)
+      && placeListed (readSlot (h .slots) p .phase) (readPlace (h .places) t)
+      → r ≡ partyFits h p
+  party-test t l e i = i ∙ rw (e, sym by-clauses, lt-ltb p (h .opening .parties) l)
+
+  -- A free party fits, whatever else is there.
+  pub free-fits : readSlot (h .slots) p .phase ≡ Phase.Free → partyFits h p ≡ true
+  unfolding ticketFits placeListed allOf isOneOf
+  free-fits e = sym by-clauses ∙ rw (e, or-true)
+
+  -- From n up only a free one does.
+  pub past-parties : h .opening .parties ≤ p
+      → OneOf (allBut 0) (tagOf phase.the-type (readSlot (h .slots) p .phase))
+      → partyFits h p ≡ false
+  unfolding isOneOf
+  past-parties l o =
+      rw (
+        sym by-clauses,
+        le-ltb p (h .opening .parties) l,
+        sym (phase-arm (allBut 0) isFree (readSlot (h .slots) p .phase) refl o),
+      )
+
+-- What lies at index i, and the clause of its place, whose ticket is the window's at i.
+abbrev placeAt : Hub → ℕ → Place
+placeAt h i = getD (h .places) i emptySeat .place
+
+abbrev test : Hub → ℕ → Place → Bool
+test h i = byWaiter true (λ q. standsAt (readSlot (h .slots) q .phase) (ticketAt (h .oldest) i))
+
+module _ (h : Hub) (i : ℕ) (b : i < PLACES) where
+  at-index : test h i (placeAt h i) ≡ placeFits h (ticketAt (h .oldest) i)
+  unfolding placeFits readSeat
+  at-index = ap (λ (n : ℕ). test h i (placeAt h n)) (sym (index-of (h .oldest) i b))
+
+  pub waited : (q : ℕ) → placeAt h i ≡ Place.Waiting q
+      → standsAt (readSlot (h .slots) q .phase) (ticketAt (h .oldest) i)
+      ≡ placeFits h (ticketAt (h .oldest) i)
+  waited q e = ap (test h i) (sym e) ∙ at-index
+
+  pub not-waited : OneOf (0 ∷ 2 ∷ 3 ∷ 4 ∷ 5 ∷ []) (tagOf place.the-type (placeAt h i))
+      → placeFits h (ticketAt (h .oldest) i) ≡ true
+  not-waited o =
+      sym (place-arm (0 ∷ 2 ∷ 3 ∷ 4 ∷ 5 ∷ []) (test h i) (placeAt h i) refl o ∙ at-index)
+
+-- A party that the record has no slot for stands nowhere.
+pub past-slots : (l : List PartySlot) (q t : ℕ) → length l ≡ PARTIES → PARTIES ≤ q
+    → standsAt (readSlot l q .phase) t ≡ false
+unfolding readSlot isOneOf
+past-slots l q t s i = rw (List·getD-eq-default l freeSlot {n = q} (omega arith))
+
+-- The length of an array is told of its elements as they lie in memory.
+pub mapped-size : {A B : Type 0} (f : A → B) (l : List A) (n : ℕ) → length (map f l) ≡ n
+    → length l ≡ n
+mapped-size f l n e = sym (length-map l f) ∙ e
+
+-- The whole: the figures, the parties, the places.
+module _ (h : Hub) where
+  pub figures-fail : figuresFit (h .opening) (h .figures) (h .oldest) ≡ false → false ≡ fits h
+  unfolding fits
+  figures-fail e = rw e
+
+  pub parties-fail : false ≡ allFrom (partyFits h) 0 PARTIES → false ≡ fits h
+  unfolding fits
+  parties-fail e = rw (sym e, and-false)
+
+  pub places-fail : false ≡ allFrom (placeFits h) (h .oldest) PLACES → false ≡ fits h
+  unfolding fits
+  places-fail e = rw (sym e, and-false)
+
+  pub none-fails : figuresFit (h .opening) (h .figures) (h .oldest) ≡ true
+      → true ≡ allFrom (partyFits h) 0 PARTIES → true ≡ allFrom (placeFits h) (h .oldest) PLACES
+      → true ≡ fits h
+  unfolding fits
+  none-fails e p q = rw (e, sym p, sym q)
