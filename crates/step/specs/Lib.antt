@@ -1,2 +1,1 @@
--- What the functions of this crate speak of besides the definitions of the crate hub.
-pub mod Tidied
+-- The contracts of this crate cite the definitions of the crates hub and transition.

@@ -10,7 +10,7 @@ ghost use mathlib.Core.Path.{_≡_};
 ghost use Prim.Native.Nat.{_≤_};
 ghost use Rattle.hub.specs.Calls.{ringOf, withRing};
 ghost use Rattle.hub.specs.Ring.{skip, retire};
-ghost use Rattle.step.specs.Tidied.{tidiedBy};
+ghost use Rattle.transition.specs.Tidied.{tidiedBy};
 
 // Passes the cancelled places at the next ticket to resume, so many at most.
 fn skip_cancelled(mut hub: Hub, turns: u32) -> Hub

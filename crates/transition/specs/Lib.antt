@@ -1,1 +1,2 @@
--- The contracts of this crate cite the definitions of the crates hub and table.
+-- What the ways of calling speak of besides the definitions of the crates hub and table.
+pub mod Tidied

@@ -13,29 +13,29 @@ use Rattle.fit.proofs.ticket_fits.Tie as tie
 ticket-requires : tie.Need-ticket-requires
 ticket-requires c κs = search needs
 
-ticket-requires-2 : tie.Need-ticket-requires-2
-ticket-requires-2 c κs = search needs
-
 in-window-requires : tie.Need-in-window-requires
 in-window-requires c κs = search needs
-
-in-window-requires-2 : tie.Need-in-window-requires-2
-in-window-requires-2 c κs = search needs
-
-add-result : tie.Need-add-result
-add-result c = search needs
-
-add-result-2 : tie.Need-add-result-2
-add-result-2 c = search needs
 
 enum-told : tie.Need-enum-told
 enum-told c = search needs
 
+ticket-requires-2 : tie.Need-ticket-requires-2
+ticket-requires-2 c κs = search needs
+
+in-window-requires-2 : tie.Need-in-window-requires-2
+in-window-requires-2 c κs = search needs
+
 enum-told-2 : tie.Need-enum-told-2
 enum-told-2 c = search needs
 
+add-result : tie.Need-add-result
+add-result c = search needs
+
 enum-told-3 : tie.Need-enum-told-3
 enum-told-3 c = search needs
+
+add-result-2 : tie.Need-add-result-2
+add-result-2 c = search needs
 
 -- Of the definition's clauses one is left: the others are for other phases.
 returns : tie.Need-returns

@@ -29,13 +29,14 @@ use Rattle.line.specs.Form.{formOf, inForm}
 use Rattle.line.specs.Program.{after, respond}
 use Rattle.table.specs.declared.effect.Effect.{Effect}
 use Rattle.table.specs.Effect.{effectOf}
+use Rattle.transition.specs.Tidied.{tidiedBy}
 use Rattle.transition.proofs.Laws.Called.{said, left}
 use Rattle.transition.proofs.Laws.Indexed.{reads, stores, tidies}
 use Rattle.transition.proofs.Laws.Loops.{Skipping, skipping, can-skip, in-window, skipping-on}
 use Rattle.transition.proofs.Laws.Loops.{skipping-stop, skipping-end}
 use Rattle.transition.proofs.Laws.Loops.{Retiring, retiring, retiring-on, retiring-stop, retiring-end}
-use Rattle.transition.proofs.Laws.Sight.{Reads, sightOf}
-use Rattle.transition.proofs.Laws.Stored.{nobody, still, few-turns, tidiedBy}
+use Rattle.transition.proofs.Laws.Sight.{Reads, of-kind, sightOf}
+use Rattle.transition.proofs.Laws.Stored.{nobody, still, few-turns}
 use Rattle.live.specs.Live.{Reachable, requestsIn, replied}
 use Rattle.live.proofs.Laws.Answered.{Admitted, is-admitted, refused-response, LetIn}
 use Rattle.live.proofs.Laws.Answered.{let-in, call-response}
@@ -220,17 +221,6 @@ full h = isFull (h .loop .oldest) (h .loop .figures .issued) (h .loop .slots)
 
 abbrev sight : Named → Sight
 sight c = sightOf (hub (head (entered c))) (party (head (entered c))) (seat c) (waiter c)
-
-abbrev of-kind : ℕ → Sight → Sight
-of-kind k s =
-    record {
-      party = s .party;
-      kind = k;
-      slot = s .slot;
-      seat = s .seat;
-      waiter = s .waiter;
-      figures = s .figures;
-    }
 
 effect-is : (c : Decided)
     → let h = head (entering c) in

@@ -28,8 +28,9 @@ use Rattle.hub.proofs.Laws.Bools.{clause, first, second}
 use Rattle.table.specs.declared.effect.Effect.{Effect}
 use Rattle.table.specs.Effect.{effectOf}
 use Rattle.table.specs.Small.{Small}
+use Rattle.transition.specs.Tidied.{tidiedBy}
 use Rattle.transition.proofs.Laws.Sight.{Reads, looked, sightOf}
-use Rattle.transition.proofs.Laws.Stored.{applied, stored, tidiedBy, told}
+use Rattle.transition.proofs.Laws.Stored.{applied, stored, told}
 
 abbrev pub asks : Op → ℕ → Call
 asks o p = record { op = o; party = p }
@@ -121,3 +122,11 @@ module _ (h : Hub) (p : ℕ) (seat : PlaceSlot) (q : ℕ) (waiter : PartySlot)
     left =
         ap (λ (e : Effect). tidiedBy (e .turns) (stored h p e)) effect
         ∙ applied h p (r .size) move
+
+    -- What the call answers and leaves, where the record fits and has the party.
+    pub outcome-is : fits h ≡ true → ltb p (h .opening .parties) ≡ true → (g : Hub)
+        → g ≡ tidiedBy (e .turns) (stored h p e)
+        → record { answer = e .answer; hub = g } ≡ called h (asks o p)
+    outcome-is f n g eg =
+        ap₂ (λ (a : Answer) (x : Hub). record { answer = a; hub = x }) said (eg ∙ left)
+        ∙ admitted h p o f n

@@ -13,11 +13,8 @@ use Rattle.hub.specs.Record.{emptySeat, withPlace}
 use Rattle.hub.specs.Ring.{PLACES, Ring, readPlace, readSeat, writeSeat, canSkip, skipped, skip}
 use Rattle.hub.specs.Ring.{canRetire, retired, retire}
 use Rattle.hub.proofs.Laws.Bools.{first}
+use Rattle.transition.specs.Tidied.{reclaimedBy}
 use Rattle.hub.proofs.Laws.Ring.{skip-yes, skip-no, retire-yes, retire-no}
-
--- Both loops, with k turns each at most.
-abbrev pub reclaimedBy : ℕ → Ring → Ring
-reclaimedBy k r = retire k (skip k r)
 
 pub reclaimed-none : (r : Ring) → reclaimedBy 0 r ≡ r
 unfolding skip retire
@@ -189,3 +186,14 @@ tidy k r = go _ refl _ refl
         ∙ ap (retire k) (off skip canSkip skipped skip-none skip-yes skip-no r k (other e))
     go false e true f z = absurd (true≢false z)
     go true e b f z = absurd (true≢false z)
+
+-- The first loop leaves the oldest ticket.
+pub skip-oldest : (n : ℕ) (r : Ring) → skip n r .oldest ≡ r .oldest
+unfolding skip
+skip-oldest zero r = refl
+skip-oldest (suc n) r = go (canSkip r) (skip-oldest n (skipped r))
+  where
+    go : (b : Bool) → skip n (skipped r) .oldest ≡ r .oldest
+        → cond b (skip n (skipped r)) r .oldest ≡ r .oldest
+    go true e = e
+    go false e = refl

@@ -61,6 +61,18 @@ sightOf h p seat waiter =
       figures = h .figures;
     }
 
+-- A sight with the kind that the code looked up.
+abbrev pub of-kind : ℕ → Sight → Sight
+of-kind k s =
+    record {
+      party = s .party;
+      kind = k;
+      slot = s .slot;
+      seat = s .seat;
+      waiter = s .waiter;
+      figures = s .figures;
+    }
+
 pub looked : (h : Hub) (p : ℕ) (seat : PlaceSlot) (q : ℕ) (waiter : PartySlot)
     → Reads h p seat q waiter → sightOf h p seat waiter ≡ look h p
 unfolding seenBy

@@ -21,7 +21,8 @@ use Rattle.hub.specs.Ring.{PLACES, readSeat, writeSeat}
 use Rattle.hub.proofs.Laws.Phases.{by-ticket, ticketed}
 use Rattle.table.specs.declared.effect.Effect.{Effect}
 use Rattle.table.specs.Effect.{effectOf}
-use Rattle.transition.proofs.Laws.Loops.{reclaimedBy, reclaimed-none}
+use Rattle.transition.specs.Tidied.{tidiedBy}
+use Rattle.transition.proofs.Laws.Loops.{reclaimed-none}
 
 -- Storing what was there changes nothing.
 same-seat : (l : List PlaceSlot) (t : ℕ) → writeSeat l t (readSeat l t) ≡ l
@@ -92,7 +93,7 @@ told (Act c) s = refl
 told (Put a c) s = refl
 told (Wake q x a c) s = refl
 
--- The record after the stores, and after the tidying with so many turns.
+-- The record after the stores.
 abbrev pub made : Hub → Figures → List PlaceSlot → List PartySlot → Hub
 made h f a l = record { opening = h .opening; figures = f; oldest = h .oldest; places = a; slots = l }
 
@@ -100,9 +101,6 @@ abbrev pub stored : Hub → ℕ → Effect → Hub
 stored h p e =
     made h (e .figures) (putBack (h .places) (readSlot (h .slots) p .phase) (e .seat))
     (writeSlot (writeSlot (h .slots) (e .woken) (e .waiter)) p (e .slot))
-
-abbrev pub tidiedBy : ℕ → Hub → Hub
-tidiedBy k h = withRing h (reclaimedBy k (ringOf h))
 
 tidied-all : (h : Hub) → tidiedBy PLACES h ≡ tidied h
 unfolding tidied
