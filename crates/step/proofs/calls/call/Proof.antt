@@ -232,7 +232,7 @@ element-set-from-woke : tie.Need-element-set-from-woke
 element-set-from-woke c = search needs
 
 mul-own : tie.Need-mul-own
-mul-own c = omega (arith, within-slots (tested (kinded (c .before))))
+mul-own c = omega (arith, within-slots (tested (kinded (c .before .before))))
 
 element-set-from-own : tie.Need-element-set-from-own
 element-set-from-own c = omega (arith, within-slots (tested (kinded (c .before .before))))
