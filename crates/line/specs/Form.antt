@@ -1,29 +1,24 @@
--- The two forms of answers: the program's are lines of text, those of a list of calls bytes. What
--- was asked has three bytes in the one, two in the other.
+-- The two forms in which a reply is written: the program's are lines of text, those of a list of
+-- calls bytes.
 use Prim.Native.Nat.{ℕ}
 use mathlib.Core.Bool.{Bool, true, false}
 use mathlib.Core.List.{List}
 use Rattle.line.specs.Hex.{textOf}
 
-abbrev pub Form : Type 0
-Form = Bool
+pub data Form : Type 0 where
+  asText : Form
+  asBytes : Form
 
-abbrev pub asText : Form
-asText = true
-
-abbrev pub asBytes : Form
-asBytes = false
-
--- A request is its code and two bytes; a call in bytes is its code and its party.
-abbrev pub requestSize : Form → ℕ
-requestSize true = 3
-requestSize false = 2
+-- The code says it by a bool, TEXT or BYTES.
+abbrev pub formOf : Bool → Form
+formOf true = asText
+formOf false = asBytes
 
 abbrev pub replySize : Form → ℕ
-replySize true = 15
-replySize false = 7
+replySize asText = 15
+replySize asBytes = 7
 
--- The seven bytes of an answer, as they are written.
+-- The seven bytes of a reply, as they are written.
 abbrev pub inForm : Form → List ℕ → List ℕ
-inForm true bytes = textOf bytes
-inForm false bytes = bytes
+inForm asText bytes = textOf bytes
+inForm asBytes bytes = bytes

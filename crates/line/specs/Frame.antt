@@ -19,6 +19,12 @@ opOf c =
     cond (eqb c 0x10) Op.Acquire
     (cond (eqb c 0x11) Op.Step (cond (eqb c 0x12) Op.Cancel Op.Release))
 
+abbrev pub codeOf : Op → ℕ
+codeOf Op.Acquire = 0x10
+codeOf Op.Step = 0x11
+codeOf Op.Cancel = 0x12
+codeOf Op.Release = 0x13
+
 -- What the code prints, on paper.
 abbrev pub paper : Print → Printed
 paper p = record { code = p .code; woken = p .woken; number = p .number }

@@ -1,21 +1,22 @@
 -- The schedule program: a line of output for each line of input, and the closing line.
 use Prim.Native.Nat.{ℕ}
-use mathlib.Core.Bool.{Bool, true, false, cond, _&&_}
+use mathlib.Core.Bool.{Bool, cond}
 use mathlib.Core.List.{List, [], _∷_, _++_, map}
 use lib.Dec.{eqb, leb}
-use Rattle.hub.specs.declared.moves.Call.{Call}
 use Rattle.hub.specs.declared.record.Hub.{Hub}
+use Rattle.hub.specs.declared.record.Outcome.{Outcome}
 use Rattle.hub.specs.Answers.{Printed, plain, printed}
-use Rattle.hub.specs.Basics.{count, upTo32}
+use Rattle.hub.specs.Basics.{count}
 use Rattle.hub.specs.Calls.{called}
 use Rattle.hub.specs.Opening.{fresh, opening}
 use Rattle.hub.specs.Phases.{holds, isWaiting}
 use Rattle.hub.specs.Record.{phasesOf}
-use Rattle.line.specs.declared.request.Request.{Request}
+use Rattle.hub.specs.Schedule.{Entry}
+use Rattle.line.specs.declared.request.Opening.{Opening}
 use Rattle.line.specs.Form.{Form, asText, inForm}
-use Rattle.line.specs.Frame.{isCall, opOf, frameOf, twosComplement}
+use Rattle.line.specs.Frame.{frameOf, twosComplement}
 use Rattle.line.specs.Hex.{textOf}
-use Rattle.line.specs.Requests.{requestOf}
+use Rattle.line.specs.Requests.{Request, malformed, toOpen, toCall, requestOf}
 
 -- Before an opening there is no record; one with no permits stands for that.
 abbrev pub unopened : Hub
@@ -24,51 +25,66 @@ unopened = fresh 0 0
 abbrev pub isOpen : Hub → Bool
 isOpen h = leb 1 (h .permits)
 
--- What a line is answered, and the record that it leaves.
-pub record Turn : Type 0 where
+-- What an opening answers, and the record that it makes.
+abbrev pub openingFor : Opening → Outcome
+openingFor o = opening (o .permits) (o .parties)
+
+-- What a line is answered.
+pub record Reply : Type 0 where
   pub party : ℕ  -- FF for openings and for 12
   pub answer : Printed
+
+-- What a bystander sees of a call, as it is replied.
+abbrev pub replyOf : Entry → Reply
+replyOf e = record { party = e .call .party; answer = e .answer }
+
+-- A reply, and the record that it leaves.
+pub record Response : Type 0 where
+  pub reply : Reply
   pub hub : Hub
 
--- A line that is refused, for party p.
-abbrev pub turnedDown : ℕ → ℕ → Hub → Turn
-turnedDown p c h = record { party = p; answer = plain c; hub = h }
+-- What an operation of party p came to.
+abbrev pub reported : ℕ → Outcome → Response
+reported p o = record { reply = record { party = p; answer = printed (o .answer) }; hub = o .hub }
 
--- An opening: 13 when open, then the opening's own. A refused one makes no record.
-unfoldable pub opens : Bool → Bool → Hub → ℕ → ℕ → Turn
-opens true b h k n = turnedDown 0xFF 13 h
-opens false true h k n =
-    record { party = 0xFF; answer = printed (opening k n .answer); hub = opening k n .hub }
-opens false false h k n = record { party = 0xFF; answer = printed (opening k n .answer); hub = h }
+-- A line that is refused by c, for party p.
+abbrev pub turnedDown : ℕ → ℕ → Hub → Response
+turnedDown p c h = record { reply = record { party = p; answer = plain c }; hub = h }
 
--- A call: 13 before an opening, then the call's own.
-unfoldable pub calls : Bool → Hub → Call → Turn
-calls false h c = turnedDown (c .party) 13 h
-calls true h c =
-    record { party = c .party; answer = printed (called h c .answer); hub = called h c .hub }
+-- On a hub that is open: 12, then 13, then the call's own.
+unfoldable pub whenOpen : Hub → Request → Response
+whenOpen h malformed = turnedDown 0xFF 12 h
+whenOpen h (toOpen o) = turnedDown 0xFF 13 h
+whenOpen h (toCall c) = reported (c .party) (called h c)
 
--- 12, then 13, then the operation's own.
-unfoldable pub turn : Hub → Request → Turn
-turn h r =
-    cond (isCall (r .code)) (calls (isOpen h) h (record { op = opOf (r .code); party = r .first }))
-    (cond (eqb (r .code) 1)
-    (opens (isOpen h) (upTo32 (r .first) && upTo32 (r .second)) h (r .first) (r .second))
-    (turnedDown 0xFF 12 h))
+-- Before an opening: 12, then 13, then the opening's own. A refused one makes no record.
+unfoldable pub beforeOpen : Request → Response
+beforeOpen malformed = turnedDown 0xFF 12 unopened
+beforeOpen (toCall c) = turnedDown (c .party) 13 unopened
+beforeOpen (toOpen o) = reported 0xFF (openingFor o)
 
--- The answers to requests from a record on, in a form.
-unfoldable pub repliesIn : Form → Hub → List Request → List ℕ
-repliesIn form h [] = []
-repliesIn form h (r ∷ rs) =
-    inForm form (frameOf (turn h r .party) (turn h r .answer)) ++ repliesIn form (turn h r .hub) rs
+unfoldable pub respond : Hub → Request → Response
+respond h r = cond (isOpen h) (whenOpen h r) (beforeOpen r)
 
--- The same as lines.
-abbrev pub replies : Hub → List Request → List ℕ
-replies = repliesIn asText
+-- The replies to requests from a record on, and the record that they leave.
+unfoldable pub replies : Hub → List Request → List Reply
+replies h [] = []
+replies h (r ∷ rs) = respond h r .reply ∷ replies (respond h r .hub) rs
 
--- The record that they leave.
 unfoldable pub after : Hub → List Request → Hub
 after h [] = h
-after h (r ∷ rs) = after (turn h r .hub) rs
+after h (r ∷ rs) = after (respond h r .hub) rs
+
+-- Replies as they are written, in a form.
+abbrev pub replyIn : Form → Reply → List ℕ
+replyIn form r = inForm form (frameOf (r .party) (r .answer))
+
+unfoldable pub rendered : Form → List Reply → List ℕ
+rendered form [] = []
+rendered form (r ∷ rs) = replyIn form r ++ rendered form rs
+
+abbrev pub repliesIn : Form → Hub → List Request → List ℕ
+repliesIn form h rs = rendered form (replies h rs)
 
 -- What follows the last end mark: a line left without its own counts, but nothing is no line.
 abbrev pub leftOver : List ℕ → List (List ℕ)
@@ -96,4 +112,4 @@ closing h =
 unfoldable pub outputOf : List ℕ → List ℕ
 outputOf input =
     let rs = map requestOf (linesOf input) in
-    replies unopened rs ++ closing (after unopened rs)
+    repliesIn asText unopened rs ++ closing (after unopened rs)

@@ -5,35 +5,58 @@ use mathlib.Core.Bool.{Bool, true, false, cond, not, _&&_, _||_}
 use mathlib.Core.List.{List, [], _∷_}
 use lib.Dec.{eqb, ltb}
 use lib.ListN.{length}
-use Rattle.line.specs.declared.request.Request.{Request}
-use Rattle.line.specs.Frame.{isCall}
+use Rattle.hub.specs.declared.moves.Call.{Call}
+use Rattle.line.specs.declared.request.Header.{Header}
+use Rattle.line.specs.declared.request.Opening.{Opening}
+use Rattle.line.specs.Frame.{isCall, opOf, codeOf}
 use Rattle.line.specs.Hex.{isDigit, spelled}
 
--- A request is a code and two bytes: 01 with K and n, or the code of a call with the party and 0.
--- Code 0 stands for a line that asks nothing.
-abbrev pub malformed : Request
-malformed = record { code = 0; first = 0; second = 0 }
+-- How many characters a line may have.
+abbrev pub LONGEST : ℕ
+LONGEST = 64
+
+-- What a line asks: nothing, which is refused by 12, an opening, or a call.
+pub data Request : Type 0 where
+  malformed : Request
+  toOpen : Opening → Request
+  toCall : Call → Request
 
 unfoldable pub allDigits : List ℕ → Bool
 allDigits [] = true
 allDigits (c ∷ l) = isDigit c && allDigits l
 
--- Over 64 characters, odd, or with a character that is no digit.
+-- Too many characters, odd, or with a character that is no digit.
 abbrev pub unreadable : List ℕ → Bool
-unreadable l = ltb 64 (length l) || eqb (length l % 2) 1 || not (allDigits l)
+unreadable l = ltb LONGEST (length l) || eqb (length l % 2) 1 || not (allDigits l)
 
 unfoldable pub bytesOf : List ℕ → List ℕ
 bytesOf [] = []
 bytesOf (a ∷ []) = []
 bytesOf (a ∷ b ∷ l) = spelled a b ∷ bytesOf l
 
--- A call is two bytes, an opening three; no code, another code or another length is malformed.
+-- An opening is its code, K, n, and nothing after them.
+unfoldable pub openingIn : ℕ → ℕ → ℕ → List ℕ → Request
+openingIn c k n [] = cond (eqb c 0x01) (toOpen (record { permits = k; parties = n })) malformed
+openingIn c k n (x ∷ l) = malformed
+
+-- A call is two bytes, and what is longer may be an opening; no code, another code or another
+-- length is malformed.
 unfoldable pub requested : List ℕ → Request
 requested [] = malformed
 requested (c ∷ []) = malformed
-requested (c ∷ p ∷ []) = cond (isCall c) (record { code = c; first = p; second = 0 }) malformed
-requested (c ∷ k ∷ n ∷ []) = cond (eqb c 1) (record { code = c; first = k; second = n }) malformed
-requested (c ∷ k ∷ n ∷ x ∷ l) = malformed
+requested (c ∷ p ∷ []) = cond (isCall c) (toCall (record { op = opOf c; party = p })) malformed
+requested (c ∷ k ∷ n ∷ l) = openingIn c k n l
 
 unfoldable pub requestOf : List ℕ → Request
 requestOf l = cond (unreadable l) malformed (requested (bytesOf l))
+
+-- A request in two bytes: a call whole; of an opening only that it is one.
+abbrev pub headerOf : Request → Header
+headerOf malformed = record { code = 0x00; party = 0xFF }
+headerOf (toOpen o) = record { code = 0x01; party = 0xFF }
+headerOf (toCall c) = record { code = codeOf (c .op); party = c .party }
+
+abbrev pub isOpening : Request → Bool
+isOpening malformed = false
+isOpening (toOpen o) = true
+isOpening (toCall c) = false

@@ -32,7 +32,7 @@ pub fn refusal_code(why: Refusal) -> u8
     }
 }
 
-fn plain(code: u8) -> Print
+pub fn plain(code: u8) -> Print
     ensures { λ r. ⌜ paper r ≡ plain code ⌝ }
 {
     Print {

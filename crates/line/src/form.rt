@@ -1,30 +1,21 @@
-// The two forms of answers: lines of text to requests of three bytes, or seven bytes to calls of two.
+// The two forms in which a reply is written: a line of text, or seven bytes.
 
 use crate::answer::Print;
 use crate::answer::put;
 use crate::text::put_line;
 ghost use mathlib.Core.Path.{_≡_};
 ghost use lib.ListN.{length};
-ghost use Rattle.line.specs.Form.{inForm, replySize, requestSize};
+ghost use Rattle.line.specs.Form.{formOf, inForm, replySize};
 ghost use Rattle.line.specs.Frame.{frameOf, paper};
 
 // A form is a bool and no enum: an enum is passed by its address, and then the compiler does not
 // see that a program uses one form only. A line cost a twelfth more.
-pub const TEXT: bool = true; // a request of three bytes, answered by a line
+pub const TEXT: bool = true;
 
-pub const BYTES: bool = false; // a call of two bytes, answered by seven
-
-pub fn request_size(form: bool) -> usize
-    ensures { λ r. ⌜ r ≡ requestSize form ⌝ }
-{
-    if form {
-        return 3;
-    }
-    2
-}
+pub const BYTES: bool = false;
 
 pub fn reply_size(form: bool) -> usize
-    ensures { λ r. ⌜ r ≡ replySize form ⌝ }
+    ensures { λ r. ⌜ r ≡ replySize (formOf form) ⌝ }
 {
     if form {
         return 15;
@@ -33,8 +24,8 @@ pub fn reply_size(form: bool) -> usize
 }
 
 pub fn put_reply(out: &mut [u8], form: bool, party: u8, p: Print)
-    requires { ⌜ length (now out) ≡ replySize form ⌝ }
-    ensures { λ r. ⌜ now (out .exit) ≡ inForm form (frameOf party (paper p)) ⌝ }
+    requires { ⌜ length (now out) ≡ replySize (formOf form) ⌝ }
+    ensures { λ r. ⌜ now (out .exit) ≡ inForm (formOf form) (frameOf party (paper p)) ⌝ }
 {
     if form {
         put_line(out, party, p);

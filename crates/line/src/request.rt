@@ -2,31 +2,42 @@
 
 use crate::hex::hex_byte;
 ghost use mathlib.Core.Path.{_≡_};
+ghost use mathlib.Core.Bool.{true};
 ghost use lib.ListN.{length};
-ghost use Rattle.line.specs.Requests.{malformed, requestOf};
+ghost use Rattle.line.specs.Requests.{headerOf, isOpening, malformed, requestOf, toOpen};
 
-// 01 with K and n, or the code of a call with the party and 0; code 0 for a line that asks
-// nothing.
-pub struct Request {
-    pub code: u8,
-    pub first: u8,
-    pub second: u8,
+// A line of more characters is malformed.
+pub const LONGEST: usize = 64;
+
+// What an opening asks for.
+pub struct Opening {
+    pub permits: u8, // links, K
+    pub parties: u8, // n
 }
 
-fn malformed() -> Request
-    ensures { λ r. ⌜ r ≡ malformed ⌝ }
+// A request in two bytes: the code of a call and its party, or one of these codes and FF.
+pub struct Header {
+    pub code: u8,
+    pub party: u8,
+}
+
+pub const MALFORMED: u8 = 0x00; // a line that asks nothing
+
+pub const OPENING: u8 = 0x01; // an opening, whatever it asks for
+
+fn malformed() -> Header
+    ensures { λ r. ⌜ r ≡ headerOf malformed ⌝ }
 {
-    Request {
-        code: 0,
-        first: 0,
-        second: 0,
+    Header {
+        code: MALFORMED,
+        party: 0xFF,
     }
 }
 
 // A line of four characters: a call, or malformed.
-fn call_in(line: &[u8]) -> Request
+fn call_in(line: &[u8]) -> Header
     requires { ⌜ length (now line) ≡ 4 ⌝ }
-    ensures { λ r. ⌜ r ≡ requestOf (now (line .entry)) ⌝ }
+    ensures { λ r. ⌜ r ≡ headerOf (requestOf (now (line .entry))) ⌝ }
 {
     let code = hex_byte(line);
     if code < 0x10 {
@@ -39,45 +50,54 @@ fn call_in(line: &[u8]) -> Request
     if 256 <= party {
         return malformed();
     }
-    Request {
+    Header {
         code: code as u8,
-        first: party as u8,
-        second: 0,
+        party: party as u8,
     }
 }
 
-// A line of six: an opening, or malformed.
-fn opening_in(line: &[u8]) -> Request
-    requires { ⌜ length (now line) ≡ 6 ⌝ }
-    ensures { λ r. ⌜ r ≡ requestOf (now (line .entry)) ⌝ }
+// A line of six characters may be an opening.
+fn is_opening(line: &[u8]) -> bool
+    ensures { λ r. ⌜ r ≡ isOpening (requestOf (now (line .entry))) ⌝ }
 {
+    if line.len() != 6 {
+        return false;
+    }
     if hex_byte(line) != 1 {
-        return malformed();
+        return false;
     }
-    let permits = hex_byte(&line[2..]);
-    if 256 <= permits {
-        return malformed();
+    if 256 <= hex_byte(&line[2..]) {
+        return false;
     }
-    let parties = hex_byte(&line[4..]);
-    if 256 <= parties {
-        return malformed();
+    if 256 <= hex_byte(&line[4..]) {
+        return false;
     }
-    Request {
-        code: 1,
-        first: permits as u8,
-        second: parties as u8,
+    true
+}
+
+// What a line that is an opening asks for.
+pub fn read_opening(line: &[u8]) -> Opening
+    requires { ⌜ isOpening (requestOf (now line)) ≡ true ⌝ }
+    ensures { λ r. ⌜ toOpen r ≡ requestOf (now (line .entry)) ⌝ }
+{
+    Opening {
+        permits: hex_byte(&line[2..]) as u8,
+        parties: hex_byte(&line[4..]) as u8,
     }
 }
 
-// Two bytes or three are all that a line can ask, so that a length tells which.
-pub fn read_line(line: &[u8]) -> Request
-    ensures { λ r. ⌜ r ≡ requestOf (now (line .entry)) ⌝ }
+// A line of four characters may be a call, and no other.
+pub fn read_header(line: &[u8]) -> Header
+    ensures { λ r. ⌜ r ≡ headerOf (requestOf (now (line .entry))) ⌝ }
 {
     if line.len() == 4 {
         return call_in(line);
     }
-    if line.len() == 6 {
-        return opening_in(line);
+    if !is_opening(line) {
+        return malformed();
     }
-    malformed()
+    Header {
+        code: OPENING,
+        party: 0xFF,
+    }
 }

@@ -1,8 +1,8 @@
 -- What the proofs of this crate share.
 pub mod Hubs
-pub mod Doors
-pub mod Reached
-pub mod Turns
+pub mod Admission
+pub mod Reachable
+pub mod Responses
 pub mod Stored
 pub mod Answered
 pub mod Looked

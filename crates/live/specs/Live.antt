@@ -1,43 +1,43 @@
--- Requests as bytes, and the records that an input can lead to.
-use Prim.Native.Nat.{ℕ, zero, suc, _-_, _*_}
+-- Requests as bytes, and the records that an open hub can be in.
+use Prim.Native.Nat.{ℕ, zero, suc, _*_}
 use mathlib.Core.Path.{_≡_}
+use mathlib.Core.Bool.{cond}
 use mathlib.Core.List.{List, [], _∷_, _++_}
-use mathlib.Core.Logic.{_⊎_}
+use lib.Dec.{eqb}
 use lib.ListN.{getD, drop}
 use Rattle.hub.specs.declared.answers.Answer.{Answer}
 use Rattle.hub.specs.declared.moves.Call.{Call}
 use Rattle.hub.specs.declared.record.Hub.{Hub}
-use Rattle.hub.specs.Opening.{opening}
 use Rattle.hub.specs.Schedule.{run}
-use Rattle.line.specs.declared.request.Request.{Request}
-use Rattle.line.specs.Form.{Form, requestSize, replySize}
-use Rattle.line.specs.Program.{unopened, repliesIn}
+use Rattle.line.specs.declared.request.Opening.{Opening}
+use Rattle.line.specs.Form.{Form, replySize}
+use Rattle.line.specs.Frame.{isCall, opOf}
+use Rattle.line.specs.Program.{openingFor, repliesIn}
+use Rattle.line.specs.Requests.{Request, malformed, toOpen, toCall}
 
--- The request that some bytes begin with: its code, its first byte and its last. In two bytes
--- these are one, the party of a call. An opening takes three; in two, which nobody sends, its n
--- would be its K.
-abbrev pub requestAt : Form → List ℕ → Request
-requestAt form l =
-    record { code = getD l 0 0; first = getD l 1 0; second = getD l (requestSize form - 1) 0 }
+-- An open hub refuses every opening alike, so that one stands for all.
+abbrev pub anyOpening : Opening
+anyOpening = record { permits = 0; parties = 0 }
 
--- The first n requests of some bytes.
-unfoldable pub requestsIn : Form → ℕ → List ℕ → List Request
-requestsIn form zero l = []
-requestsIn form (suc n) l = requestAt form l ∷ requestsIn form n (drop (requestSize form) l)
+-- The request that a code and a party make.
+abbrev pub requestFor : ℕ → ℕ → Request
+requestFor c p =
+    cond (isCall c) (toCall (record { op = opOf c; party = p }))
+    (cond (eqb c 0x01) (toOpen anyOpening) malformed)
+
+-- The first n requests of some bytes, two each.
+unfoldable pub requestsIn : ℕ → List ℕ → List Request
+requestsIn zero l = []
+requestsIn (suc n) l = requestFor (getD l 0 0) (getD l 1 0) ∷ requestsIn n (drop 2 l)
 
 -- The replies, in front of what the buffer holds past them.
 abbrev pub replied : Form → Hub → ℕ → List ℕ → List ℕ → List ℕ
 replied form h n requests out =
-    repliesIn form h (requestsIn form n requests) ++ drop (replySize form * n) out
+    repliesIn form h (requestsIn n requests) ++ drop (replySize form * n) out
 
--- What an accepted opening and a list of calls lead to.
-pub record Opened (h : Hub) : Type 0 where
-  pub permits : ℕ
-  pub parties : ℕ
+-- What an accepted opening and a list of calls lead to: such a record needs no check.
+pub record Reachable (h : Hub) : Type 0 where
+  pub opening : Opening
   pub calls : List Call
-  pub accepted : opening permits parties .answer ≡ Answer.Opened
-  pub same : h ≡ run (opening permits parties .hub) calls
-
--- Not opened yet, or reached from an opening: these records need no check.
-abbrev pub Reached : Hub → Type 0
-Reached h = (h ≡ unopened) ⊎ Opened h
+  pub accepted : openingFor opening .answer ≡ Answer.Opened
+  pub same : h ≡ run (openingFor opening .hub) calls

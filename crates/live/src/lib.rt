@@ -1,14 +1,14 @@
-// Requests answered one after the other, by lines of text or by bytes. The record's arrays and
-// figures are locals while they are, altered in place. A record that an input can lead to fits, and
-// that is proved: so there is no check of the whole record here.
+// Requests of an open hub answered one after the other, by lines of text or by bytes. The record's
+// arrays and figures are locals while they are, altered in place. A record that is reached from an
+// opening fits, and that is proved: so there is no check of the whole record here.
 
 mod figures; // a record but for its arrays
-mod door; // what is answered before the table is asked
+mod admission; // what is answered before the table is asked
 mod effect; // what the table decides
 mod tidy; // a test of the tidying
 
-use door::at_door;
-use effect::called;
+use admission::admit;
+use effect::call_effect;
 use figures::Figures;
 use hub::phases::ticket;
 use hub::record::Hub;
@@ -16,11 +16,10 @@ use hub::record::PartySlot;
 use hub::record::Phase;
 use hub::record::Place;
 use hub::record::PlaceSlot;
-use line::answer::Print;
+use line::answer::plain;
 use line::answer::print_of;
 use line::form::put_reply;
 use line::form::reply_size;
-use line::form::request_size;
 use step::room::is_full;
 use table::sight::by_ticket;
 use table::sight::is_done;
@@ -29,54 +28,46 @@ use tidy::can_skip;
 ghost use mathlib.Core.Path.{_≡_};
 ghost use Prim.Native.Nat.{_*_, _≤_};
 ghost use lib.ListN.{length};
-ghost use Rattle.line.specs.Form.{replySize, requestSize};
+ghost use Rattle.line.specs.Form.{formOf, replySize};
 ghost use Rattle.line.specs.Program.{after};
-ghost use Rattle.live.specs.Live.{Reached, replied, requestsIn};
+ghost use Rattle.live.specs.Live.{Reachable, replied, requestsIn};
 
-// Answers the first `count` requests, in the form that they are in.
-pub fn answer_requests(house: Hub, requests: &[u8], count: usize, form: bool, out: &mut [u8]) -> Hub
-    requires { ⌜ Reached house ⌝ }
-    requires { ⌜ requestSize form * count ≤ length (now requests) ⌝ }
-    requires { ⌜ replySize form * count ≤ length (now out) ⌝ }
-    ensures { λ r. ⌜ (r ≡ after house (requestsIn form count (now (requests .entry))))
-        × (now (out .exit) ≡ replied form house count (now (requests .entry)) (now (out .entry))) ⌝ }
+// Answers the first `count` requests, of two bytes each, in a form.
+pub fn answer_requests(hub: Hub, requests: &[u8], count: usize, form: bool, out: &mut [u8]) -> Hub
+    requires { ⌜ Reachable hub ⌝ }
+    requires { ⌜ 2 * count ≤ length (now requests) ⌝ }
+    requires { ⌜ replySize (formOf form) * count ≤ length (now out) ⌝ }
+    ensures { λ r. ⌜ (r ≡ after hub (requestsIn count (now (requests .entry))))
+        × (now (out .exit)
+        ≡ replied (formOf form) hub count (now (requests .entry)) (now (out .entry))) ⌝ }
 {
     let mut figures = Figures {
-        permits: house.permits,
-        parties: house.parties,
-        counter: house.counter,
-        issued: house.issued,
-        resumed: house.resumed,
-        begun: house.begun,
-        oldest: house.oldest,
+        permits: hub.permits,
+        parties: hub.parties,
+        counter: hub.counter,
+        issued: hub.issued,
+        resumed: hub.resumed,
+        begun: hub.begun,
+        oldest: hub.oldest,
     };
-    let mut places = house.places;
-    let mut slots = house.slots;
-    let size = request_size(form);
+    let mut places = hub.places;
+    let mut slots = hub.slots;
     let width = reply_size(form);
     let mut i: usize = 0;
     while i < count {
-        let from = size * i;
+        let from = 2 * i;
         let code = requests[from];
-        let first = requests[from + 1];
-        let second = requests[from + size - 1];
+        let party = requests[from + 1];
         let at = width * i;
         let end = at + width;
         i += 1;
-        let d = at_door(code, first, second, figures);
-        if !d.admitted {
-            let p = Print {
-                code: d.code,
-                woken: 0xFF,
-                number: 0xFFFFFFFF,
-            };
-            put_reply(&mut out[at..end], form, d.party, p);
-            let next = d.figures;
-            figures = next;
+        let a = admit(code, party, figures.parties);
+        if !a.admitted {
+            put_reply(&mut out[at..end], form, a.party, plain(a.code));
             continue;
         }
-        let party = first as usize;
-        let slot = slots[party];
+        let own = party as usize;
+        let slot = slots[own];
         let phase = slot.phase;
         let t = (ticket(phase) % Hub::PLACES) as usize;
         let seat = places[t];
@@ -94,9 +85,9 @@ pub fn answer_requests(house: Hub, requests: &[u8], count: usize, form: bool, ou
         } else {
             false
         };
-        let e = called(code, full, first, phase, place, waiter, figures);
+        let e = call_effect(code, full, party, phase, place, waiter, figures);
         let answer = e.answer;
-        put_reply(&mut out[at..end], form, first, print_of(answer));
+        put_reply(&mut out[at..end], form, party, print_of(answer));
         let turns = e.turns;
         let next = e.figures;
         figures = next;
@@ -110,7 +101,7 @@ pub fn answer_requests(house: Hub, requests: &[u8], count: usize, form: bool, ou
             };
         }
         let becomes = e.phase;
-        slots[party] = PartySlot { phase: becomes };
+        slots[own] = PartySlot { phase: becomes };
         let limit = figures.oldest + Hub::PLACES;
         let mut n: u32 = 0;
         while n < turns {

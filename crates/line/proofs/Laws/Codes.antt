@@ -1,10 +1,11 @@
 -- Which bytes are the code of a call.
 use Prim.Native.Nat.{ℕ, zero, suc, _+_, _-_, _≤_, _<_}
-use mathlib.Core.Path.{_≡_, refl, ap, _∙_}
+use mathlib.Core.Path.{_≡_, refl, sym, subst}
 use mathlib.Core.Bool.{true, false}
 use native.Mathlib.Omega.{arith}
 use borrow.Author.Tests.{ne-eqb}
-use Rattle.line.specs.Frame.{isCall}
+use Rattle.hub.specs.declared.moves.Op.{Op}
+use Rattle.line.specs.Frame.{isCall, opOf, codeOf}
 
 -- The codes of the four calls are 16 to 19.
 no-code : (c : ℕ) → ((k : ℕ) → 16 ≤ k → k ≤ 19 → c ≡ k → ⊥) → isCall c ≡ false
@@ -22,15 +23,35 @@ under c l = no-code c (λ k a b e. omega arith)
 pub over : (c : ℕ) → 19 < c → isCall c ≡ false
 over c l = no-code c (λ k a b e. omega arith)
 
-pub a-code : (c : ℕ) → 16 ≤ c → c ≤ 19 → isCall c ≡ true
-a-code c a b = ap isCall (apart c a) ∙ go (c - 16) (omega arith)
+-- What holds of the four holds of each code between them.
+among-four : (P : ℕ → Type 0) → P 16 → P 17 → P 18 → P 19 → (c : ℕ) → 16 ≤ c → c ≤ 19 → P c
+among-four P p q r s c a b = subst P (sym (apart c a)) (go (c - 16) (omega arith))
   where
     apart : (c : ℕ) → 16 ≤ c → c ≡ 16 + (c - 16)
     apart c a = omega arith
 
-    go : (d : ℕ) → d ≤ 3 → isCall (16 + d) ≡ true
-    go zero l = refl
-    go (suc zero) l = refl
-    go (suc (suc zero)) l = refl
-    go (suc (suc (suc zero))) l = refl
+    go : (d : ℕ) → d ≤ 3 → P (16 + d)
+    go zero l = p
+    go (suc zero) l = q
+    go (suc (suc zero)) l = r
+    go (suc (suc (suc zero))) l = s
     go (suc (suc (suc (suc d)))) l = absurd (omega arith)
+
+pub a-code : (c : ℕ) → 16 ≤ c → c ≤ 19 → isCall c ≡ true
+a-code = among-four (λ c. isCall c ≡ true) refl refl refl refl
+
+pub code-back : (c : ℕ) → 16 ≤ c → c ≤ 19 → codeOf (opOf c) ≡ c
+code-back = among-four (λ c. codeOf (opOf c) ≡ c) refl refl refl refl
+
+-- The code of an operation is a call's, and says which.
+pub is-call : (o : Op) → isCall (codeOf o) ≡ true
+is-call Op.Acquire = refl
+is-call Op.Step = refl
+is-call Op.Cancel = refl
+is-call Op.Release = refl
+
+pub op-back : (o : Op) → opOf (codeOf o) ≡ o
+op-back Op.Acquire = refl
+op-back Op.Step = refl
+op-back Op.Cancel = refl
+op-back Op.Release = refl

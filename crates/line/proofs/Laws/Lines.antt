@@ -5,16 +5,18 @@ use mathlib.Core.Bool.{Bool, true, false, cond, not, _&&_, _||_}
 use mathlib.Core.List.{List, [], _∷_}
 use native.Mathlib.Omega.{arith}
 use Rattle.hub.proofs.Laws.Bools.{first, second, if-true, if-false}
-use borrow.Author.Tests.{lt-ltb, le-ltb, ltb-true, eq-eqb, ne-eqb}
+use borrow.Author.Tests.{lt-ltb, le-ltb, ltb-true, ltb-false, eq-eqb, ne-eqb, eqb-true, eqb-false}
 use lib.Dec.{eqb, ltb}
 use lib.ListN.{length, getD, take, drop, length-drop}
 use lib.Seq.{take-all}
 use native.Mathlib.Nat.{le-of-eq}
-use Rattle.line.specs.declared.request.Request.{Request}
-use Rattle.line.specs.Frame.{isCall}
+use Rattle.hub.specs.declared.moves.Call.{Call}
+use Rattle.line.specs.declared.request.Opening.{Opening}
+use Rattle.line.specs.Frame.{isCall, opOf}
 use Rattle.line.specs.Hex.{digitOf, isDigit, spelled, byteOf}
-use Rattle.line.specs.Requests.{malformed, allDigits, unreadable, bytesOf}
-use Rattle.line.specs.Requests.{requested, requestOf}
+use Rattle.line.specs.Requests.{LONGEST, Request, malformed, toOpen, toCall}
+use Rattle.line.specs.Requests.{allDigits, unreadable, bytesOf, openingIn, requested}
+use Rattle.line.specs.Requests.{requestOf, headerOf, isOpening}
 
 -- The first two characters spell a byte, or do not; x and y are their values.
 pub byte-short : (l : List ℕ) → length l < 2 → 256 ≡ byteOf l
@@ -68,7 +70,7 @@ nothing l e = either (unreadable l) e
 
 -- Only four and six characters ask something.
 pub other : (l : List ℕ) → (length l ≡ 4 → ⊥) → (length l ≡ 6 → ⊥) → malformed ≡ requestOf l
-unfolding requestOf bytesOf requested
+unfolding requestOf bytesOf requested openingIn
 other [] e f = nothing [] refl
 other (a ∷ []) e f = refl
 other (a ∷ b ∷ []) e f = nothing (a ∷ b ∷ []) refl
@@ -82,7 +84,7 @@ other (a ∷ b ∷ c ∷ d ∷ x ∷ y ∷ z ∷ w ∷ l) e f = nothing (a ∷ b
 -- A line with a character that is no digit asks nothing; one of digits alone asks what they spell.
 unread : (l : List ℕ) → allDigits l ≡ false → malformed ≡ requestOf l
 unfolding requestOf
-unread l e = go (ltb 64 (length l)) (eqb (length l % 2) 1) _ (requested (bytesOf l)) e
+unread l e = go (ltb LONGEST (length l)) (eqb (length l % 2) 1) _ (requested (bytesOf l)) e
   where
     go : (p q r : Bool) (x : Request) → r ≡ false
         → malformed ≡ cond (p || q || not r) malformed x
@@ -160,6 +162,34 @@ of-six P f [] e = absurd (omega arith)
 of-six P f (a ∷ []) e = absurd (omega arith)
 of-six P f (a ∷ b ∷ l) e = of-four (λ m. P (a ∷ b ∷ m)) (f a b) l (omega arith)
 
+-- A call is no opening.
+no-call : (l : List ℕ) → length l ≡ 4 → false ≡ isOpening (requestOf l)
+unfolding requestOf bytesOf requested
+no-call =
+    of-four (λ l. false ≡ isOpening (requestOf l))
+    (λ a b x y. go (unreadable (a ∷ b ∷ x ∷ y ∷ [])) (isCall (spelled a b)) _)
+  where
+    go : (u c : Bool) (k : Call)
+        → false ≡ isOpening (cond u malformed (cond c (toCall k) malformed))
+    go true c k = refl
+    go false true k = refl
+    go false false k = refl
+
+no-header : (l : List ℕ) → length l ≡ 6 → isOpening (requestOf l) ≡ false
+    → headerOf malformed ≡ headerOf (requestOf l)
+unfolding requestOf bytesOf requested openingIn
+no-header =
+    of-six
+    (λ l. isOpening (requestOf l) ≡ false → headerOf malformed ≡ headerOf (requestOf l))
+    (λ a b x y z w. go (unreadable (a ∷ b ∷ x ∷ y ∷ z ∷ w ∷ [])) (eqb (spelled a b) 1) _)
+  where
+    go : (u c : Bool) (o : Opening)
+        → isOpening (cond u malformed (cond c (toOpen o) malformed)) ≡ false
+        → headerOf malformed ≡ headerOf (cond u malformed (cond c (toOpen o) malformed))
+    go true c o e = refl
+    go false true o e = let z : _≡_ {A = ℕ} 0 1 = cc in absurd (omega arith)
+    go false false o e = refl
+
 -- A call: its code, then its party.
 pub four-code : (l : List ℕ) → length l ≡ 4 → isCall (byteOf l) ≡ false → malformed ≡ requestOf l
 unfolding bytesOf requested
@@ -181,22 +211,24 @@ four-party =
 
 pub four : (l : List ℕ) → length l ≡ 4 → isCall (byteOf l) ≡ true → byteOf l < 256
     → byteOf (drop 2 l) < 256
-    → record { code = byteOf l; first = byteOf (drop 2 l); second = 0 } ≡ requestOf l
+    → toCall (record { op = opOf (byteOf l); party = byteOf (drop 2 l) }) ≡ requestOf l
 unfolding requestOf bytesOf requested
 four =
     of-four
     (λ l. isCall (byteOf l) ≡ true → byteOf l < 256 → byteOf (drop 2 l) < 256
-    → record { code = byteOf l; first = byteOf (drop 2 l); second = 0 } ≡ requestOf l)
+    → toCall (record { op = opOf (byteOf l); party = byteOf (drop 2 l) }) ≡ requestOf l)
     (λ a b x y f m n. go a b x y f (spells a b (x ∷ y ∷ []) m) (spells x y [] n))
   where
     go : (a b x y : ℕ) → isCall (byteOf (a ∷ b ∷ x ∷ y ∷ [])) ≡ true → twoDigits a b ≡ true
         → twoDigits x y ≡ true
-        → record { code = byteOf (a ∷ b ∷ x ∷ y ∷ []); first = byteOf (x ∷ y ∷ []); second = 0 }
+        → toCall (record { op = opOf (byteOf (a ∷ b ∷ x ∷ y ∷ [])); party = byteOf (x ∷ y ∷ []) })
         ≡ requestOf (a ∷ b ∷ x ∷ y ∷ [])
     go a b x y f d e =
         let l = a ∷ b ∷ x ∷ y ∷ [] in
-        (λ i.
-        record { code = byte-is a b (x ∷ y ∷ []) d i; first = byte-is x y [] e i; second = 0 })
+        (λ i. toCall (record {
+          op = opOf (byte-is a b (x ∷ y ∷ []) d i);
+          party = byte-is x y [] e i;
+        }))
         ∙ sym
         (if-false (unreadable l) malformed (requested (bytesOf l))
         (ap not (one-more a b (x ∷ y ∷ []) d (one-more x y [] e none)))
@@ -205,7 +237,7 @@ four =
 
 -- An opening: its code, the permits, the parties.
 pub six-code : (l : List ℕ) → length l ≡ 6 → (byteOf l ≡ 1 → ⊥) → malformed ≡ requestOf l
-unfolding bytesOf requested
+unfolding bytesOf requested openingIn
 six-code =
     of-six (λ l. (byteOf l ≡ 1 → ⊥) → malformed ≡ requestOf l)
     (λ a b x y z w. go a b (x ∷ y ∷ z ∷ w ∷ []) refl (twoDigits a b) refl)
@@ -236,27 +268,84 @@ six-second =
 
 pub six : (l : List ℕ) → length l ≡ 6 → byteOf l ≡ 1 → byteOf (drop 2 l) < 256
     → byteOf (drop 4 l) < 256
-    → record { code = 1; first = byteOf (drop 2 l); second = byteOf (drop 4 l) } ≡ requestOf l
-unfolding requestOf bytesOf requested
+    → toOpen (record { permits = byteOf (drop 2 l); parties = byteOf (drop 4 l) }) ≡ requestOf l
+unfolding requestOf bytesOf requested openingIn
 six =
     of-six
     (λ l. byteOf l ≡ 1 → byteOf (drop 2 l) < 256 → byteOf (drop 4 l) < 256
-    → record { code = 1; first = byteOf (drop 2 l); second = byteOf (drop 4 l) } ≡ requestOf l)
+    → toOpen (record { permits = byteOf (drop 2 l); parties = byteOf (drop 4 l) }) ≡ requestOf l)
     (λ a b x y z w c m n.
     go a b x y z w c (spells a b (x ∷ y ∷ z ∷ w ∷ []) (omega (arith, c))) (spells x y (z ∷ w ∷ []) m)
     (spells z w [] n))
   where
     go : (a b x y z w : ℕ) → byteOf (a ∷ b ∷ []) ≡ 1 → twoDigits a b ≡ true → twoDigits x y ≡ true
         → twoDigits z w ≡ true
-        → record { code = 1; first = byteOf (x ∷ y ∷ []); second = byteOf (z ∷ w ∷ []) }
+        → toOpen (record { permits = byteOf (x ∷ y ∷ []); parties = byteOf (z ∷ w ∷ []) })
         ≡ requestOf (a ∷ b ∷ x ∷ y ∷ z ∷ w ∷ [])
     go a b x y z w c d e f =
         let l = a ∷ b ∷ x ∷ y ∷ z ∷ w ∷ [] in
-        let code = sym (byte-is a b [] d) ∙ c in
-        (λ i. record { code = sym code i; first = byte-is x y [] e i; second = byte-is z w [] f i })
+        (λ i. toOpen (record { permits = byte-is x y [] e i; parties = byte-is z w [] f i }))
         ∙ sym
         (if-false (unreadable l) malformed (requested (bytesOf l))
         (ap not
         (one-more a b (x ∷ y ∷ z ∷ w ∷ []) d
         (one-more x y (z ∷ w ∷ []) e (one-more z w [] f none))))
-        ∙ if-true (eqb (spelled a b) 1) _ malformed (eq-eqb (spelled a b) 1 code))
+        ∙ if-true (eqb (spelled a b) 1) _ malformed
+        (eq-eqb (spelled a b) 1 (sym (byte-is a b [] d) ∙ c)))
+
+-- Another length is no opening.
+pub not-six : (l : List ℕ) → (length l ≡ 6 → ⊥) → false ≡ isOpening (requestOf l)
+not-six l f = go (eqb (length l) 4) refl
+  where
+    go : (b : Bool) → eqb (length l) 4 ≡ b → false ≡ isOpening (requestOf l)
+    go true e = no-call l (eqb-true (length l) 4 e)
+    go false e = ap isOpening (other l (eqb-false (length l) 4 e) f)
+
+-- Another length than four is no call: an opening, or nothing.
+pub not-four : (l : List ℕ) → (length l ≡ 4 → ⊥) → isOpening (requestOf l) ≡ false
+    → headerOf malformed ≡ headerOf (requestOf l)
+not-four l f = go (eqb (length l) 6) refl
+  where
+    go : (b : Bool) → eqb (length l) 6 ≡ b → isOpening (requestOf l) ≡ false
+        → headerOf malformed ≡ headerOf (requestOf l)
+    go true e v = no-header l (eqb-true (length l) 6 e) v
+    go false e v = ap headerOf (other l f (eqb-false (length l) 6 e))
+
+-- An opening, whatever it asks for.
+pub an-opening : (r : Request) → isOpening r ≡ true
+    → record { code = 0x01; party = 0xFF } ≡ headerOf r
+an-opening malformed e = let z : _≡_ {A = ℕ} 0 1 = cc in absurd (omega arith)
+an-opening (toOpen o) e = refl
+an-opening (toCall c) e = let z : _≡_ {A = ℕ} 0 1 = cc in absurd (omega arith)
+
+-- An opening's length and bytes.
+pub record Spelled (l : List ℕ) : Type 0 where
+  pub size : length l ≡ 6
+  pub code : byteOf l ≡ 1
+  pub first : byteOf (drop 2 l) < 256
+  pub second : byteOf (drop 4 l) < 256
+
+pub spelled-opening : (l : List ℕ) → isOpening (requestOf l) ≡ true → Spelled l
+spelled-opening l t = go (eqb (length l) 6) refl (eqb (byteOf l) 1) refl
+    (ltb (byteOf (drop 2 l)) 256) refl (ltb (byteOf (drop 4 l)) 256) refl
+  where
+    no : false ≡ isOpening (requestOf l) → Spelled l
+    no e = let z : _≡_ {A = ℕ} 0 1 = cc in absurd (omega arith)
+
+    go : (a : Bool) → eqb (length l) 6 ≡ a → (b : Bool) → eqb (byteOf l) 1 ≡ b
+        → (c : Bool) → ltb (byteOf (drop 2 l)) 256 ≡ c → (d : Bool) → ltb (byteOf (drop 4 l)) 256 ≡ d
+        → Spelled l
+    go false ea b eb c ec d ed = no (not-six l (eqb-false (length l) 6 ea))
+    go true ea false eb c ec d ed =
+        no (ap isOpening (six-code l (eqb-true (length l) 6 ea) (eqb-false (byteOf l) 1 eb)))
+    go true ea true eb false ec d ed =
+        no (ap isOpening (six-first l (eqb-true (length l) 6 ea) (ltb-false (byteOf (drop 2 l)) 256 ec)))
+    go true ea true eb true ec false ed =
+        no (ap isOpening (six-second l (eqb-true (length l) 6 ea) (ltb-false (byteOf (drop 4 l)) 256 ed)))
+    go true ea true eb true ec true ed =
+        record {
+          size = eqb-true (length l) 6 ea;
+          code = eqb-true (byteOf l) 1 eb;
+          first = ltb-true (byteOf (drop 2 l)) 256 ec;
+          second = ltb-true (byteOf (drop 4 l)) 256 ed;
+        }

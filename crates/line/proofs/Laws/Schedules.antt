@@ -1,8 +1,8 @@
--- On an open record, requests that make calls are answered as the schedule of the calls is.
+-- On an open record calls are answered as their schedule is.
 use Prim.Native.Nat.{ℕ, zero, suc}
-use mathlib.Core.Path.{_≡_, refl, sym, ap, ap₂, _∙_}
+use mathlib.Core.Path.{_≡_, refl, ap, _∙_}
 use mathlib.Core.Bool.{Bool, true, false}
-use mathlib.Core.List.{List, [], _∷_, _++_}
+use mathlib.Core.List.{List, [], _∷_, map}
 use lib.Dec.{leb}
 use Rattle.hub.specs.declared.moves.Call.{Call}
 use Rattle.hub.specs.declared.moves.Move.{Move}
@@ -10,38 +10,24 @@ use Rattle.hub.specs.declared.moves.Move.the-variants.{Refuse, Act, Wake}
 use Rattle.hub.specs.declared.moves.Sight.{Sight}
 use Rattle.hub.specs.declared.record.Hub.{Hub}
 use Rattle.hub.specs.declared.record.Phase.{Phase}
-use Rattle.hub.specs.Answers.{printed}
-use Rattle.hub.specs.Basics.{upTo32}
 use Rattle.hub.specs.Calls.{moveOf, changed, apply, called}
 use Rattle.hub.specs.Fits.{look}
-use Rattle.hub.specs.Opening.{fresh, openingIf, opening}
 use Rattle.hub.specs.Reclaim.{canSkip, skipped, canRetire, retired, skip, retire, reclaimed}
 use Rattle.hub.specs.Record.{PLACES, writePhase}
-use Rattle.hub.specs.Schedule.{Entry, entries, run}
-use Rattle.hub.proofs.Laws.Bools.{first, if-true}
-use Rattle.line.specs.declared.request.Request.{Request}
-use Rattle.line.specs.Form.{Form, inForm}
-use Rattle.line.specs.Frame.{isCall, opOf, frameOf}
-use Rattle.line.specs.Program.{isOpen, Turn, calls, turn, repliesIn, after}
+use Rattle.hub.specs.Schedule.{entries, run}
+use Rattle.hub.proofs.Laws.Bools.{if-true, if-false}
+use Rattle.line.specs.Program.{isOpen, Reply, Response, whenOpen, beforeOpen, respond}
+use Rattle.line.specs.Program.{replyOf, replies, after}
+use Rattle.line.specs.Requests.{Request, malformed, toOpen, toCall}
 
--- A request that makes a call.
-pub record Makes (r : Request) (c : Call) : Type 0 where
-  pub code : isCall (r .code) ≡ true
-  pub same : record { op = opOf (r .code); party = r .first } ≡ c
+-- A request on a hub that is open, or not.
+pub respond-open : (h : Hub) (r : Request) → isOpen h ≡ true → respond h r ≡ whenOpen h r
+unfolding respond
+respond-open h r o = if-true (isOpen h) (whenOpen h r) (beforeOpen r) o
 
--- Each request makes the call at its place.
-abbrev pub MakeAll : List Request → List Call → Type 0
-MakeAll [] [] = Unit {0}
-MakeAll [] (c ∷ cs) = ⊥
-MakeAll (r ∷ rs) [] = ⊥
-MakeAll (r ∷ rs) (c ∷ cs) = Makes r c × MakeAll rs cs
-
--- The turn of a call on an open record.
-call-turn : (h : Hub) → isOpen h ≡ true → (r : Request) (c : Call) → Makes r c
-    → turn h r ≡ calls true h c
-unfolding turn
-call-turn h o r c m =
-    if-true (isCall (r .code)) _ _ (m .code) ∙ (λ i. calls (o i) h (m .same i))
+pub respond-before : (h : Hub) (r : Request) → isOpen h ≡ false → respond h r ≡ beforeOpen r
+unfolding respond
+respond-before h r o = if-false (isOpen h) (whenOpen h r) (beforeOpen r) o
 
 -- No call changes the number of permits.
 skip-permits : (n : ℕ) (b : Bool) (h : Hub) → skip n b h .permits ≡ h .permits
@@ -69,38 +55,26 @@ apply-permits h s (Act c) = reclaimed-permits (changed h (h .slots) s c)
 apply-permits h s (Wake q c) =
     reclaimed-permits (changed h (writePhase (h .slots) q Phase.Holding) s c)
 
-pub opening-open : (k n : ℕ) → upTo32 k ≡ true → upTo32 n ≡ true → isOpen (opening k n .hub) ≡ true
-unfolding fresh openingIf
-opening-open k n e f =
-    ap₂ (λ (a b : Bool). isOpen (openingIf a b k n .hub)) e f ∙ first (leb 1 k) (leb k 32) e
+pub still-open : (h : Hub) (r : Request) → isOpen h ≡ true → isOpen (whenOpen h r .hub) ≡ true
+unfolding whenOpen
+still-open h malformed o = o
+still-open h (toOpen p) o = o
+still-open h (toCall c) o =
+    ap (leb 1) (apply-permits h (look h (c .party)) (moveOf h c)) ∙ o
 
-still-open : (h : Hub) (c : Call) → isOpen h ≡ true → isOpen (called h c .hub) ≡ true
-still-open h c o = ap (leb 1) (apply-permits h (look h (c .party)) (moveOf h c)) ∙ o
+pub schedule-replies : (cs : List Call) (h : Hub) → isOpen h ≡ true
+    → replies h (map toCall cs) ≡ map replyOf (entries h cs)
+unfolding replies entries whenOpen
+schedule-replies [] h o = refl
+schedule-replies (c ∷ cs) h o =
+    (λ i. let t = respond-open h (toCall c) o i in t .reply ∷ replies (t .hub) (map toCall cs))
+    ∙ ap (λ (l : List Reply). whenOpen h (toCall c) .reply ∷ l)
+    (schedule-replies cs (called h c .hub) (still-open h (toCall c) o))
 
--- The replies in a form are what `shown` makes of the schedule, if it shows each answer in that form.
-module _ (form : Form) (shown : List Entry → List ℕ) (none : shown [] ≡ [])
-    (one : (e : Entry) (es : List Entry)
-    → shown (e ∷ es) ≡ inForm form (frameOf (e .call .party) (e .answer)) ++ shown es) where
-  pub schedule-replies : (rs : List Request) (cs : List Call) → MakeAll rs cs → (h : Hub)
-      → isOpen h ≡ true → repliesIn form h rs ≡ shown (entries h cs)
-  unfolding repliesIn entries calls
-  schedule-replies [] [] m h o = sym none
-  schedule-replies [] (c ∷ cs) m h o = absurd m
-  schedule-replies (r ∷ rs) [] m h o = absurd m
-  schedule-replies (r ∷ rs) (c ∷ cs) m h o =
-      let t = call-turn h o r c (m .0) in
-      let answer = frameOf (c .party) (printed (called h c .answer)) in
-      (λ i. inForm form (frameOf (t i .party) (t i .answer)) ++ repliesIn form (t i .hub) rs)
-      ∙ ap (λ (l : List ℕ). inForm form answer ++ l)
-      (schedule-replies rs cs (m .1) (called h c .hub) (still-open h c o))
-      ∙ sym (one _ (entries (called h c .hub) cs))
-
-pub schedule-after : (rs : List Request) (cs : List Call) → MakeAll rs cs → (h : Hub)
-    → isOpen h ≡ true → after h rs ≡ run h cs
-unfolding after run calls
-schedule-after [] [] m h o = refl
-schedule-after [] (c ∷ cs) m h o = absurd m
-schedule-after (r ∷ rs) [] m h o = absurd m
-schedule-after (r ∷ rs) (c ∷ cs) m h o =
-    ap (λ (t : Turn). after (t .hub) rs) (call-turn h o r c (m .0))
-    ∙ schedule-after rs cs (m .1) (called h c .hub) (still-open h c o)
+pub schedule-after : (cs : List Call) (h : Hub) → isOpen h ≡ true
+    → after h (map toCall cs) ≡ run h cs
+unfolding after run whenOpen
+schedule-after [] h o = refl
+schedule-after (c ∷ cs) h o =
+    ap (λ (t : Response). after (t .hub) (map toCall cs)) (respond-open h (toCall c) o)
+    ∙ schedule-after cs (called h c .hub) (still-open h (toCall c) o)

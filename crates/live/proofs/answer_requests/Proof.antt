@@ -24,52 +24,52 @@ use Rattle.hub.specs.Reclaim.{canSkip, skip, canRetire, retire}
 use Rattle.hub.specs.Record.{readPhase, writePhase, readPlace, writePlace}
 use Rattle.hub.specs.Table.{decide}
 use Rattle.line.specs.Frame.{opOf, frameOf, paper}
-use Rattle.line.specs.Form.{inForm}
-use Rattle.line.specs.Program.{after, turn}
+use Rattle.line.specs.Form.{formOf, inForm}
+use Rattle.line.specs.Program.{after, respond}
 use Rattle.live.specs.declared.effect.Effect.{Effect}
-use Rattle.live.specs.Live.{Reached, requestsIn, replied}
-use Rattle.live.proofs.Laws.Answered.{Passed, passed, door-turn, LetIn, let-in}
-use Rattle.live.proofs.Laws.Answered.{call-turn}
+use Rattle.live.specs.Live.{Reachable, requestsIn, replied}
+use Rattle.live.proofs.Laws.Answered.{Admitted, is-admitted, refused-response, LetIn}
+use Rattle.live.proofs.Laws.Answered.{let-in, call-response}
 use Rattle.live.proofs.Laws.Hubs.{hubOf, counting}
 use Rattle.live.proofs.Laws.Looked.{waits, nobody-waits, not-asked}
 use Rattle.step.proofs.Laws.Loops.{Skipping, skipping, can-skip, in-window, skipping-on}
 use Rattle.step.proofs.Laws.Loops.{skipping-stop, skipping-end}
 use Rattle.step.proofs.Laws.Loops.{Retiring, retiring, retiring-on, retiring-stop}
 use Rattle.step.proofs.Laws.Loops.{retiring-end}
-use Rattle.live.proofs.Laws.Reached.{same-counter}
+use Rattle.live.proofs.Laws.Reachable.{same-counter}
 use Rattle.live.proofs.Laws.Stored.{nobody, still, keeps-oldest, few-turns}
 use Rattle.live.proofs.Laws.Tabled.{Read, small-sight, left, said}
-use Rattle.live.proofs.Laws.Turns.{Upto, theRequest, start, two-bytes, whole-request}
-use Rattle.live.proofs.Laws.Turns.{whole-reply, reply-part, turned, ended}
+use Rattle.live.proofs.Laws.Responses.{Upto, requestAt, start, whole-request}
+use Rattle.live.proofs.Laws.Responses.{whole-reply, reply-part, responded, ended}
 use Rattle.live.proofs.answer_requests.Statement.{statement}
 use Rattle.live.proofs.answer_requests.Tie as tie
 
 abbrev Inv-loop2 : tie.InvT-loop2
-Inv-loop2 l k form out figures₀ places₀ slots z v i o c x y a b p t w f turns q limit n₀ figures places n =
+Inv-loop2 l k form out figures₀ places₀ slots v i o c x a b p t w f turns q limit n₀ figures places n =
     Skipping turns (hubOf figures₀ places₀ slots) (hubOf figures places slots) n
     × (limit ≡ figures₀ .oldest + 256) × (figures₀ .oldest ≤ 1000000)
 
 abbrev μ-loop2 : tie.MeasureT-loop2
-μ-loop2 l k form out figures₀ places₀ slots z v i o c x y a b p t w f turns q limit n₀ figures places n =
+μ-loop2 l k form out figures₀ places₀ slots v i o c x a b p t w f turns q limit n₀ figures places n =
     turns - n
 
 abbrev Inv-loop3 : tie.InvT-loop3
-Inv-loop3 l k form out figures₀ places₀ slots z v i o c x y a b p t w f turns q limit n m₀ figures places m =
+Inv-loop3 l k form out figures₀ places₀ slots v i o c x a b p t w f turns q limit n m₀ figures places m =
     Retiring turns (hubOf figures₀ places₀ slots) (hubOf figures places slots) m
     × (figures₀ .oldest + turns ≤ 1000256)
 
 abbrev μ-loop3 : tie.MeasureT-loop3
-μ-loop3 l k form out figures₀ places₀ slots z v i o c x y a b p t w f turns q limit n m₀ figures places m =
+μ-loop3 l k form out figures₀ places₀ slots v i o c x a b p t w f turns q limit n m₀ figures places m =
     turns - m
 
 abbrev Inv-loop : tie.InvT-loop
-Inv-loop requests count form out₀ figures₀ places₀ slots₀ size width i₀ out figures places slots i =
-    Upto form size width (hubOf figures₀ places₀ slots₀) count requests out₀
+Inv-loop requests count form out₀ figures₀ places₀ slots₀ width i₀ out figures places slots i =
+    Upto (formOf form) width (hubOf figures₀ places₀ slots₀) count requests out₀
     (hubOf figures places slots) out i
     × (length slots ≡ 32)
 
 abbrev μ-loop : tie.MeasureT-loop
-μ-loop requests count form out₀ figures₀ places₀ slots₀ size width i₀ out figures places slots i =
+μ-loop requests count form out₀ figures₀ places₀ slots₀ width i₀ out figures places slots i =
     count - i
 
 -- The contexts that the facts below speak of.
@@ -85,14 +85,14 @@ Entered = tie.Else1 Inv-loop2 μ-loop2 Inv-loop3 μ-loop3 Inv-loop μ-loop
 abbrev Joined : Type 0
 Joined = tie.Joined3 Inv-loop2 μ-loop2 Inv-loop3 μ-loop3 Inv-loop μ-loop
 
-abbrev Called : Type 0
-Called = tie.After-called Inv-loop2 μ-loop2 Inv-loop3 μ-loop3 Inv-loop μ-loop
+abbrev Effected : Type 0
+Effected = tie.After-call-effect Inv-loop2 μ-loop2 Inv-loop3 μ-loop3 Inv-loop μ-loop
 
 abbrev Tidying : Type 0
 Tidying = tie.At-loop2 Inv-loop2 μ-loop2 Inv-loop3 μ-loop3 Inv-loop μ-loop
 
 abbrev turning : Entered → Turning
-turning c = c .before .before .before .before .before .before
+turning c = c .before .before .before .before .before
 
 abbrev head : Entered → Head
 head c = turning c .before
@@ -100,49 +100,42 @@ head c = turning c .before
 abbrev entered : Joined → Entered
 entered c = c .before .before .before .before .before .before .before
 
-abbrev called : Tidying → Called
-called c = c .before .before .before .before .before .before .before .before .before .before
+abbrev effected : Tidying → Effected
+effected c = c .before .before .before .before .before .before .before .before .before .before
 
 -- The record at the head of a turn, and the bytes of the request.
 abbrev hub : Head → Hub
 hub c = hubOf (c .loop .figures) (c .loop .places) (c .loop .slots)
 
 abbrev begun : Head → tie.Start Inv-loop2 μ-loop2 Inv-loop3 μ-loop3 Inv-loop μ-loop
-begun c = c .before .before .before .before .before .before .before .before
+begun c = c .before .before .before .before .before .before .before
 
 abbrev bytes : Head → List ℕ
 bytes c = begun c .args .requests .now
-
-abbrev size : Head → ℕ
-size c = c .before .before .request-size .result
 
 abbrev width : Head → ℕ
 width c = c .before .reply-size .result
 
 abbrev code : Head → ℕ
-code c = getD (bytes c) (size c * c .loop .i) 0
+code c = getD (bytes c) (2 * c .loop .i) 0
 
 abbrev party : Head → ℕ
-party c = getD (bytes c) (size c * c .loop .i + 1) 0
+party c = getD (bytes c) (2 * c .loop .i + 1) 0
 
 -- There is still a request to read, and room for its reply.
-two : (c : Turning) → 2 ≤ size (c .before)
-two c = two-bytes _ _ _ _ _ _ _ _ _ _ (c .before .loop .inv .0) (c .loop-test .taken)
-
-asks : (c : Turning)
-    → size (c .before) * c .before .loop .i + size (c .before) ≤ length (bytes (c .before))
-asks c = whole-request _ _ _ _ _ _ _ _ _ _ (c .before .loop .inv .0) (c .loop-test .taken)
+asks : (c : Turning) → 2 * c .before .loop .i + 2 ≤ length (bytes (c .before))
+asks c = whole-request _ _ _ _ _ _ _ _ _ (c .before .loop .inv .0) (c .loop-test .taken)
 
 room : (c : Turning)
     → width (c .before) * c .before .loop .i + width (c .before) ≤ length (c .before .loop .out)
-room c = whole-reply _ _ _ _ _ _ _ _ _ _ (c .before .loop .inv .0) (c .loop-test .taken)
+room c = whole-reply _ _ _ _ _ _ _ _ _ (c .before .loop .inv .0) (c .loop-test .taken)
 
--- The door let the call in.
-pass : (c : Entered) → Passed (code (head c)) (party (head c)) (head c .loop .figures)
-pass c = passed _ _ _ _ _ (c .before .before .at-door .ensures) (not-false _ (c .if1 .left))
+-- The call is admitted.
+pass : (c : Entered) → Admitted (code (head c)) (party (head c)) (head c .loop .figures .parties)
+pass c = is-admitted _ _ _ _ (c .before .before .admit .ensures) (not-false _ (c .if1 .left))
 
 admitted : (c : Entered) → LetIn (hub (head c)) (party (head c))
-admitted c = let-in _ _ _ _ _ 0 (head c .loop .inv .0 .reached) (pass c)
+admitted c = let-in _ _ _ _ _ (head c .loop .inv .0 .reachable) (pass c)
 
 -- What the code read for it.
 abbrev number : Joined → ℕ
@@ -186,44 +179,43 @@ long-unmapped : (X Y : Type 0) (f : X → Y) (l : List X) (n : ℕ) → length (
     → length l ≡ n
 long-unmapped X Y f l n e = sym (length-map l f) ∙ e
 
-full-house : (s : tie.Start Inv-loop2 μ-loop2 Inv-loop3 μ-loop3 Inv-loop μ-loop)
-    → length (s .args .house .slots) ≡ 32
-full-house s = search (needs, long-unmapped)
+full-slots : (s : tie.Start Inv-loop2 μ-loop2 Inv-loop3 μ-loop3 Inv-loop μ-loop)
+    → length (s .args .hub .slots) ≡ 32
+full-slots s = search (needs, long-unmapped)
 
--- The move of the call, and its turn.
+-- The move of the call, and its response.
 abbrev move : Head → Move
 move h = decide (opOf (code h)) (isFull (hub h)) (look (hub h) (party h))
 
 answered : (c : Entered)
     → let h = head c in
-    turn (hub h) (theRequest (bytes h) (size h * h .loop .i) (size h))
+    respond (hub h) (requestAt (bytes h) (2 * h .loop .i))
     ≡ record {
-      party = party h;
-      answer = printed (answerOf (move h));
+      reply = record { party = party h; answer = printed (answerOf (move h)) };
       hub = apply (hub h) (look (hub h) (party h)) (move h);
     }
-answered c = call-turn _ _ _ _ _ _ (head c .loop .inv .0 .reached) (pass c) _ refl
+answered c = call-response _ _ _ _ _ (head c .loop .inv .0 .reachable) (pass c) _ refl
 
-low : (c : Called) → c .called .result .figures .oldest ≤ 1000000
+low : (c : Effected) → c .call-effect .result .figures .oldest ≤ 1000000
 low c =
     omega (
       arith,
       admitted (entered (c .before)) .counts .oldest,
-      keeps-oldest _ _ _ _ (c .called .result) (c .called .ensures),
+      keeps-oldest _ _ _ _ (c .call-effect .result) (c .call-effect .ensures),
     )
 
 -- The record that the tidying starts from, and the one between its loops.
 abbrev effect : Tidying → Effect
-effect t = called t .called .result
+effect t = effected t .call-effect .result
 
 abbrev slots : Tidying → List PartySlot
 slots t =
-    writePhase (t .before .before .if4 .slots) (party (head (entered (called t .before))))
+    writePhase (t .before .before .if4 .slots) (party (head (entered (effected t .before))))
     (effect t .phase)
 
 abbrev untidied : Tidying → Hub
 untidied t =
-    let j = called t .before in
+    let j = effected t .before in
     hubOf (effect t .figures)
     (writePlace (head (entered j) .loop .places) (number j) (t .before .before .before .by-ticket2 .result))
     (slots t)
@@ -244,10 +236,10 @@ skipped-all c =
 
 woken-slots : (t : Tidying)
     → t .before .before .if4 .slots
-    ≡ writePhase (head (entered (called t .before)) .loop .slots) (effect t .woken) Phase.Holding
+    ≡ writePhase (head (entered (effected t .before)) .loop .slots) (effect t .woken) Phase.Holding
 unfolding writePhase
 woken-slots t =
-    let h = head (entered (called t .before)) in
+    let h = head (entered (effected t .before)) in
     ⊎-elim (λ w. w .1)
     (λ w. w .1
     ∙ nobody (h .loop .slots) (effect t .woken) Phase.Holding
@@ -257,15 +249,15 @@ woken-slots t =
 -- What the tidying leaves is what the call leaves, and the line says what it answers.
 done : (c : tie.At-loop3 Inv-loop2 μ-loop2 Inv-loop3 μ-loop3 Inv-loop μ-loop) (g : Hub)
     → let t = c .before .before in
-    let h = head (entered (called t .before)) in
+    let h = head (entered (effected t .before)) in
     g ≡ retire (effect t .turns) (canRetire (between t)) (between t)
     → g ≡ apply (hub h) (look (hub h) (party h)) (move h)
 unfolding readPhase readPlace
 done c g e =
     let t = c .before .before in
-    let j = called t .before in
+    let j = effected t .before in
     left _ _ _ _ _ _ _ (reading j) (code (head (entered j))) (j .if3 .full) (effect t) (fullness j _)
-    (called t .called .ensures) _ _ (head (entered j) .loop .inv .1) (t .before .before .before .by-ticket2 .ensures)
+    (effected t .call-effect .ensures) _ _ (head (entered j) .loop .inv .1) (t .before .before .before .by-ticket2 .ensures)
     (woken-slots t) (between t) g (skipped-all (c .before)) e
 
 abbrev print : Tidying → tie.After-print-of Inv-loop2 μ-loop2 Inv-loop3 μ-loop3 Inv-loop μ-loop
@@ -273,16 +265,12 @@ print t = t .before .before .before .before .before .before .before .before
 
 worded : (t : Tidying)
     → paper (print t .print-of .result)
-    ≡ printed (answerOf (move (head (entered (called t .before)))))
+    ≡ printed (answerOf (move (head (entered (effected t .before)))))
 unfolding readPhase
 worded t =
-    let j = called t .before in
+    let j = effected t .before in
     said _ _ _ _ _ _ _ (reading j) (code (head (entered j))) (j .if3 .full) (effect t) (fullness j _)
-    (called t .called .ensures) (print t .print-of .ensures)
-
-request-size-requires :
-    tie.Need-request-size-requires Inv-loop2 μ-loop2 Inv-loop3 μ-loop3 Inv-loop μ-loop
-request-size-requires c κs = search needs
+    (effected t .call-effect .ensures) (print t .print-of .ensures)
 
 reply-size-requires :
     tie.Need-reply-size-requires Inv-loop2 μ-loop2 Inv-loop3 μ-loop3 Inv-loop μ-loop
@@ -290,12 +278,12 @@ reply-size-requires c κs = search needs
 
 loop-holds : tie.Need-loop-holds Inv-loop2 μ-loop2 Inv-loop3 μ-loop3 Inv-loop μ-loop
 loop-holds c =
-    let a = c .before .before .before .before .before .before .before in
-    let f : SFits w32 (a .args .house .counter) = search needs in
-    let same = ap (counting (a .args .house)) (sym (toZ-ofZ f)) in (
-      start _ _ _ _ _ _ _ (c .before .request-size .ensures) (c .reply-size .ensures)
-          (subst Reached same (a .pre .0)) (a .pre .1 .0) (a .pre .1 .1),
-      full-house a,
+    let a = c .before .before .before .before .before .before in
+    let f : SFits w32 (a .args .hub .counter) = search needs in
+    let same = ap (counting (a .args .hub)) (sym (toZ-ofZ f)) in (
+      start _ _ _ _ _ _ (c .reply-size .ensures) (subst Reachable same (a .pre .0)) (a .pre .1 .0)
+          (a .pre .1 .1),
+      full-slots a,
     )
 
 mul-from : tie.Need-mul-from Inv-loop2 μ-loop2 Inv-loop3 μ-loop3 Inv-loop μ-loop
@@ -303,37 +291,26 @@ mul-from c = omega (arith, asks c)
 
 shared-slice-read-code :
     tie.Need-shared-slice-read-code Inv-loop2 μ-loop2 Inv-loop3 μ-loop3 Inv-loop μ-loop
-shared-slice-read-code c = omega (arith, two (c .before), asks (c .before))
+shared-slice-read-code c = omega (arith, asks (c .before))
 
-add-first : tie.Need-add-first Inv-loop2 μ-loop2 Inv-loop3 μ-loop3 Inv-loop μ-loop
-add-first c = omega (arith, two (c .before), asks (c .before))
+add-party : tie.Need-add-party Inv-loop2 μ-loop2 Inv-loop3 μ-loop3 Inv-loop μ-loop
+add-party c = omega (arith, asks (c .before))
 
-shared-slice-read-first :
-    tie.Need-shared-slice-read-first Inv-loop2 μ-loop2 Inv-loop3 μ-loop3 Inv-loop μ-loop
-shared-slice-read-first c = omega (arith, two (c .before .before), asks (c .before .before))
-
-add-second : tie.Need-add-second Inv-loop2 μ-loop2 Inv-loop3 μ-loop3 Inv-loop μ-loop
-add-second c = omega (arith, asks (c .before .before))
-
-sub-second : tie.Need-sub-second Inv-loop2 μ-loop2 Inv-loop3 μ-loop3 Inv-loop μ-loop
-sub-second c = omega (arith, two (c .before .before))
-
-shared-slice-read-second :
-    tie.Need-shared-slice-read-second Inv-loop2 μ-loop2 Inv-loop3 μ-loop3 Inv-loop μ-loop
-shared-slice-read-second c =
-    omega (arith, two (c .before .before .before), asks (c .before .before .before))
+shared-slice-read-party :
+    tie.Need-shared-slice-read-party Inv-loop2 μ-loop2 Inv-loop3 μ-loop3 Inv-loop μ-loop
+shared-slice-read-party c = omega (arith, asks (c .before .before))
 
 mul-at : tie.Need-mul-at Inv-loop2 μ-loop2 Inv-loop3 μ-loop3 Inv-loop μ-loop
-mul-at c = omega (arith, room (c .before .before .before))
+mul-at c = omega (arith, room (c .before .before))
 
 add-end : tie.Need-add-end Inv-loop2 μ-loop2 Inv-loop3 μ-loop3 Inv-loop μ-loop
-add-end c = omega (arith, room (c .before .before .before))
+add-end c = omega (arith, room (c .before .before))
 
 add-i : tie.Need-add-i Inv-loop2 μ-loop2 Inv-loop3 μ-loop3 Inv-loop μ-loop
 add-i c = search needs
 
-at-door-requires : tie.Need-at-door-requires Inv-loop2 μ-loop2 Inv-loop3 μ-loop3 Inv-loop μ-loop
-at-door-requires c κs = search needs
+admit-requires : tie.Need-admit-requires Inv-loop2 μ-loop2 Inv-loop3 μ-loop3 Inv-loop μ-loop
+admit-requires c κs = search needs
 
 sub-put-reply : tie.Need-sub-put-reply Inv-loop2 μ-loop2 Inv-loop3 μ-loop3 Inv-loop μ-loop
 sub-put-reply c = search needs
@@ -343,28 +320,38 @@ part-put-reply-start :
 part-put-reply-start c = search needs
 
 part-put-reply-end : tie.Need-part-put-reply-end Inv-loop2 μ-loop2 Inv-loop3 μ-loop3 Inv-loop μ-loop
-part-put-reply-end c = omega (arith, room (c .before .before .before .before .before .before))
+part-put-reply-end c = omega (arith, room (c .before .before .before .before .before))
+
+plain-requires : tie.Need-plain-requires Inv-loop2 μ-loop2 Inv-loop3 μ-loop3 Inv-loop μ-loop
+plain-requires c κs = search needs
 
 put-reply-requires : tie.Need-put-reply-requires Inv-loop2 μ-loop2 Inv-loop3 μ-loop3 Inv-loop μ-loop
-put-reply-requires c κs = search needs
+put-reply-requires c κs =
+    let e = c .before .before .before .before .before .before .before in
+    reply-part _ _ _ _ _ _ _ _ _ (e .before .loop .inv .0) (e .loop-test .taken)
 
 loop-less : tie.Need-loop-less Inv-loop2 μ-loop2 Inv-loop3 μ-loop3 Inv-loop μ-loop
 loop-less c = search needs
 
 loop-again : tie.Need-loop-again Inv-loop2 μ-loop2 Inv-loop3 μ-loop3 Inv-loop μ-loop
 loop-again c =
-    let p = c .before .before .before .before .before in
+    let w = c .before .before .before in
+    let p = w .before .before in
     let d = p .before .before in
-    let h = d .before .before .before .before .before in
-    let u = h .loop .inv .0 in (
-      turned _ _ _ _ _ _ _ _ _ _ u (d .before .before .before .before .loop-test .taken) _ _ _
-          (door-turn _ _ _ _ _ _ (u .reached) _ (d .at-door .ensures) (not-true _ (p .if1 .taken)))
-          (c .before .before .before .put-reply .ensures) refl,
+    let h = d .before .before .before .before in
+    let u = h .loop .inv .0 in
+    let line =
+    c .before .before .put-reply .ensures
+    ∙ ap (λ (q : Printed). inForm (formOf (begun h .args .form)) (frameOf (d .admit .result .party) q))
+    (w .plain .ensures) in (
+      responded _ _ _ _ _ _ _ _ _ u (d .before .before .before .loop-test .taken) _ _ _
+          (refused-response _ _ _ _ _ (u .reachable) _ (d .admit .ensures) (not-true _ (p .if1 .taken)))
+          line refl,
       h .loop .inv .1,
     )
 
-cast-party : tie.Need-cast-party Inv-loop2 μ-loop2 Inv-loop3 μ-loop3 Inv-loop μ-loop
-cast-party c = omega (arith, admitted c .party)
+cast-own : tie.Need-cast-own Inv-loop2 μ-loop2 Inv-loop3 μ-loop3 Inv-loop μ-loop
+cast-own c = omega (arith, admitted c .party)
 
 mul-slot : tie.Need-mul-slot Inv-loop2 μ-loop2 Inv-loop3 μ-loop3 Inv-loop μ-loop
 mul-slot c = omega (arith, admitted c .party)
@@ -409,9 +396,9 @@ is-full-requires c κs =
     let a = admitted (c .before .before .before .before .before .before .before) in
     (a .counts .oldest, a .counts .issued)
 
-called-requires : tie.Need-called-requires Inv-loop2 μ-loop2 Inv-loop3 μ-loop3 Inv-loop μ-loop
+call-effect-requires : tie.Need-call-effect-requires Inv-loop2 μ-loop2 Inv-loop3 μ-loop3 Inv-loop μ-loop
 unfolding readPhase
-called-requires c κs = small-sight _ _ _ _ _ _ _ (reading c) (admitted (entered c) .counts)
+call-effect-requires c κs = small-sight _ _ _ _ _ _ _ (reading c) (admitted (entered c) .counts)
 
 sub-put-reply-2 : tie.Need-sub-put-reply-2 Inv-loop2 μ-loop2 Inv-loop3 μ-loop3 Inv-loop μ-loop
 sub-put-reply-2 c = search needs
@@ -432,7 +419,7 @@ put-reply-requires-2 :
     tie.Need-put-reply-requires-2 Inv-loop2 μ-loop2 Inv-loop3 μ-loop3 Inv-loop μ-loop
 put-reply-requires-2 c κs =
     let e = turning (entered (c .before .before .before)) in
-    reply-part _ _ _ _ _ _ _ _ _ _ (e .before .loop .inv .0) (e .loop-test .taken)
+    reply-part _ _ _ _ _ _ _ _ _ (e .before .loop .inv .0) (e .loop-test .taken)
 
 by-ticket-requires-2 :
     tie.Need-by-ticket-requires-2 Inv-loop2 μ-loop2 Inv-loop3 μ-loop3 Inv-loop μ-loop
@@ -506,11 +493,11 @@ add-figures c =
 
 add-n : tie.Need-add-n Inv-loop2 μ-loop2 Inv-loop3 μ-loop3 Inv-loop μ-loop
 add-n c =
-    let d = called (c .before .before .before .before) in
+    let d = effected (c .before .before .before .before) in
     omega (
       arith,
       c .before .before .before .loop2-test .taken,
-      few-turns _ _ _ _ (d .called .result) (d .called .ensures),
+      few-turns _ _ _ _ (d .call-effect .result) (d .call-effect .ensures),
     )
 
 loop2-less : tie.Need-loop2-less Inv-loop2 μ-loop2 Inv-loop3 μ-loop3 Inv-loop μ-loop
@@ -527,26 +514,26 @@ loop2-again c =
 loop3-holds : tie.Need-loop3-holds Inv-loop2 μ-loop2 Inv-loop3 μ-loop3 Inv-loop μ-loop
 loop3-holds c =
     let s = c .before .loop2 .inv in
-    let d = called (c .before) in (
+    let d = effected (c .before) in (
       retiring _ _,
-      omega (arith, s .0 .low, s .2, few-turns _ _ _ _ (d .called .result) (d .called .ensures)),
+      omega (arith, s .0 .low, s .2, few-turns _ _ _ _ (d .call-effect .result) (d .call-effect .ensures)),
     )
 
 loop-less-2 : tie.Need-loop-less-2 Inv-loop2 μ-loop2 Inv-loop3 μ-loop3 Inv-loop μ-loop
-loop-less-2 c = omega (arith, turning (entered (called (c .before .before .before) .before)) .loop-test .taken)
+loop-less-2 c = omega (arith, turning (entered (effected (c .before .before .before) .before)) .loop-test .taken)
 
 loop-again-2 : tie.Need-loop-again-2 Inv-loop2 μ-loop2 Inv-loop3 μ-loop3 Inv-loop μ-loop
 unfolding readPlace writePlace writePhase
 loop-again-2 c =
     let t = c .before .before .before in
-    let e = entered (called t .before) in
+    let e = entered (effected t .before) in
     let h = head e in
     let line =
     t .before .before .before .before .before .before .before .put-reply2 .ensures
-    ∙ ap (λ (q : Printed). inForm (begun h .args .form) (frameOf (party h) q)) (worded t) in
+    ∙ ap (λ (q : Printed). inForm (formOf (begun h .args .form)) (frameOf (party h) q)) (worded t) in
     let long = still (h .loop .slots) _ (effect t .woken) _ Phase.Holding _ (woken-slots t) in
     let last = retiring-end _ _ _ _ (c .before .loop3 .inv .0) (c .loop3-test .left) in (
-      turned _ _ _ _ _ _ _ _ _ _ (h .loop .inv .0) (turning e .loop-test .taken) _ _ _
+      responded _ _ _ _ _ _ _ _ _ (h .loop .inv .0) (turning e .loop-test .taken) _ _ _
           (answered e) line (done (c .before) _ last),
       long ∙ h .loop .inv .1,
     )
@@ -568,23 +555,23 @@ is-done-requires c κs = search needs
 loop-less-3 : tie.Need-loop-less-3 Inv-loop2 μ-loop2 Inv-loop3 μ-loop3 Inv-loop μ-loop
 loop-less-3 c =
     let t = c .before .before .before .before .before .before in
-    omega (arith, turning (entered (called t .before)) .loop-test .taken)
+    omega (arith, turning (entered (effected t .before)) .loop-test .taken)
 
 loop-again-3 : tie.Need-loop-again-3 Inv-loop2 μ-loop2 Inv-loop3 μ-loop3 Inv-loop μ-loop
 unfolding readPlace writePlace writePhase
 loop-again-3 c =
     let l = c .before .before .before .before in
     let t = c .before .before .before .before .before .before in
-    let e = entered (called t .before) in
+    let e = entered (effected t .before) in
     let h = head e in
     let line =
     t .before .before .before .before .before .before .before .put-reply2 .ensures
-    ∙ ap (λ (q : Printed). inForm (begun h .args .form) (frameOf (party h) q)) (worded t) in
+    ∙ ap (λ (q : Printed). inForm (formOf (begun h .args .form)) (frameOf (party h) q)) (worded t) in
     let long = still (h .loop .slots) _ (effect t .woken) _ Phase.Holding _ (woken-slots t) in
     let last =
     retiring-stop _ _ _ _ (l .loop3 .inv .0)
     (sym (c .before .is-done .ensures) ∙ not-true _ (c .if6 .taken)) in (
-      turned _ _ _ _ _ _ _ _ _ _ (h .loop .inv .0) (turning e .loop-test .taken) _ _ _
+      responded _ _ _ _ _ _ _ _ _ (h .loop .inv .0) (turning e .loop-test .taken) _ _ _
           (answered e) line (done l _ last),
       long ∙ h .loop .inv .1,
     )
@@ -629,12 +616,12 @@ returns c =
     let l = c .before .before in
     let a = begun l .args in
     let u = l .loop .inv .0 in
-    let e = ended _ _ _ _ _ _ _ _ _ _ u (c .before .loop-test .left) in
-    let f : SFits w32 (a .house .counter) = search needs in
-    let same = ap (counting (a .house)) (toZ-ofZ f) in (
-      ap (counting (hub l)) (same-counter (hub l) (u .reached)) ∙ e .0
-          ∙ ap (λ (h : Hub). after h (requestsIn (a .form) (a .count) (a .requests .now))) same,
-      e .1 ∙ ap (λ (h : Hub). replied (a .form) h (a .count) (a .requests .now) (a .out .now)) same,
+    let e = ended _ _ _ _ _ _ _ _ _ u (c .before .loop-test .left) in
+    let f : SFits w32 (a .hub .counter) = search needs in
+    let same = ap (counting (a .hub)) (toZ-ofZ f) in (
+      ap (counting (hub l)) (same-counter (hub l) (u .reachable)) ∙ e .0
+          ∙ ap (λ (h : Hub). after h (requestsIn (a .count) (a .requests .now))) same,
+      e .1 ∙ ap (λ (h : Hub). replied (formOf (a .form)) h (a .count) (a .requests .now) (a .out .now)) same,
     )
 
 pub answer-requests-spec : {M : Type 1} → statement M
@@ -647,27 +634,24 @@ answer-requests-spec =
     μ-loop3
     Inv-loop
     μ-loop
-    request-size-requires
     reply-size-requires
     loop-holds
     mul-from
     shared-slice-read-code
-    add-first
-    shared-slice-read-first
-    add-second
-    sub-second
-    shared-slice-read-second
+    add-party
+    shared-slice-read-party
     mul-at
     add-end
     add-i
-    at-door-requires
+    admit-requires
     sub-put-reply
     part-put-reply-start
     part-put-reply-end
+    plain-requires
     put-reply-requires
     loop-less
     loop-again
-    cast-party
+    cast-own
     mul-slot
     array-copy-out-slot
     ticket-requires
@@ -680,7 +664,7 @@ answer-requests-spec =
     mul-seen
     array-copy-out-seen
     is-full-requires
-    called-requires
+    call-effect-requires
     sub-put-reply-2
     part-put-reply-start-2
     part-put-reply-end-2

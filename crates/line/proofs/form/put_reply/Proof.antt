@@ -1,12 +1,13 @@
 -- `put_reply` meets its contract: in each form, what is written is that form's.
 use borrow.Author.Needs.{needs}
 use mathlib.Core.Path.{ap, _∙_}
-use Rattle.line.specs.Form.{replySize}
+use mathlib.Core.Bool.{Bool}
+use Rattle.line.specs.Form.{formOf, replySize}
 use Rattle.line.proofs.form.put_reply.Statement.{statement}
 use Rattle.line.proofs.form.put_reply.Tie as tie
 
 put-line-requires : tie.Need-put-line-requires
-put-line-requires c κs = c .before .before .before .pre ∙ ap replySize (c .before .if1 .taken)
+put-line-requires c κs = c .before .before .before .pre ∙ ap (λ (b : Bool). replySize (formOf b)) (c .before .if1 .taken)
 
 same-length : tie.Need-same-length
 same-length c = search needs
@@ -15,7 +16,7 @@ returns : tie.Need-returns
 returns c = rw (c .before .before .before .before .if1 .taken) (c .before .before .put-line .ensures)
 
 put-requires : tie.Need-put-requires
-put-requires c κs = c .before .before .before .pre ∙ ap replySize (c .before .if1 .left)
+put-requires c κs = c .before .before .before .pre ∙ ap (λ (b : Bool). replySize (formOf b)) (c .before .if1 .left)
 
 same-length-2 : tie.Need-same-length-2
 same-length-2 c = search needs

@@ -3,9 +3,10 @@ use borrow.Author.Needs.{needs}
 use Prim.Native.Nat.{ℕ, _≤_, _<_}
 use mathlib.Core.Path.{_≡_, sym, ap, _∙_, subst}
 use native.Mathlib.Omega.{arith}
-use Rattle.line.specs.Frame.{isCall}
+use Rattle.line.specs.Frame.{isCall, opOf, codeOf}
 use Rattle.line.specs.Hex.{byteOf}
-use Rattle.line.proofs.Laws.Codes.{under, over, a-code}
+use Rattle.line.specs.Requests.{headerOf}
+use Rattle.line.proofs.Laws.Codes.{under, over, a-code, code-back}
 use Rattle.line.proofs.Laws.Lines.{from, four-code, four-party, four}
 use Rattle.line.proofs.request.call_in.Statement.{statement}
 use Rattle.line.proofs.request.call_in.Tie as tie
@@ -21,7 +22,8 @@ returns c =
     let h = c .before .before in
     let s = h .before .before in
     c .malformed .ensures
-    ∙ four-code (s .args .line .now) (s .pre) (ap isCall (sym (h .hex-byte .ensures)) ∙ under _ (c .before .if1 .taken))
+    ∙ ap headerOf (four-code (s .args .line .now) (s .pre)
+    (ap isCall (sym (h .hex-byte .ensures)) ∙ under _ (c .before .if1 .taken)))
 
 malformed-requires-2 : tie.Need-malformed-requires-2
 malformed-requires-2 c κs = search needs
@@ -31,7 +33,8 @@ returns-2 c =
     let h = c .before .before .before in
     let s = h .before .before in
     c .malformed2 .ensures
-    ∙ four-code (s .args .line .now) (s .pre) (ap isCall (sym (h .hex-byte .ensures)) ∙ over _ (c .before .if2 .taken))
+    ∙ ap headerOf (four-code (s .args .line .now) (s .pre)
+    (ap isCall (sym (h .hex-byte .ensures)) ∙ over _ (c .before .if2 .taken)))
 
 sub-hex-byte : tie.Need-sub-hex-byte
 sub-hex-byte c = search needs
@@ -54,9 +57,9 @@ returns-3 c =
     let h = g .before .before .before .before in
     let s = h .before .before in
     c .malformed3 .ensures
-    ∙ four-party (s .args .line .now) (s .pre)
+    ∙ ap headerOf (four-party (s .args .line .now) (s .pre)
     (subst (λ (b : ℕ). 256 ≤ b) (g .hex-byte2 .ensures ∙ ap byteOf (from 2 (s .args .line .now)))
-    (c .before .if3 .taken))
+    (c .before .if3 .taken)))
 
 cast-t9 : tie.Need-cast-t9
 cast-t9 c = search needs
@@ -74,9 +77,9 @@ returns-4 c =
     let f = g .hex-byte2 .ensures ∙ ap byteOf (from 2 l) in
     let low = g .before .before .before .if1 .left in
     let high = g .before .before .if2 .left in
-    (λ i. record { code = e i; first = f i; second = 0 })
-    ∙ four l (s .pre) (ap isCall (sym e) ∙ a-code _ low high)
-    (subst (λ (b : ℕ). b < 256) e (omega arith)) (subst (λ (b : ℕ). b < 256) f (c .if3 .left))
+    (λ i. record { code = (sym (code-back _ low high) ∙ ap (λ (b : ℕ). codeOf (opOf b)) e) i; party = f i })
+    ∙ ap headerOf (four l (s .pre) (ap isCall (sym e) ∙ a-code _ low high)
+    (subst (λ (b : ℕ). b < 256) e (omega arith)) (subst (λ (b : ℕ). b < 256) f (c .if3 .left)))
 
 pub call-in-spec : {M : Type 1} → statement M
 call-in-spec =

@@ -1,0 +1,43 @@
+// What is answered before the table is asked: 12, 13 for an opening, 4.
+
+use line::request::OPENING;
+ghost use mathlib.Core.Path.{_≡_};
+ghost use Rattle.live.specs.Admission.{admissionOf, refused};
+
+pub struct Admission {
+    pub admitted: bool, // a call of a party that there is: the table answers it
+    pub party: u8,
+    pub code: u8,
+}
+
+fn refused(party: u8, code: u8) -> Admission
+    ensures { λ r. ⌜ r ≡ refused party code ⌝ }
+{
+    Admission {
+        admitted: false,
+        party,
+        code,
+    }
+}
+
+pub(crate) fn admit(code: u8, party: u8, parties: u8) -> Admission
+    ensures { λ r. ⌜ r ≡ admissionOf code party parties ⌝ }
+{
+    if code < 0x10 {
+        if code == OPENING {
+            return refused(0xFF, 13);
+        }
+        return refused(0xFF, 12);
+    }
+    if 0x13 < code {
+        return refused(0xFF, 12);
+    }
+    if parties <= party {
+        return refused(party, 4);
+    }
+    Admission {
+        admitted: true,
+        party,
+        code: 0,
+    }
+}
