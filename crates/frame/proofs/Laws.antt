@@ -6,5 +6,6 @@ pub mod Closing
 pub mod Written
 pub mod Schedules
 pub mod Sizes
+pub mod Opening
 pub mod Feeding
 pub mod Whole

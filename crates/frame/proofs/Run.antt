@@ -10,13 +10,14 @@ use Rattle.hub.specs.Fits.{look, counterFits, countsFit, ticketFits, partyFits,
 use Rattle.hub.specs.Opening.{fresh, openingIf}
 use Rattle.hub.specs.Calls.{checked, apply}
 use Rattle.line.specs.Hex.{digitOf}
-use Rattle.line.specs.Requests.{allDigits, bytesOf, requested, requestOf}
-use Rattle.line.specs.Program.{opens, calls, turn, repliesIn, after, linesFrom, outputOf}
+use Rattle.line.specs.Requests.{allDigits, bytesOf, openingIn, requested, requestOf}
+use Rattle.line.specs.Program.{whenOpen, beforeOpen, respond, replies, after, rendered, linesFrom}
+use Rattle.line.specs.Program.{outputOf}
 use Rattle.frame.specs.Run.{inDigits, inputs, outputs, RunHolds}
 
 pub run-holds : RunHolds
-unfolding RunHolds inDigits inputs outputs digitOf allDigits bytesOf requested requestOf
-    opens calls turn repliesIn after linesFrom outputOf checked apply fresh openingIf
+unfolding RunHolds inDigits inputs outputs digitOf allDigits bytesOf openingIn requested requestOf
+    whenOpen beforeOpen respond replies after rendered linesFrom outputOf checked apply fresh openingIf
     look counterFits countsFit ticketFits partyFits placeFits fits skip retire reclaimed
     step acquire cancel release decide isOneOf isPlace readPhase writePhase readPlace writePlace
     kindOf weight allFrom

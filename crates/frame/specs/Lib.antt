@@ -1,5 +1,6 @@
 -- A whole input, read in pieces.
 pub mod Reading
+pub mod Opening
 pub mod Session
 pub mod Whole
 pub mod Schedule

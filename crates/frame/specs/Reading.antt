@@ -1,20 +1,24 @@
 -- An input read character by character, as it comes in pieces.
-use Prim.Native.Nat.{ℕ, _+_, _*_}
-use mathlib.Core.Bool.{Bool, true, false, cond}
+use Prim.Native.Nat.{ℕ, suc, _+_, _*_}
+use mathlib.Core.Bool.{cond}
 use mathlib.Core.List.{List, [], _∷_, _++_}
 use lib.Dec.{eqb, ltb}
 use lib.ListN.{length, take, drop, set}
-use Rattle.line.specs.declared.request.Request.{Request}
-use Rattle.line.specs.Requests.{requestOf}
+use Rattle.line.specs.declared.request.Header.{Header}
+use Rattle.line.specs.Requests.{LONGEST, Request, requestOf, headerOf}
 use Rattle.frame.specs.declared.reader.Reader.{Reader}
 
--- What is read of the line so far. 65 characters are too many, and no more are kept.
+-- One character more than a line may have makes it too long, and no more are kept.
+abbrev pub KEPT : ℕ
+KEPT = suc LONGEST
+
+-- What is read of the line so far.
 abbrev pub lineIn : Reader → List ℕ
 lineIn r = take (r .len) (r .line)
 
 abbrev pub pushed : Reader → ℕ → Reader
 pushed r c =
-    cond (ltb (r .len) 65) (record { line = set (r .line) (r .len) c; len = r .len + 1 }) r
+    cond (ltb (r .len) KEPT) (record { line = set (r .line) (r .len) c; len = r .len + 1 }) r
 
 abbrev pub emptied : Reader → Reader
 emptied r = record { line = r .line; len = 0 }
@@ -34,14 +38,14 @@ asked r (c ∷ cs) =
     let rs = asked (next r c) cs in
     cond (eqb c 0x0A) (requestOf (lineIn r) ∷ rs) rs
 
--- A request as bytes.
-abbrev pub threeOf : Request → List ℕ
-threeOf r = r .code ∷ r .first ∷ r .second ∷ []
+-- Requests as bytes, two each.
+abbrev pub headerBytes : Header → List ℕ
+headerBytes h = h .code ∷ h .party ∷ []
 
 unfoldable pub requestBytes : List Request → List ℕ
 requestBytes [] = []
-requestBytes (r ∷ rs) = threeOf r ++ requestBytes rs
+requestBytes (r ∷ rs) = headerBytes (headerOf r) ++ requestBytes rs
 
 -- Requests, in front of what the buffer holds past them.
 abbrev pub written : List Request → List ℕ → List ℕ
-written rs out = requestBytes rs ++ drop (3 * length rs) out
+written rs out = requestBytes rs ++ drop (2 * length rs) out

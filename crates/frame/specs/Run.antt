@@ -7,13 +7,13 @@ use lib.Dec.{ltb}
 use Rattle.line.specs.Program.{outputOf}
 
 -- The character of a digit, said once more: the run does not lean on the program's own table.
-abbrev pub printed : ℕ → ℕ
-printed d = cond (ltb d 10) (0x30 + d) (0x37 + d)
+abbrev pub digitChar : ℕ → ℕ
+digitChar d = cond (ltb d 10) (0x30 + d) (0x37 + d)
 
 -- A number in so many hexadecimal digits.
 unfoldable pub inDigits : ℕ → ℕ → List ℕ
 inDigits zero x = []
-inDigits (suc n) x = inDigits n (x / 16) ++ (printed (x % 16) ∷ [])
+inDigits (suc n) x = inDigits n (x / 16) ++ (digitChar (x % 16) ∷ [])
 
 -- A line of input, of so many digits, and its answer.
 pub record Row : Type 0 where

@@ -5,17 +5,17 @@ use mathlib.Core.Bool.{cond}
 use mathlib.Core.List.{List, [], _∷_, _++_, map}
 use lib.Dec.{eqb}
 use lib.ListN.{length, replicate}
-use Rattle.line.specs.declared.request.Request.{Request}
-use Rattle.line.specs.Program.{unopened, replies, after, closing, linesOf, outputOf}
-use Rattle.line.specs.Requests.{requestOf}
-use Rattle.live.specs.Live.{Reached}
+use Rattle.line.specs.Form.{asText}
+use Rattle.line.specs.Program.{unopened, repliesIn, after, closing, linesOf, outputOf}
+use Rattle.line.specs.Requests.{Request, requestOf}
 use Rattle.frame.specs.declared.reader.Reader.{Reader}
 use Rattle.frame.specs.declared.session.Session.{Session}
-use Rattle.frame.specs.Reading.{lineIn, past, asked}
+use Rattle.frame.specs.Opening.{SessionHub}
+use Rattle.frame.specs.Reading.{KEPT, lineIn, past, asked}
 
 -- Before the first piece.
 abbrev pub atStart : Session
-atStart = record { hub = unopened; reader = record { line = replicate 65 0; len = 0 } }
+atStart = record { hub = unopened; reader = record { line = replicate KEPT 0; len = 0 } }
 
 -- Past a piece, and what is printed for it.
 unfoldable pub fed : Session → List ℕ → Session
@@ -23,7 +23,7 @@ fed s piece =
     record { hub = after (s .hub) (asked (s .reader) piece); reader = past (s .reader) piece }
 
 unfoldable pub told : Session → List ℕ → List ℕ
-told s piece = replies (s .hub) (asked (s .reader) piece)
+told s piece = repliesIn asText (s .hub) (asked (s .reader) piece)
 
 -- At the end of the input a line left without its end mark counts.
 abbrev pub rest : Reader → List Request
@@ -32,7 +32,7 @@ rest r = cond (eqb (r .len) 0) [] (requestOf (lineIn r) ∷ [])
 -- What is printed then: the answer to that line, and the closing line.
 unfoldable pub finished : Session → List ℕ
 finished s =
-    replies (s .hub) (rest (s .reader)) ++ closing (after (s .hub) (rest (s .reader)))
+    repliesIn asText (s .hub) (rest (s .reader)) ++ closing (after (s .hub) (rest (s .reader)))
 
 -- All that is printed for some pieces, and the input that they make.
 unfoldable pub toldAll : Session → List (List ℕ) → List ℕ
@@ -48,13 +48,13 @@ unfoldable pub InPieces : Type 0
 InPieces = (pieces : List (List ℕ)) → toldAll atStart pieces ≡ outputOf (joined pieces)
 
 -- What `feed` and `finish` ask of a session, and what every input leads to: a record that needs no
--- check, and at most 65 characters in a buffer of 65.
+-- check, and at most as many characters as the buffer has.
 pub record Sound (s : Session) : Type 0 where
-  pub reached : Reached (s .hub)
-  pub size : length (s .reader .line) ≡ 65
-  pub short : s .reader .len ≤ 65
+  pub hub : SessionHub (s .hub)
+  pub size : length (s .reader .line) ≡ KEPT
+  pub short : s .reader .len ≤ KEPT
 
 -- Every input, well formed or not, leads to a record that is not opened or that some schedule from
 -- an accepted opening leaves: one that the third demand speaks of.
 unfoldable pub EveryInput : Type 0
-EveryInput = (input : List ℕ) → Reached (after unopened (map requestOf (linesOf input)))
+EveryInput = (input : List ℕ) → SessionHub (after unopened (map requestOf (linesOf input)))

@@ -1,15 +1,19 @@
 // Lines out of pieces: a line may be cut anywhere.
 
-use line::request::Request;
-use line::request::read_line;
+use line::request::Header;
+use line::request::LONGEST;
+use line::request::read_header;
 ghost use mathlib.Core.Path.{_≡_};
 ghost use Prim.Native.Nat.{_*_, _≤_};
 ghost use lib.ListN.{length};
-ghost use Rattle.frame.specs.Reading.{asked, past, threeOf, written};
+ghost use Rattle.frame.specs.Reading.{KEPT, asked, headerBytes, past, written};
 
-// The line that is being read. A line of 65 characters is too long, so that no more are kept.
+// One character more than a line may have makes it too long, so that no more are kept.
+pub const KEPT: usize = LONGEST + 1;
+
+// The line that is being read.
 pub struct Reader {
-    pub line: [u8; 65],
+    pub line: [u8; KEPT],
     pub len: usize,
 }
 
@@ -19,19 +23,18 @@ pub struct Read {
     pub count: usize,
 }
 
-fn put_request(out: &mut [u8], r: Request)
-    requires { ⌜ length (now out) ≡ 3 ⌝ }
-    ensures { λ u. ⌜ now (out .exit) ≡ threeOf r ⌝ }
+fn put_header(out: &mut [u8], h: Header)
+    requires { ⌜ length (now out) ≡ 2 ⌝ }
+    ensures { λ r. ⌜ now (out .exit) ≡ headerBytes h ⌝ }
 {
-    out[0] = r.code;
-    out[1] = r.first;
-    out[2] = r.second;
+    out[0] = h.code;
+    out[1] = h.party;
 }
 
-// Reads a piece, and leaves what its lines ask, three bytes each.
+// Reads a piece, and leaves what its lines ask, two bytes each.
 pub(crate) fn read_piece(reader: Reader, piece: &[u8], requests: &mut [u8]) -> Read
-    requires { ⌜ reader .len ≤ 65 ⌝ }
-    requires { ⌜ 3 * length (now piece) ≤ length (now requests) ⌝ }
+    requires { ⌜ reader .len ≤ KEPT ⌝ }
+    requires { ⌜ 2 * length (asked reader (now piece)) ≤ length (now requests) ⌝ }
     ensures { λ r. ⌜ (r ≡ record {
       reader = past reader (now (piece .entry));
       count = length (asked reader (now (piece .entry)));
@@ -46,17 +49,17 @@ pub(crate) fn read_piece(reader: Reader, piece: &[u8], requests: &mut [u8]) -> R
         let c = piece[i];
         i += 1;
         if c != 0x0A {
-            if 65 <= len {
+            if KEPT <= len {
                 continue;
             }
             line[len] = c;
             len += 1;
             continue;
         }
-        let request = read_line(&line[0..len]);
-        let at = 3 * count;
-        let end = at + 3;
-        put_request(&mut requests[at..end], request);
+        let header = read_header(&line[0..len]);
+        let at = 2 * count;
+        let end = at + 2;
+        put_header(&mut requests[at..end], header);
         len = 0;
         count += 1;
     }

@@ -1,17 +1,21 @@
 // A run over an input that comes in pieces.
 
 use crate::closing::put_closing;
+use crate::opening::is_open;
+use crate::opening::until_open;
+use crate::reader::KEPT;
 use crate::reader::Reader;
 use crate::reader::read_piece;
 use hub::Hub;
 use line::form::TEXT;
-use line::request::read_line;
 use live::answer_requests;
 ghost use mathlib.Core.Path.{_≡_};
 ghost use mathlib.Core.List.{_++_};
 ghost use Prim.Native.Nat.{suc, _*_, _≤_};
 ghost use lib.ListN.{length, drop};
-ghost use Rattle.frame.specs.Reading.{asked, written};
+ghost use Rattle.live.specs.Live.{Reachable};
+ghost use Rattle.frame.specs.Opening.{askedOpen};
+ghost use Rattle.frame.specs.Reading.{KEPT, asked, written};
 ghost use Rattle.frame.specs.Session.{Sound, atStart, fed, finished, rest, told};
 
 // The record, and the line that is being read.
@@ -33,16 +37,18 @@ pub fn begin() -> Session
     Session {
         hub: Hub::open(0, 0),
         reader: Reader {
-            line: [0; 65],
+            line: [0; KEPT],
             len: 0,
         },
     }
 }
 
-// Answers the lines that end in a piece. What they ask is left in `requests`, three bytes each.
-pub fn feed(session: Session, piece: &[u8], requests: &mut [u8], out: &mut [u8]) -> Fed
-    requires { ⌜ Sound session ⌝ }
-    requires { ⌜ 3 * length (now piece) ≤ length (now requests) ⌝ }
+// Answers the lines that end in a piece, on a hub that is open. What they ask is left in `requests`,
+// two bytes each.
+fn feed_open(session: Session, piece: &[u8], requests: &mut [u8], out: &mut [u8]) -> Fed
+    requires { ⌜ Reachable (session .hub) ⌝ }
+    requires { ⌜ session .reader .len ≤ KEPT ⌝ }
+    requires { ⌜ 2 * length (asked (session .reader) (now piece)) ≤ length (now requests) ⌝ }
     requires { ⌜ 15 * length (asked (session .reader) (now piece)) ≤ length (now out) ⌝ }
     ensures { λ r. ⌜ (r ≡ record {
       session = fed session (now (piece .entry));
@@ -56,8 +62,8 @@ pub fn feed(session: Session, piece: &[u8], requests: &mut [u8], out: &mut [u8])
     let reader = session.reader;
     let read = read_piece(reader, piece, requests);
     let lines = read.count;
-    let house = session.hub;
-    let hub = answer_requests(house, requests, lines, TEXT, out);
+    let before = session.hub;
+    let hub = answer_requests(before, requests, lines, TEXT, out);
     let past = read.reader;
     Fed {
         session: Session { hub, reader: past },
@@ -65,7 +71,50 @@ pub fn feed(session: Session, piece: &[u8], requests: &mut [u8], out: &mut [u8])
     }
 }
 
-// Answers a line left without its end mark, and closes: one line is printed, or two.
+// Answers the lines that end in a piece. What they ask once a hub is open is left in `requests`.
+pub fn feed(session: Session, piece: &[u8], requests: &mut [u8], out: &mut [u8]) -> Fed
+    requires { ⌜ Sound session ⌝ }
+    requires { ⌜ 2 * length (now piece) ≤ length (now requests) ⌝ }
+    requires { ⌜ 15 * length (asked (session .reader) (now piece)) ≤ length (now out) ⌝ }
+    ensures { λ r. ⌜ (r ≡ record {
+      session = fed session (now (piece .entry));
+      lines = length (asked (session .reader) (now (piece .entry)));
+    })
+        × (now (requests .exit)
+        ≡ written (askedOpen (session .hub) (session .reader) (now (piece .entry)))
+        (now (requests .entry)))
+        × (now (out .exit) ≡ told session (now (piece .entry))
+        ++ drop (15 * length (asked (session .reader) (now (piece .entry)))) (now (out .entry))) ⌝ }
+{
+    let hub = session.hub;
+    let reader = session.reader;
+    let begun = until_open(hub, reader, piece, out);
+    let lines = begun.lines;
+    let opened = begun.hub;
+    let current = begun.reader;
+    let early = Session {
+        hub: opened,
+        reader: current,
+    };
+    if !is_open(opened) {
+        return Fed {
+            session: early,
+            lines,
+        };
+    }
+    let from = begun.read;
+    let at = 15 * lines;
+    let end = out.len();
+    let rest = feed_open(early, &piece[from..], requests, &mut out[at..end]);
+    let past = rest.session;
+    Fed {
+        session: past,
+        lines: lines + rest.lines,
+    }
+}
+
+// Answers a line left without its end mark, as if it had one, and closes: one line is printed, or
+// two.
 pub fn finish(session: Session, out: &mut [u8]) -> usize
     requires { ⌜ Sound session ⌝ }
     requires { ⌜ 15 * suc (length (rest (session .reader))) ≤ length (now out) ⌝ }
@@ -73,17 +122,16 @@ pub fn finish(session: Session, out: &mut [u8]) -> usize
         × (now (out .exit) ≡ finished session
         ++ drop (15 * suc (length (rest (session .reader)))) (now (out .entry))) ⌝ }
 {
-    let reader = session.reader;
-    let house = session.hub;
-    let len = reader.len;
+    let len = session.reader.len;
     if len == 0 {
-        put_closing(house, &mut out[0..15]);
+        let hub = session.hub;
+        put_closing(hub, &mut out[0..15]);
         return 1;
     }
-    let line = reader.line;
-    let asks = read_line(&line[0..len]);
-    let request = [asks.code, asks.first, asks.second];
-    let hub = answer_requests(house, &request, 1, TEXT, out);
+    let mut requests = [0u8; 2];
+    let last = feed(session, b"\n", &mut requests, &mut out[0..15]);
+    let past = last.session;
+    let hub = past.hub;
     put_closing(hub, &mut out[15..30]);
     2
 }

@@ -45,7 +45,7 @@ fn piece_end(from: usize, len: usize) -> usize
 
 // What the lines of a piece ask goes to `requests`, which nobody reads afterwards.
 fn write_output(input: &[u8], requests: &mut [u8], out: &mut [u8])
-    requires { ⌜ 12288 ≤ length (now requests) ⌝ }
+    requires { ⌜ 8192 ≤ length (now requests) ⌝ }
     requires { ⌜ length (outputOf (now input)) ≤ length (now out) ⌝ }
     ensures { λ r. ⌜ now (out .exit)
         ≡ outputOf (now (input .entry)) ++ drop (length (outputOf (now (input .entry)))) (now (out .entry)) ⌝ }
@@ -77,7 +77,7 @@ pub fn answer_input(input: &[u8], out: &mut [u8]) -> usize
     if out.len() / 15 <= lines {
         return 0;
     }
-    let mut requests = [0u8; 12288];
+    let mut requests = [0u8; 8192];
     write_output(input, &mut requests, out);
     15 * (lines + 1)
 }

@@ -70,7 +70,7 @@ fn is_opening(line: &[u8]) -> bool
     true
 }
 
-// What a line asks for that is an opening.
+// What a line that is an opening asks for.
 pub fn read_opening(line: &[u8]) -> Opening
     requires { ⌜ isOpening (requestOf (now line)) ≡ true ⌝ }
     ensures { λ r. ⌜ toOpen r ≡ requestOf (now (line .entry)) ⌝ }

@@ -1,5 +1,5 @@
 -- Laws that the loop's proof cites.
-pub mod Admitted
+pub mod Admission
 pub mod Reachable
 pub mod Answered
 pub mod Responses

@@ -1,11 +1,13 @@
 -- A list of calls as bytes, and the answers to it.
 use Prim.Native.Nat.{ℕ}
 use mathlib.Core.Bool.{Bool, true, false, _&&_}
-use mathlib.Core.List.{List, [], _∷_, _++_}
+use mathlib.Core.List.{List, [], _∷_, map}
 use Rattle.hub.specs.declared.moves.Call.{Call}
 use Rattle.hub.specs.declared.record.Hub.{Hub}
-use Rattle.hub.specs.Schedule.{Entry, entries}
-use Rattle.line.specs.Frame.{isCall, opOf, frameOf}
+use Rattle.hub.specs.Schedule.{entries}
+use Rattle.line.specs.Form.{asBytes}
+use Rattle.line.specs.Frame.{isCall, opOf}
+use Rattle.line.specs.Program.{replyOf, rendered}
 
 unfoldable pub wellFormed : List ℕ → Bool
 wellFormed [] = true
@@ -17,10 +19,6 @@ callsOf [] = []
 callsOf (c ∷ []) = []
 callsOf (c ∷ p ∷ l) = record { op = opOf c; party = p } ∷ callsOf l
 
-unfoldable pub frames : List Entry → List ℕ
-frames [] = []
-frames (e ∷ es) = frameOf (e .call .party) (e .answer) ++ frames es
-
 -- The answers to a schedule.
 abbrev pub framesOf : Hub → List Call → List ℕ
-framesOf h cs = frames (entries h cs)
+framesOf h cs = rendered asBytes (map replyOf (entries h cs))

@@ -30,7 +30,7 @@ fn print(out: &[u8], lines: usize) -> bool {
 // Reads once, answers the lines that end in what came, and writes the answers.
 fn take_piece(session: Session, piece: &mut [u8], requests: &mut [u8], out: &mut [u8]) -> Taken
     requires { ⌜ Sound session ⌝ }
-    requires { ⌜ 3 * length (now piece) ≤ length (now requests) ⌝ }
+    requires { ⌜ 2 * length (now piece) ≤ length (now requests) ⌝ }
     requires { ⌜ 15 * length (now piece) ≤ length (now out) ⌝ }
     ensures { λ r. ⌜ Sound (r .session) ⌝ }
 {
@@ -72,7 +72,7 @@ fn close(session: Session)
 // Piece after piece. A proved loop has to end, so they are counted down from a number that no
 // input uses up.
 fn take_all(piece: &mut [u8], requests: &mut [u8], out: &mut [u8]) -> Taken
-    requires { ⌜ 3 * length (now piece) ≤ length (now requests) ⌝ }
+    requires { ⌜ 2 * length (now piece) ≤ length (now requests) ⌝ }
     requires { ⌜ 15 * length (now piece) ≤ length (now out) ⌝ }
     ensures { λ r. ⌜ Sound (r .session) ⌝ }
 {
@@ -97,7 +97,7 @@ fn take_all(piece: &mut [u8], requests: &mut [u8], out: &mut [u8]) -> Taken
 // Where reading or writing fails the closing line is left out: what was printed is not whole.
 fn main() {
     let mut piece = [0u8; 4096];
-    let mut requests = [0u8; 12288];
+    let mut requests = [0u8; 8192];
     let mut out = [0u8; 61440];
     let taken = take_all(&mut piece, &mut requests, &mut out);
     if taken.whole {

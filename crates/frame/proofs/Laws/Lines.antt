@@ -9,58 +9,57 @@ use lib.Dec.{eqb, ltb}
 use lib.ListN.{length, take, set, length-append, length-set}
 use lib.Seq.{take-all, take-append-le, take-suc-set, length-take-le}
 use Rattle.hub.proofs.Laws.Bools.{if-true, if-false}
-use Rattle.line.specs.declared.request.Request.{Request}
 use Rattle.line.specs.Program.{leftOver, linesFrom}
-use Rattle.line.specs.Requests.{malformed, requestOf}
+use Rattle.line.specs.Requests.{LONGEST, Request, malformed, requestOf}
 use Rattle.frame.specs.declared.reader.Reader.{Reader}
-use Rattle.frame.specs.Reading.{lineIn, pushed, emptied, next, past, asked}
+use Rattle.frame.specs.Reading.{KEPT, lineIn, pushed, emptied, next, past, asked}
 use Rattle.frame.specs.Session.{rest}
 
--- A reader that keeps line l, or its first 65 characters.
+-- A reader that keeps line l, or as many of its characters as it has room for.
 pub record Keeps (r : Reader) (l : List ℕ) : Type 0 where
-  pub size : length (r .line) ≡ 65
-  pub short : r .len ≤ 65
-  pub same : lineIn r ≡ take 65 l
+  pub size : length (r .line) ≡ KEPT
+  pub short : r .len ≤ KEPT
+  pub same : lineIn r ≡ take KEPT l
 
--- 65 characters ask what the whole line does: nothing.
-too-long : (l : List ℕ) → 64 < length l → requestOf l ≡ malformed
+-- They ask what the whole line does: nothing, if it is too long.
+too-long : (l : List ℕ) → LONGEST < length l → requestOf l ≡ malformed
 unfolding requestOf
-too-long l m = rw (lt-ltb 64 (length l) m)
+too-long l m = rw (lt-ltb LONGEST (length l) m)
 
-clipped : (l : List ℕ) → requestOf (take 65 l) ≡ requestOf l
-clipped l = go (ltb 65 (length l)) refl
+clipped : (l : List ℕ) → requestOf (take KEPT l) ≡ requestOf l
+clipped l = go (ltb KEPT (length l)) refl
   where
-    go : (b : Bool) → ltb 65 (length l) ≡ b → requestOf (take 65 l) ≡ requestOf l
+    go : (b : Bool) → ltb KEPT (length l) ≡ b → requestOf (take KEPT l) ≡ requestOf l
     go true e =
-        let m = ltb-true 65 (length l) e in
-        too-long (take 65 l) (omega (arith, length-take-le 65 l (omega arith)))
+        let m = ltb-true KEPT (length l) e in
+        too-long (take KEPT l) (omega (arith, length-take-le KEPT l (omega arith)))
         ∙ sym (too-long l (omega arith))
-    go false e = ap requestOf (take-all 65 l (ltb-false 65 (length l) e))
+    go false e = ap requestOf (take-all KEPT l (ltb-false KEPT (length l) e))
 
 module _ (r : Reader) (l : List ℕ) (k : Keeps r l) where
-  kept-length : length (take 65 l) ≡ r .len
+  kept-length : length (take KEPT l) ≡ r .len
   kept-length =
       ap length (sym (k .same))
       ∙ length-take-le (r .len) (r .line) (omega (arith, k .short, k .size))
 
-  -- A reader with room keeps the whole line; a full one has 65 characters of it.
-  whole : r .len < 65 → length l < 65
-  whole m = go (ltb (length l) 65) refl
+  -- A reader with room keeps the whole line; a full one has a line too long.
+  whole : r .len < KEPT → length l < KEPT
+  whole m = go (ltb (length l) KEPT) refl
     where
-      go : (b : Bool) → ltb (length l) 65 ≡ b → length l < 65
-      go true e = ltb-true (length l) 65 e
+      go : (b : Bool) → ltb (length l) KEPT ≡ b → length l < KEPT
+      go true e = ltb-true (length l) KEPT e
       go false e =
           absurd
-          (omega (arith, kept-length, length-take-le 65 l (ltb-false (length l) 65 e)))
+          (omega (arith, kept-length, length-take-le KEPT l (ltb-false (length l) KEPT e)))
 
-  cut : 65 ≤ r .len → 65 ≤ length l
-  cut m = go (ltb (length l) 65) refl
+  cut : KEPT ≤ r .len → KEPT ≤ length l
+  cut m = go (ltb (length l) KEPT) refl
     where
-      go : (b : Bool) → ltb (length l) 65 ≡ b → 65 ≤ length l
+      go : (b : Bool) → ltb (length l) KEPT ≡ b → KEPT ≤ length l
       go true e =
-          let n = ltb-true (length l) 65 e in
-          absurd (omega (arith, kept-length, ap length (take-all 65 l (omega arith))))
-      go false e = ltb-false (length l) 65 e
+          let n = ltb-true (length l) KEPT e in
+          absurd (omega (arith, kept-length, ap length (take-all KEPT l (omega arith))))
+      go false e = ltb-false (length l) KEPT e
 
   request-kept : requestOf (lineIn r) ≡ requestOf l
   request-kept = ap requestOf (k .same) ∙ clipped l
@@ -72,13 +71,13 @@ module _ (r : Reader) (l : List ℕ) (k : Keeps r l) where
   one n = omega arith
 
   pushed-keeps : (c : ℕ) → Keeps (pushed r c) (l ++ (c ∷ []))
-  pushed-keeps c = go (ltb (r .len) 65) refl
+  pushed-keeps c = go (ltb (r .len) KEPT) refl
     where
-      go : (b : Bool) → ltb (r .len) 65 ≡ b → Keeps (pushed r c) (l ++ (c ∷ []))
+      go : (b : Bool) → ltb (r .len) KEPT ≡ b → Keeps (pushed r c) (l ++ (c ∷ []))
       go true e =
-          let m = ltb-true (r .len) 65 e in
+          let m = ltb-true (r .len) KEPT e in
           subst (λ (q : Reader). Keeps q (l ++ (c ∷ [])))
-          (sym (if-true (ltb (r .len) 65) _ r e))
+          (sym (if-true (ltb (r .len) KEPT) _ r e))
           (record {
             size = length-set (r .line) (r .len) c ∙ k .size;
             short = omega arith;
@@ -86,18 +85,18 @@ module _ (r : Reader) (l : List ℕ) (k : Keeps r l) where
                 ap (λ (n : ℕ). take n (set (r .line) (r .len) c)) (one (r .len))
                 ∙ take-suc-set (r .line) (r .len) c (omega (arith, k .size))
                 ∙ ap (λ (x : List ℕ). x ++ (c ∷ []))
-                (k .same ∙ take-all 65 l (omega (arith, whole m)))
+                (k .same ∙ take-all KEPT l (omega (arith, whole m)))
                 ∙ sym
-                (take-all 65 (l ++ (c ∷ [])) (simp length-append (omega (arith, whole m))));
+                (take-all KEPT (l ++ (c ∷ [])) (simp length-append (omega (arith, whole m))));
           })
       go false e =
-          let m = ltb-false (r .len) 65 e in
+          let m = ltb-false (r .len) KEPT e in
           subst (λ (q : Reader). Keeps q (l ++ (c ∷ [])))
-          (sym (if-false (ltb (r .len) 65) _ r e))
+          (sym (if-false (ltb (r .len) KEPT) _ r e))
           (record {
             size = k .size;
             short = k .short;
-            same = k .same ∙ sym (take-append-le 65 l (c ∷ []) (cut m));
+            same = k .same ∙ sym (take-append-le KEPT l (c ∷ []) (cut m));
           })
 
 -- A line left without its end mark.

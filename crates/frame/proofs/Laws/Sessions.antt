@@ -7,40 +7,43 @@ use native.Mathlib.Omega.{arith}
 use lib.Dec.{eqb}
 use lib.ListN.{length-replicate}
 use Rattle.hub.specs.declared.record.Hub.{Hub}
-use Rattle.line.specs.declared.request.Request.{Request}
-use Rattle.line.specs.Frame.{frameOf}
-use Rattle.line.specs.Hex.{textOf}
-use Rattle.line.specs.Program.{turn, repliesIn, replies, after, closing, linesOf, outputOf}
-use Rattle.line.specs.Requests.{requestOf}
+use Rattle.line.specs.Form.{asText}
+use Rattle.line.specs.Program.{respond, replies, after, replyIn, rendered, repliesIn}
+use Rattle.line.specs.Program.{closing, linesOf, outputOf}
+use Rattle.line.specs.Requests.{Request, requestOf}
 use Rattle.frame.specs.declared.reader.Reader.{Reader}
 use Rattle.frame.specs.declared.session.Session.{Session}
-use Rattle.frame.specs.Reading.{lineIn, next, past, asked}
+use Rattle.frame.specs.Reading.{KEPT, lineIn, next, past, asked}
 use Rattle.frame.specs.Session.{atStart, fed, told, rest, finished, toldAll, joined, InPieces}
 use Rattle.frame.proofs.Laws.Lines.{lines-read}
 
+-- What is printed for some requests.
+abbrev pub lines : Hub → List Request → List ℕ
+lines = repliesIn asText
+
 -- Requests in two parts.
 pub replies-append : (rs qs : List Request) (h : Hub)
-    → replies h (rs ++ qs) ≡ replies h rs ++ replies (after h rs) qs
-unfolding repliesIn after
+    → lines h (rs ++ qs) ≡ lines h rs ++ lines (after h rs) qs
+unfolding replies rendered after
 replies-append [] qs h = refl
 replies-append (r ∷ rs) qs h =
-    let t = turn h r in
-    let text = textOf (frameOf (t .party) (t .answer)) in
+    let t = respond h r in
+    let text = replyIn asText (t .reply) in
     ap (λ (l : List ℕ). text ++ l) (replies-append rs qs (t .hub))
-    ∙ sym (append-assoc text (replies (t .hub) rs) (replies (after (t .hub) rs) qs))
+    ∙ sym (append-assoc text (lines (t .hub) rs) (lines (after (t .hub) rs) qs))
 
 pub after-append : (rs qs : List Request) (h : Hub) → after h (rs ++ qs) ≡ after (after h rs) qs
 unfolding after
 after-append [] qs h = refl
-after-append (r ∷ rs) qs h = after-append rs qs (turn h r .hub)
+after-append (r ∷ rs) qs h = after-append rs qs (respond h r .hub)
 
 -- An input in two parts.
-past-append : (a b : List ℕ) (r : Reader) → past r (a ++ b) ≡ past (past r a) b
+pub past-append : (a b : List ℕ) (r : Reader) → past r (a ++ b) ≡ past (past r a) b
 unfolding past
 past-append [] b r = refl
 past-append (c ∷ a) b r = past-append a b (next r c)
 
-asked-append : (a b : List ℕ) (r : Reader) → asked r (a ++ b) ≡ asked r a ++ asked (past r a) b
+pub asked-append : (a b : List ℕ) (r : Reader) → asked r (a ++ b) ≡ asked r a ++ asked (past r a) b
 unfolding past asked
 asked-append [] b r = refl
 asked-append (c ∷ a) b r = go (eqb c 0x0A) (asked-append a b (next r c))
@@ -56,7 +59,7 @@ asked-append (c ∷ a) b r = go (eqb c 0x0A) (asked-append a b (next r c))
 abbrev pub wholly : Session → List ℕ → List ℕ
 wholly s input = told s input ++ finished (fed s input)
 
-fed-append : (s : Session) (a b : List ℕ) → fed s (a ++ b) ≡ fed (fed s a) b
+pub fed-append : (s : Session) (a b : List ℕ) → fed s (a ++ b) ≡ fed (fed s a) b
 unfolding fed
 fed-append s a b =
     (λ i. record {
@@ -66,14 +69,14 @@ fed-append s a b =
       reader = past-append a b (s .reader) i;
     })
 
-told-append : (s : Session) (a b : List ℕ) → told s (a ++ b) ≡ told s a ++ told (fed s a) b
+pub told-append : (s : Session) (a b : List ℕ) → told s (a ++ b) ≡ told s a ++ told (fed s a) b
 unfolding told fed
 told-append s a b =
-    ap (replies (s .hub)) (asked-append a b (s .reader))
+    ap (lines (s .hub)) (asked-append a b (s .reader))
     ∙ replies-append (asked (s .reader) a) (asked (past (s .reader) a) b) (s .hub)
 
 pub one-piece : (s : Session) → finished s ≡ wholly s []
-unfolding told fed repliesIn asked past after
+unfolding told fed replies rendered asked past after
 one-piece s = refl
 
 pub wholly-append : (s : Session) (a b : List ℕ) → wholly s (a ++ b) ≡ told s a ++ wholly (fed s a) b
@@ -98,10 +101,10 @@ in-one input =
     let qs = rest (past r input) in
     let e : rs ++ qs ≡ map requestOf (linesOf input) =
     lines-read input r []
-    (record { size = length-replicate {A = ℕ} 65 0; short = omega arith; same = refl }) in
-    sym (append-assoc (replies h rs) (replies (after h rs) qs) (closing (after (after h rs) qs)))
+    (record { size = length-replicate {A = ℕ} KEPT 0; short = omega arith; same = refl }) in
+    sym (append-assoc (lines h rs) (lines (after h rs) qs) (closing (after (after h rs) qs)))
     ∙ (λ i. sym (replies-append rs qs h) i ++ closing (sym (after-append rs qs h) i))
-    ∙ ap (λ (l : List Request). replies h l ++ closing (after h l)) e
+    ∙ ap (λ (l : List Request). lines h l ++ closing (after h l)) e
 
 pub in-pieces : InPieces
 unfolding InPieces

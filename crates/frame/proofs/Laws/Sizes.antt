@@ -11,23 +11,23 @@ use lib.ListN.{take-append-drop}
 use lib.Seq.{drop-cons}
 use Rattle.hub.specs.declared.record.Hub.{Hub}
 use Rattle.hub.proofs.Laws.Bools.{if-true, if-false}
-use Rattle.line.specs.declared.request.Request.{Request}
-use Rattle.line.specs.Program.{turn, repliesIn, replies, after, closing, linesFrom, linesOf, outputOf}
-use Rattle.line.specs.Program.{unopened}
-use Rattle.line.specs.Requests.{requestOf}
+use Rattle.line.specs.Form.{asText}
+use Rattle.line.specs.Program.{unopened, respond, replies, after, rendered, repliesIn, closing}
+use Rattle.line.specs.Program.{linesFrom, linesOf, outputOf}
+use Rattle.line.specs.Requests.{Request, requestOf}
 use Rattle.frame.specs.declared.reader.Reader.{Reader}
 use Rattle.frame.specs.Reading.{next, past, asked}
 
-pub replies-size : (rs : List Request) (h : Hub) → length (replies h rs) ≡ 15 * length rs
-unfolding repliesIn
+pub replies-size : (rs : List Request) (h : Hub) → length (repliesIn asText h rs) ≡ 15 * length rs
+unfolding replies rendered
 replies-size [] h = refl
-replies-size (r ∷ rs) h = omega (arith, replies-size rs (turn h r .hub))
+replies-size (r ∷ rs) h = omega (arith, replies-size rs (respond h r .hub))
 
 pub output-size : (input : List ℕ) → length (outputOf input) ≡ 15 * (length (linesOf input) + 1)
 unfolding outputOf
 output-size input =
     let rs = map requestOf (linesOf input) in
-    length-append (replies unopened rs) (closing (after unopened rs))
+    length-append (repliesIn asText unopened rs) (closing (after unopened rs))
     ∙ omega (arith, replies-size rs unopened, length-map (linesOf input) requestOf)
 
 -- A piece has at least as many characters as lines that end in it.

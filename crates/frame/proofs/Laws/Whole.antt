@@ -9,27 +9,23 @@ use borrow.Rule.Slice.PartMut.{putMid, post-is}
 use lib.ListN.{length, take, drop, length-append, length-drop, length-map, take-append-drop}
 use lib.ListN.{drop-of-length-le}
 use lib.Seq.{drop-drop, take-at, drop-at, take-all, length-take-le}
-use Rattle.line.specs.declared.request.Request.{Request}
-use Rattle.line.specs.Program.{replies, after, closing, linesOf, outputOf}
-use Rattle.line.specs.Requests.{requestOf}
+use Rattle.line.specs.Program.{after, closing, linesOf, outputOf}
 use Rattle.frame.specs.declared.session.Fed.{Fed}
 use Rattle.frame.specs.declared.session.Session.{Session}
+use Rattle.frame.specs.Opening.{askedOpen}
 use Rattle.frame.specs.Reading.{past, asked}
 use Rattle.frame.specs.Session.{atStart, fed, told, rest, finished, Sound}
 use Rattle.frame.specs.Whole.{hasRoom, size, filled}
 use Rattle.hub.proofs.Laws.Bools.{if-true, if-false}
-use Rattle.frame.proofs.Laws.Feeding.{start-sound, fed-sound}
-use Rattle.frame.proofs.Laws.Sessions.{wholly, in-one, wholly-append, one-piece}
+use Rattle.frame.proofs.Laws.Feeding.{start-sound, fed-sound, asked-count, told-size}
+use Rattle.frame.proofs.Laws.Feeding.{tail-put, tail-size}
+use Rattle.frame.proofs.Laws.Sessions.{lines, wholly, in-one, wholly-append, one-piece}
 use Rattle.frame.proofs.Laws.Sizes.{replies-size, output-size, asked-few}
-
-told-size : (s : Session) (piece : List ℕ) → length (told s piece) ≡ 15 * length (asked (s .reader) piece)
-unfolding told
-told-size s piece = replies-size (asked (s .reader) piece) (s .hub)
 
 pub finished-size : (s : Session) → length (finished s) ≡ 15 * suc (length (rest (s .reader)))
 unfolding finished
 finished-size s =
-    length-append (replies (s .hub) (rest (s .reader))) (closing (after (s .hub) (rest (s .reader))))
+    length-append (lines (s .hub) (rest (s .reader))) (closing (after (s .hub) (rest (s .reader))))
     ∙ omega (arith, replies-size (rest (s .reader)) (s .hub))
 
 -- What is printed, in front of what the buffer holds past it.
@@ -41,18 +37,6 @@ over-append a b out =
     append-assoc a b (drop (length (a ++ b)) out)
     ∙ ap (λ (l : List ℕ). a ++ (b ++ l))
     (ap (λ (n : ℕ). drop n out) (length-append a b) ∙ sym (drop-drop (length b) (length a) out))
-
--- A buffer whose part from `at` to its end is another.
-module _ (out part : List ℕ) (at end : ℕ) (l : at ≤ length out) (m : length out ≡ end)
-    (e : length part ≡ end - at) where
-  pub tail-put : putMid at (end - at) out part ≡ take at out ++ part
-  tail-put =
-      ap (λ (r : List ℕ). take at out ++ (part ++ r))
-      (post-is at end out (omega arith) ∙ drop-of-length-le out {i = end} (omega arith))
-      ∙ ap (λ (r : List ℕ). take at out ++ r) (append-nil part)
-
-  pub tail-size : length (take at out ++ part) ≡ length out
-  tail-size = length-append (take at out) part ∙ omega (arith, e, length-take-le at out l)
 
 -- With n lines printed and `from` characters read.
 pub record Printing (input out₀ : List ℕ) (s : Session) (out : List ℕ) (n from : ℕ) : Type 0 where
@@ -97,16 +81,16 @@ module _ (input out₀ : List ℕ) (s : Session) (out : List ℕ) (n from : ℕ)
     k = length (asked (s .reader) piece)
 
     -- A piece is short, so that what it asks has room.
-    module _ (m : ℕ) (short : to - from ≤ 4096) (l : 12288 ≤ m) where
-      pub piece-fits : 3 * length piece ≤ m
+    module _ (m : ℕ) (short : to - from ≤ 4096) (l : 8192 ≤ m) where
+      pub piece-fits : 2 * length piece ≤ m
       piece-fits =
           omega (
             arith,
             length-take-le (to - from) (drop from input) (simp length-drop (omega arith)),
           )
 
-      pub asked-fits : 3 * k ≤ m
-      asked-fits = omega (arith, piece-fits, asked-few piece (s .reader))
+      pub asked-fits : 2 * length (askedOpen (s .hub) (s .reader) piece) ≤ m
+      asked-fits = omega (arith, piece-fits, asked-few piece (s .reader), asked-count s piece)
 
     cut : wholly s (drop from input) ≡ told s piece ++ wholly (fed s piece) (drop to input)
     cut =

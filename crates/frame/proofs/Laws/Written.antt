@@ -6,16 +6,17 @@ use mathlib.Core.List.{List, [], _∷_, _++_, append-assoc, append-nil}
 use native.Mathlib.Omega.{arith}
 use borrow.Author.Tests.{eqb-true, eqb-false, not-true}
 use lib.Dec.{eqb}
+use Rattle.hub.specs.declared.moves.Call.{Call}
 use Rattle.hub.specs.declared.moves.Op.{Op}
 use Rattle.hub.specs.Basics.{allFrom}
 use Rattle.hub.proofs.Laws.Bools.{first, second, if-true, if-false}
-use Rattle.line.specs.declared.request.Request.{Request}
-use Rattle.line.specs.Frame.{isCall, opOf}
+use Rattle.line.specs.declared.request.Opening.{Opening}
+use Rattle.line.specs.Frame.{isCall, opOf, codeOf}
 use Rattle.line.specs.Hex.{digitOf, spelled, byteOf, charOf, hexOf, textOf}
 use Rattle.line.specs.Program.{linesFrom}
-use Rattle.line.specs.Requests.{requestOf}
+use Rattle.line.specs.Requests.{toOpen, toCall, requestOf}
+use Rattle.line.proofs.Laws.Codes.{is-call, op-back}
 use Rattle.line.proofs.Laws.Lines.{four, six, byte-both}
-use Rattle.frame.specs.Schedule.{codeOf}
 
 -- What holds of all the numbers in a row holds of each.
 one-of : (f : ℕ → Bool) (n i j : ℕ) → allFrom f i n ≡ true → i ≤ j → j < i + n → f j ≡ true
@@ -85,19 +86,6 @@ spelled-back b l m =
     whole : (b : ℕ) → b < 256 → 16 * (b / 16 % 16) + b % 16 ≡ b
     whole b m = omega arith
 
--- The codes of the calls.
-pub is-call : (o : Op) → isCall (codeOf o) ≡ true
-is-call Op.Acquire = refl
-is-call Op.Step = refl
-is-call Op.Cancel = refl
-is-call Op.Release = refl
-
-pub op-back : (o : Op) → opOf (codeOf o) ≡ o
-op-back Op.Acquire = refl
-op-back Op.Step = refl
-op-back Op.Cancel = refl
-op-back Op.Release = refl
-
 code-byte : (o : Op) → codeOf o < 256
 code-byte Op.Acquire = omega arith
 code-byte Op.Step = omega arith
@@ -108,22 +96,24 @@ is-byte : {a b : ℕ} → a ≡ b → b < 256 → a < 256
 is-byte e m = omega (arith, e)
 
 -- A line asks what it was written for.
-pub call-back : (o : Op) (p : ℕ) → p < 256
-    → requestOf (hexOf (codeOf o ∷ p ∷ [])) ≡ record { code = codeOf o; first = p; second = 0 }
-call-back o p m =
-    let e = spelled-back (codeOf o) (hexOf (p ∷ [])) (code-byte o) in
-    let f = spelled-back p [] m in
+pub call-back : (c : Call) → c .party < 256
+    → requestOf (hexOf (codeOf (c .op) ∷ c .party ∷ [])) ≡ toCall c
+call-back c m =
+    let o = c .op in
+    let e = spelled-back (codeOf o) (hexOf (c .party ∷ [])) (code-byte o) in
+    let f = spelled-back (c .party) [] m in
     sym
-    (four (hexOf (codeOf o ∷ p ∷ [])) refl (ap isCall e ∙ is-call o) (is-byte e (code-byte o))
+    (four (hexOf (codeOf o ∷ c .party ∷ [])) refl (ap isCall e ∙ is-call o) (is-byte e (code-byte o))
     (is-byte f m))
-    ∙ (λ i. record { code = e i; first = f i; second = 0 })
+    ∙ (λ i. toCall (record { op = (ap opOf e ∙ op-back o) i; party = f i }))
 
-pub opening-back : (k n : ℕ) → k < 256 → n < 256
-    → requestOf (hexOf (0x01 ∷ k ∷ n ∷ [])) ≡ record { code = 1; first = k; second = n }
-opening-back k n l m =
-    let e = spelled-back k (hexOf (n ∷ [])) l in
-    let f = spelled-back n [] m in
+pub opening-back : (o : Opening) → o .permits < 256 → o .parties < 256
+    → requestOf (hexOf (0x01 ∷ o .permits ∷ o .parties ∷ [])) ≡ toOpen o
+opening-back o l m =
+    let e = spelled-back (o .permits) (hexOf (o .parties ∷ [])) l in
+    let f = spelled-back (o .parties) [] m in
     sym
-    (six (hexOf (0x01 ∷ k ∷ n ∷ [])) refl
-    (spelled-back 0x01 (hexOf (k ∷ n ∷ [])) (omega arith)) (is-byte e l) (is-byte f m))
-    ∙ (λ i. record { code = 1; first = e i; second = f i })
+    (six (hexOf (0x01 ∷ o .permits ∷ o .parties ∷ [])) refl
+    (spelled-back 0x01 (hexOf (o .permits ∷ o .parties ∷ [])) (omega arith)) (is-byte e l)
+    (is-byte f m))
+    ∙ (λ i. toOpen (record { permits = e i; parties = f i }))

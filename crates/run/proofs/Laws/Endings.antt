@@ -15,11 +15,10 @@ use Rattle.hub.specs.declared.record.Hub.{Hub}
 use Rattle.hub.specs.declared.record.Outcome.{Outcome}
 use Rattle.hub.specs.Basics.{upTo32}
 use Rattle.hub.specs.Opening.{fresh, openingIf, opening}
+use Rattle.hub.proofs.Laws.Opening.{accepted}
 use Rattle.line.specs.Form.{asBytes}
-use Rattle.line.specs.Program.{isOpen}
-use Rattle.line.proofs.Laws.Schedules.{opening-open}
-use Rattle.live.specs.Live.{replied, Reached}
-use Rattle.live.proofs.Laws.Reached.{opening-reached}
+use Rattle.live.specs.Live.{replied, Reachable}
+use Rattle.live.proofs.Laws.Reachable.{reachable-open, opening-reachable}
 use Rattle.run.specs.Bytes.{wellFormed}
 use Rattle.run.specs.Run.{written, runIf, runOf}
 use Rattle.run.specs.declared.Ran.{Ran}
@@ -73,11 +72,10 @@ module _ (k n : ℕ) (calls out : List ℕ) where
     no-room w l = rw (opened .0, opened .1, w, lt-leb _ _ l) (refl, refl)
 
     -- The record needs no check.
-    pub reached : Reached (o .hub)
-    reached = rw e (opening-reached k n (opened .0) (opened .1))
-
-    is-open : isOpen (o .hub) ≡ true
-    is-open = rw e (opening-open k n (opened .0) (opened .1))
+    pub reachable : Reachable (o .hub)
+    reachable =
+        rw e (opening-reachable (record { permits = k; parties = n })
+        (ap (λ (x : Outcome). x .answer) (accepted (upTo32 k) (upTo32 n) k n (opened .0) (opened .1))))
 
     pub done : (l : List ℕ) → wellFormed calls ≡ true → length calls / 2 ≤ length out / 7
         → l ≡ replied asBytes (o .hub) (length calls / 2) calls out → Ends Ran.Done l
@@ -85,6 +83,6 @@ module _ (k n : ℕ) (calls out : List ℕ) where
     done l w m f =
         rw (opened .0, opened .1, w, le-leb _ _ m) (
           refl,
-          f ∙ all-answered calls out (o .hub) w is-open
+          f ∙ all-answered calls out (o .hub) w (reachable-open (o .hub) reachable)
               ∙ ap (λ (h : Hub). written h calls out) (opened .2),
         )

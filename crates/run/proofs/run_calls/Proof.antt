@@ -2,7 +2,7 @@
 use borrow.Author.Tests.{not-true, not-false}
 use mathlib.Core.Path.{sym, _∙_}
 use native.Mathlib.Omega.{arith}
-use Rattle.run.proofs.Laws.Endings.{refused, malformed, no-room, reached, done}
+use Rattle.run.proofs.Laws.Endings.{refused, malformed, no-room, reachable, done}
 use borrow.Author.Needs.{needs}
 use Rattle.run.proofs.run_calls.Statement.{statement}
 use Rattle.run.proofs.run_calls.Tie as tie
@@ -45,7 +45,7 @@ answer-requests-requires c κs =
     let w = e .before .before in
     let o = w .before .before in
     let a = o .before .before .before .args in (
-      reached (a .permits) (a .parties) (a .calls .now) (a .out .now) _ (o .open-hub .ensures)
+      reachable (a .permits) (a .parties) (a .calls .now) (a .out .now) _ (o .open-hub .ensures)
           (w .before .match .keys2),
       (omega arith, omega (arith, e .if2 .left)),
     )

@@ -1,11 +1,13 @@
 -- `read_piece` meets its contract: what is read and what is still to come are the whole.
 use borrow.Author.Needs.{needs}
-use Prim.Native.Nat.{_-_}
+use Prim.Native.Nat.{ℕ, _-_}
 use native.Mathlib.Omega.{arith}
 use lib.ListN.{length, length-set}
 use Rattle.frame.proofs.Laws.Pieces.{Upto, start, whole, full, kept, onward}
-use Rattle.frame.proofs.Laws.Pieces.{line-end, end}
-use mathlib.Core.Path.{_∙_}
+use Rattle.frame.proofs.Laws.Pieces.{line-room, line-end, end}
+use mathlib.Core.Path.{ap, _∙_}
+use mathlib.Core.List.{List}
+use Rattle.line.specs.Requests.{requestOf, headerOf}
 use Rattle.frame.proofs.reader.read_piece.Statement.{statement}
 use Rattle.frame.proofs.reader.read_piece.Tie as tie
 
@@ -53,19 +55,19 @@ loop-again-2 c =
     onward _ _ _ _ _ _ _ (l .loop .inv) (c .before .before .before .loop-test .taken) (c .before .if1 .taken) _
     (omega arith) (simp length-set (l .loop .inv .size)) (kept _ _ (c .before .if1 .taken) (c .if2 .left))
 
-sub-read-line : tie.Need-sub-read-line Inv-loop μ-loop
-sub-read-line c = search needs
+sub-read-header : tie.Need-sub-read-header Inv-loop μ-loop
+sub-read-header c = search needs
 
-part-read-line-start : tie.Need-part-read-line-start Inv-loop μ-loop
-part-read-line-start c = search needs
+part-read-header-start : tie.Need-part-read-header-start Inv-loop μ-loop
+part-read-header-start c = search needs
 
-part-read-line-end : tie.Need-part-read-line-end Inv-loop μ-loop
-part-read-line-end c =
+part-read-header-end : tie.Need-part-read-header-end Inv-loop μ-loop
+part-read-header-end c =
     let l = c .before .before .before .before .loop .inv in
     omega (arith, l .short, l .size)
 
-read-line-requires : tie.Need-read-line-requires Inv-loop μ-loop
-read-line-requires c κs = search needs
+read-header-requires : tie.Need-read-header-requires Inv-loop μ-loop
+read-header-requires c κs = search needs
 
 mul-at : tie.Need-mul-at Inv-loop μ-loop
 mul-at c = search needs
@@ -73,17 +75,20 @@ mul-at c = search needs
 add-end : tie.Need-add-end Inv-loop μ-loop
 add-end c = search needs
 
-sub-put-request : tie.Need-sub-put-request Inv-loop μ-loop
-sub-put-request c = search needs
+sub-put-header : tie.Need-sub-put-header Inv-loop μ-loop
+sub-put-header c = search needs
 
-part-put-request-start : tie.Need-part-put-request-start Inv-loop μ-loop
-part-put-request-start c = search needs
+part-put-header-start : tie.Need-part-put-header-start Inv-loop μ-loop
+part-put-header-start c = search needs
 
-part-put-request-end : tie.Need-part-put-request-end Inv-loop μ-loop
-part-put-request-end c = search needs
+part-put-header-end : tie.Need-part-put-header-end Inv-loop μ-loop
+part-put-header-end c =
+    let e = c .before .before .before in
+    let l = e .before .before .before in
+    omega (arith, line-room _ _ _ _ _ _ _ (l .loop .inv) (e .before .before .loop-test .taken) (e .if1 .left))
 
-put-request-requires : tie.Need-put-request-requires Inv-loop μ-loop
-put-request-requires c κs = search needs
+put-header-requires : tie.Need-put-header-requires Inv-loop μ-loop
+put-header-requires c κs = search needs
 
 add-count : tie.Need-add-count Inv-loop μ-loop
 add-count c = search needs
@@ -97,9 +102,10 @@ loop-again-3 c =
     let e = r .before .before .before in
     let l = e .before .before .before in
     line-end _ _ _ _ _ _ _ (l .loop .inv) (e .before .before .loop-test .taken) (e .if1 .left)
-    (r .read-line .result)
-    (r .read-line .ensures ∙ whole (record { line = l .loop .line; len = l .loop .len })) _
-    (c .before .before .put-request .ensures)
+    (r .read-header .result)
+    (r .read-header .ensures
+    ∙ ap (λ (x : List ℕ). headerOf (requestOf x)) (whole (record { line = l .loop .line; len = l .loop .len }))) _
+    (c .before .before .put-header .ensures)
 
 same-length : tie.Need-same-length Inv-loop μ-loop
 same-length c =
@@ -124,16 +130,16 @@ read-piece-spec =
     add-len
     loop-less-2
     loop-again-2
-    sub-read-line
-    part-read-line-start
-    part-read-line-end
-    read-line-requires
+    sub-read-header
+    part-read-header-start
+    part-read-header-end
+    read-header-requires
     mul-at
     add-end
-    sub-put-request
-    part-put-request-start
-    part-put-request-end
-    put-request-requires
+    sub-put-header
+    part-put-header-start
+    part-put-header-end
+    put-header-requires
     add-count
     loop-less-3
     loop-again-3

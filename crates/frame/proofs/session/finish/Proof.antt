@@ -1,10 +1,8 @@
--- `finish` meets its contract: the line left over is answered, if there is one, and then closed.
+-- `finish` meets its contract: a line left over is answered as if its end mark had come, and then
+-- the session is closed.
 use borrow.Author.Needs.{needs}
-use mathlib.Core.Path.{ap, _∙_}
 use native.Mathlib.Omega.{arith}
-use lib.ListN.{length}
-use Rattle.frame.proofs.Laws.Pieces.{whole}
-use Rattle.frame.proofs.Laws.Feeding.{finish-one, room-for-two, long, finish-two}
+use Rattle.frame.proofs.Laws.Feeding.{finish-one, room-for-two, last-room, still-long, finish-two}
 use Rattle.frame.proofs.session.finish.Statement.{statement}
 use Rattle.frame.proofs.session.finish.Tie as tie
 
@@ -25,28 +23,32 @@ same-length c = search needs
 
 returns : tie.Need-returns
 returns c =
-    let t = c .before .before .before .before in
-    let s = t .before .before .before .before in
+    let t = c .before .before .before .before .before in
+    let s = t .before .before in
     finish-one (s .args .session) (s .args .out .now) _ (omega (arith, s .pre)) (t .if1 .taken)
     (c .before .before .put-closing .ensures)
 
-sub-read-line : tie.Need-sub-read-line
-sub-read-line c = search needs
+slice-aggregate-feed : tie.Need-slice-aggregate-feed
+slice-aggregate-feed c = search needs
 
-part-read-line-start : tie.Need-part-read-line-start
-part-read-line-start c = search needs
+slice-aggregate-feed-2 : tie.Need-slice-aggregate-feed-2
+slice-aggregate-feed-2 c = search needs
 
-part-read-line-end : tie.Need-part-read-line-end
-part-read-line-end c = search needs
+sub-feed : tie.Need-sub-feed
+sub-feed c = search needs
 
-read-line-requires : tie.Need-read-line-requires
-read-line-requires c κs = search needs
+part-feed-start : tie.Need-part-feed-start
+part-feed-start c = search needs
 
-slice-aggregate-answer-requests : tie.Need-slice-aggregate-answer-requests
-slice-aggregate-answer-requests c = search needs
+part-feed-end : tie.Need-part-feed-end
+part-feed-end c = search needs
 
-answer-requests-requires : tie.Need-answer-requests-requires
-answer-requests-requires c κs = search needs
+feed-requires : tie.Need-feed-requires
+feed-requires c κs =
+    let e = c .before .before .before in
+    let s = e .before .before in
+    let l = last-room (s .args .session) (s .args .out .now) (e .if1 .left) in
+    (s .pre .0, (omega (arith), search needs))
 
 sub-put-closing-2 : tie.Need-sub-put-closing-2
 sub-put-closing-2 c = search needs
@@ -56,17 +58,15 @@ part-put-closing-start-2 c = search needs
 
 part-put-closing-end-2 : tie.Need-part-put-closing-end-2
 part-put-closing-end-2 c =
-    let w = c .before .before in
-    let r = w .before .before .before in
-    let e = r .before .before .before .before in
-    let s = e .before .before .before .before in
-    let a = s .args in
-    let read = r .read-line .ensures ∙ whole (a .session .reader) in
-    let room = room-for-two (a .session) (a .out .now) (r .read-line .result) read (e .if1 .left) (s .pre .1) in
-    let long =
-    long (a .session) (a .out .now) (r .read-line .result) read (e .if1 .left) _ room
-    (w .answer-requests .ensures .1) in
-    omega (arith, room, long)
+    let f = c .before .before .before .before .before in
+    let e = f .before .before .before .before in
+    let s = e .before .before in
+    let room = room-for-two (s .args .session) (s .args .out .now) (e .if1 .left) (s .pre .1) in
+    omega (
+      arith,
+      room,
+      still-long (s .args .session) (s .args .out .now) (e .if1 .left) room _ (f .feed .ensures .2),
+    )
 
 put-closing-requires-2 : tie.Need-put-closing-requires-2
 put-closing-requires-2 c κs = search needs
@@ -76,15 +76,13 @@ same-length-2 c = search needs
 
 returns-2 : tie.Need-returns-2
 returns-2 c =
-    let w = c .before .before .before .before .before .before in
-    let r = w .before .before .before in
-    let e = r .before .before .before .before in
-    let s = e .before .before .before .before in
-    let a = s .args in
-    let read = r .read-line .ensures ∙ whole (a .session .reader) in
-    let room = room-for-two (a .session) (a .out .now) (r .read-line .result) read (e .if1 .left) (s .pre .1) in
-    finish-two (a .session) (a .out .now) (r .read-line .result) read (e .if1 .left) _ _ _ room
-    (w .answer-requests .ensures .0) (w .answer-requests .ensures .1) (c .before .before .put-closing2 .ensures)
+    let w = c .before .before in
+    let f = w .before .before .before .before .before .before .before in
+    let e = f .before .before .before .before in
+    let s = e .before .before in
+    let room = room-for-two (s .args .session) (s .args .out .now) (e .if1 .left) (s .pre .1) in
+    finish-two (s .args .session) (s .args .out .now) (e .if1 .left) room _ (f .feed .ensures .2) _
+    (f .feed .ensures .0) _ (w .put-closing2 .ensures)
 
 pub finish-spec : {M : Type 1} → statement M
 finish-spec =
@@ -96,12 +94,12 @@ finish-spec =
     put-closing-requires
     same-length
     returns
-    sub-read-line
-    part-read-line-start
-    part-read-line-end
-    read-line-requires
-    slice-aggregate-answer-requests
-    answer-requests-requires
+    slice-aggregate-feed
+    slice-aggregate-feed-2
+    sub-feed
+    part-feed-start
+    part-feed-end
+    feed-requires
     sub-put-closing-2
     part-put-closing-start-2
     part-put-closing-end-2

@@ -63,7 +63,7 @@ feed-requires c κs =
     let e = p .piece-end .ensures in
     let i = l .loop .inv in
     let after : l .loop .from ≤ p .piece-end .result = omega (arith, e .0) in
-    let spare : 12288 ≤ length (l .loop .requests) =
+    let spare : 8192 ≤ length (l .loop .requests) =
     omega (arith, i .1, l .before .before .before .before .before .pre .0) in (
       i .0 .sound,
       (
@@ -94,7 +94,7 @@ loop-again c =
     let e = p .piece-end .ensures in
     let i = l .loop .inv in
     let after : l .loop .from ≤ p .piece-end .result = omega (arith, e .0) in
-    let spare : 12288 ≤ length (l .loop .requests) =
+    let spare : 8192 ≤ length (l .loop .requests) =
     omega (arith, i .1, l .before .before .before .before .before .pre .0) in (
       printed-on _ _ _ _ _ _ (i .0) (p .piece-end .result) after (e .1 .0) _ (f .feed .ensures .2)
           (f .feed .result) (f .feed .ensures .0),
