@@ -5,6 +5,7 @@
 use board::call_on_board;
 use hub::answers::Answer;
 use hub::moves::Op;
+use hub::opening::Opening;
 use hub::record::Hub;
 use hub::record::Outcome;
 use hub::record::PartySlot;
@@ -19,7 +20,7 @@ use step::calls::acquire;
 use step::calls::cancel;
 use step::calls::release;
 use step::calls::step;
-use step::counts::counts;
+use transition::counts::counts;
 
 // A hexadecimal digit, in capitals.
 fn digit(n: u8) -> u8 {
@@ -61,7 +62,7 @@ fn told(party: u8, o: Outcome) -> Hub {
 
 fn print_run(permits: u8, parties: u8, calls: &[u8]) {
     let mut out = [0u8; 224];
-    let ran = run_calls(permits, parties, calls, &mut out);
+    let ran = run_calls(Opening { permits, parties }, calls, &mut out);
     match ran {
         Ran::NotOpened(why) => {
             print_answer(255, Answer::Refused(why));
@@ -80,28 +81,33 @@ fn print_run(permits: u8, parties: u8, calls: &[u8]) {
     io::write_all(1, b"\n");
 }
 
+// A hub just opened.
+fn opened(permits: u8, parties: u8) -> Hub {
+    Hub::open(Opening { permits, parties })
+}
+
 // Calls on records that no opening reaches.
 fn made_by_hand() {
     // 1,000,000 asks begun, and one fewer
-    let mut h = Hub::open(1, 3);
-    h.begun = 1000000;
+    let mut h = opened(1, 3);
+    h.figures.begun = 1000000;
     told(0, acquire(h, 0));
-    h.begun = 999999;
+    h.figures.begun = 999999;
     told(0, acquire(h, 0));
     // all 256 tickets issued, and all but one
-    let mut h = Hub::open(1, 3);
-    h.issued = 256;
+    let mut h = opened(1, 3);
+    h.figures.issued = 256;
     told(0, acquire(h, 0));
-    h.issued = 255;
+    h.figures.issued = 255;
     told(0, acquire(h, 0));
     // a counter of 33 does not fit, and one of 32 does
-    let mut h = Hub::open(32, 3);
-    h.counter = 33;
+    let mut h = opened(32, 3);
+    h.figures.counter = 33;
     told(0, release(h, 0));
-    h.counter = 32;
+    h.figures.counter = 32;
     told(0, release(h, 0));
     // a waiting place of a party that is free does not fit
-    let mut h = Hub::open(1, 3);
+    let mut h = opened(1, 3);
     h.places[200] = PlaceSlot {
         place: Place::Waiting(2),
     };
@@ -112,7 +118,7 @@ fn made_by_hand() {
     };
     told(2, cancel(h, 2));
     // a party gives back at counter 32: the answer is the table's, and the next call is refused
-    let mut h = Hub::open(32, 3);
+    let mut h = opened(32, 3);
     h.slots[0] = PartySlot {
         phase: Phase::Releasing,
     };
@@ -141,7 +147,7 @@ fn print_counts(hub: Hub) {
 
 // The four calls in place, and what the record shows between them.
 fn in_place() {
-    let h = Hub::open(2, 3);
+    let h = opened(2, 3);
     print_counts(h);
     let h = on_board(h, Op::Acquire, 0);
     let h = on_board(h, Op::Step, 0);

@@ -6,12 +6,13 @@ use mathlib.Core.List.{List, [], _∷_, _++_, map}
 use Rattle.hub.specs.declared.answers.Answer.{Answer}
 use Rattle.hub.specs.declared.moves.Call.{Call}
 use Rattle.hub.specs.Answers.{plain}
+use Rattle.hub.specs.Opening.{opening}
 use Rattle.hub.specs.Schedule.{entries, run}
-use Rattle.line.specs.declared.request.Opening.{Opening}
+use Rattle.hub.specs.declared.opening.Opening.{Opening}
 use Rattle.line.specs.Form.{asText}
 use Rattle.line.specs.Frame.{codeOf}
 use Rattle.line.specs.Hex.{textOf}
-use Rattle.line.specs.Program.{openingFor, Reply, replyOf, rendered, closing, outputOf}
+use Rattle.line.specs.Program.{Reply, replyOf, rendered, closing, outputOf}
 
 -- A line for each call.
 unfoldable pub callLines : List Call → List ℕ
@@ -34,7 +35,7 @@ openedReply = record { party = 0xFF; answer = plain 0x1F }
 -- third demand counts by, and the closing line of the record that the third demand speaks of.
 unfoldable pub PrintsSchedule : Type 0
 PrintsSchedule =
-    (o : Opening) → openingFor o .answer ≡ Answer.Opened → (cs : List Call) → PartyBytes cs
-    → let h = openingFor o .hub in
+    (o : Opening) → opening o .answer ≡ Answer.Opened → (cs : List Call) → PartyBytes cs
+    → let h = opening o .hub in
     outputOf (inputOf o cs)
     ≡ rendered asText (openedReply ∷ map replyOf (entries h cs)) ++ closing (run h cs)

@@ -33,7 +33,7 @@ pub struct Begun {
 pub(crate) fn is_open(hub: Hub) -> bool
     ensures { λ r. ⌜ r ≡ isOpen hub ⌝ }
 {
-    1 <= hub.permits
+    1 <= hub.opening.permits
 }
 
 // 12, or 13 for a call.
@@ -55,8 +55,7 @@ fn open_as(line: &[u8], out: &mut [u8]) -> Hub
     ensures { λ r. ⌜ (r ≡ beforeOpen (requestOf (now (line .entry))) .hub)
         × (now (out .exit) ≡ replyIn asText (beforeOpen (requestOf (now (line .entry))) .reply)) ⌝ }
 {
-    let asks = read_opening(line);
-    let o = open_hub(asks.permits, asks.parties);
+    let o = open_hub(read_opening(line));
     let answer = o.answer;
     put_line(out, 0xFF, print_of(answer));
     o.hub

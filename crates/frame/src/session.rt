@@ -7,6 +7,7 @@ use crate::reader::KEPT;
 use crate::reader::Reader;
 use crate::reader::read_piece;
 use hub::Hub;
+use hub::Opening;
 use line::form::TEXT;
 use live::answer_requests;
 ghost use mathlib.Core.Path.{_≡_};
@@ -35,7 +36,10 @@ pub fn begin() -> Session
     ensures { λ r. ⌜ r ≡ atStart ⌝ }
 {
     Session {
-        hub: Hub::open(0, 0),
+        hub: Hub::open(Opening {
+            permits: 0,
+            parties: 0,
+        }),
         reader: Reader {
             line: [0; KEPT],
             len: 0,

@@ -5,6 +5,7 @@ use mathlib.Core.List.{List, _++_}
 use lib.Dec.{leb}
 use lib.ListN.{length, drop}
 use Rattle.hub.specs.declared.answers.Refusal.{Refusal}
+use Rattle.hub.specs.declared.opening.Opening.{Opening}
 use Rattle.hub.specs.declared.record.Hub.{Hub}
 use Rattle.hub.specs.Answers.{refusalCode}
 use Rattle.hub.specs.Basics.{upTo32}
@@ -22,18 +23,18 @@ written h calls out = framesOf h (callsOf calls) ++ drop (7 * (length calls / 2)
 
 -- 2, 3, malformed, no room, in that order; a refused run leaves the buffer alone, and a run that
 -- is done writes seven bytes for each call and leaves the rest alone.
-unfoldable pub runIf : Bool → Bool → Bool → Bool → ℕ → ℕ → List ℕ → List ℕ → Ended
-runIf false b w m k n calls out = record { ran = Ran.NotOpened Refusal.BadPermits; out = out }
-runIf true false w m k n calls out = record { ran = Ran.NotOpened Refusal.BadParties; out = out }
-runIf true true false m k n calls out = record { ran = Ran.Malformed; out = out }
-runIf true true true false k n calls out = record { ran = Ran.NoRoom; out = out }
-runIf true true true true k n calls out =
-    record { ran = Ran.Done; out = written (fresh k n) calls out }
+unfoldable pub runIf : Bool → Bool → Bool → Bool → Opening → List ℕ → List ℕ → Ended
+runIf false b w m o calls out = record { ran = Ran.NotOpened Refusal.BadPermits; out = out }
+runIf true false w m o calls out = record { ran = Ran.NotOpened Refusal.BadParties; out = out }
+runIf true true false m o calls out = record { ran = Ran.Malformed; out = out }
+runIf true true true false o calls out = record { ran = Ran.NoRoom; out = out }
+runIf true true true true o calls out =
+    record { ran = Ran.Done; out = written (fresh o) calls out }
 
-abbrev pub runOf : ℕ → ℕ → List ℕ → List ℕ → Ended
-runOf k n calls out =
-    runIf (upTo32 k) (upTo32 n) (wellFormed calls) (leb (length calls / 2) (length out / 7)) k n
-    calls out
+abbrev pub runOf : Opening → List ℕ → List ℕ → Ended
+runOf o calls out =
+    runIf (upTo32 (o .permits)) (upTo32 (o .parties)) (wellFormed calls)
+    (leb (length calls / 2) (length out / 7)) o calls out
 
 -- The end of a run as a number, for callers in other languages.
 abbrev pub ranCode : Ran → ℕ

@@ -3,6 +3,7 @@
 
 use hub::answers::Answer;
 use hub::answers::Refusal;
+use hub::opening::Opening;
 use hub::opening::open_hub;
 use line::answer::refusal_code;
 use line::form::BYTES;
@@ -43,12 +44,12 @@ fn well_formed(calls: &[u8]) -> bool
 
 // Opens a hub, and runs the calls if they are well formed and there is room for the answers. What
 // an opening leads to needs no check, so that `live` answers them.
-pub fn run_calls(permits: u8, parties: u8, calls: &[u8], out: &mut [u8]) -> Ran
-    ensures { λ r. ⌜ (r ≡ runOf permits parties (now (calls .entry)) (now (out .entry)) .ran)
-        × (now (out .exit) ≡ runOf permits parties (now (calls .entry)) (now (out .entry)) .out) ⌝ }
+pub fn run_calls(o: Opening, calls: &[u8], out: &mut [u8]) -> Ran
+    ensures { λ r. ⌜ (r ≡ runOf o (now (calls .entry)) (now (out .entry)) .ran)
+        × (now (out .exit) ≡ runOf o (now (calls .entry)) (now (out .entry)) .out) ⌝ }
 {
-    let o = open_hub(permits, parties);
-    let answer = o.answer;
+    let opened = open_hub(o);
+    let answer = opened.answer;
     if let Answer::Refused(why) = answer {
         return Ran::NotOpened(why);
     }
@@ -59,7 +60,7 @@ pub fn run_calls(permits: u8, parties: u8, calls: &[u8], out: &mut [u8]) -> Ran
     if out.len() / 7 < total {
         return Ran::NoRoom;
     }
-    let hub = o.hub;
+    let hub = opened.hub;
     answer_requests(hub, calls, total, BYTES, out);
     Ran::Done
 }
@@ -79,9 +80,9 @@ fn ran_code(ran: Ran) -> u8
 // room.
 #[no_mangle]
 pub extern "C" fn hub_run(permits: u8, parties: u8, calls: &[u8], out: &mut [u8]) -> u8
-    ensures { λ r. ⌜ (r ≡ ranCode (runOf permits parties (now (calls .entry)) (now (out .entry)) .ran))
-        × (now (out .exit) ≡ runOf permits parties (now (calls .entry)) (now (out .entry)) .out) ⌝ }
+    ensures { λ r. ⌜ (r ≡ ranCode (runOf (record { permits = permits; parties = parties }) (now (calls .entry)) (now (out .entry)) .ran))
+        × (now (out .exit) ≡ runOf (record { permits = permits; parties = parties }) (now (calls .entry)) (now (out .entry)) .out) ⌝ }
 {
-    let ran = run_calls(permits, parties, calls, out);
+    let ran = run_calls(Opening { permits, parties }, calls, out);
     ran_code(ran)
 }

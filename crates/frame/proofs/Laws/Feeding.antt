@@ -13,14 +13,14 @@ use lib.ListN.{length, take, drop, set, length-append, length-drop, length-set, 
 use lib.ListN.{take-append-drop, drop-of-length-le}
 use native.Mathlib.Nat.{le-of-eq}
 use Rattle.hub.specs.declared.answers.Answer.{Answer}
+use Rattle.hub.specs.declared.opening.Opening.{Opening}
 use Rattle.hub.specs.declared.record.Hub.{Hub}
 use Rattle.hub.specs.declared.record.Outcome.{Outcome}
 use Rattle.hub.specs.Basics.{upTo32}
 use Rattle.hub.specs.Opening.{fresh, openingIf}
 use Rattle.hub.proofs.Laws.Bools.{if-true, if-false}
-use Rattle.line.specs.declared.request.Opening.{Opening}
 use Rattle.line.specs.Form.{asText}
-use Rattle.line.specs.Program.{unopened, isOpen, openingFor, Reply, Response, whenOpen, beforeOpen}
+use Rattle.line.specs.Program.{unopened, isOpen, Reply, Response, whenOpen, beforeOpen}
 use Rattle.line.specs.Program.{respond, replies, after, rendered, repliesIn, closing, linesOf}
 use Rattle.line.specs.Requests.{Request, malformed, toOpen, toCall, requestOf, headerOf}
 use Rattle.line.proofs.Laws.Codes.{is-call, op-back}

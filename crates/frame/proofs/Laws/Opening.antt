@@ -12,17 +12,17 @@ use lib.ListN.{length, getD, take, drop, set, length-append, take-append-drop, d
 use lib.Seq.{drop-cons, take-suc, take-at, drop-at, drop-drop}
 use Rattle.hub.specs.declared.answers.Answer.{Answer}
 use Rattle.hub.specs.declared.moves.Op.{Op}
+use Rattle.hub.specs.declared.opening.Opening.{Opening}
 use Rattle.hub.specs.declared.record.Hub.{Hub}
 use Rattle.hub.specs.declared.record.Outcome.{Outcome}
 use Rattle.hub.specs.Answers.{plain}
 use Rattle.hub.specs.Basics.{upTo32}
-use Rattle.hub.specs.Opening.{fresh, openingIf}
+use Rattle.hub.specs.Opening.{fresh, opening, openingIf}
 use Rattle.hub.proofs.Laws.Bools.{if-true, if-false}
 use Rattle.hub.proofs.Laws.Opening.{accepted}
-use Rattle.line.specs.declared.request.Opening.{Opening}
 use Rattle.line.specs.Form.{asText}
 use Rattle.line.specs.Frame.{codeOf}
-use Rattle.line.specs.Program.{unopened, isOpen, openingFor, Response, beforeOpen, respond, after}
+use Rattle.line.specs.Program.{unopened, isOpen, Response, beforeOpen, respond, after}
 use Rattle.line.specs.Program.{replies, replyIn, rendered}
 use Rattle.line.specs.Requests.{Request, malformed, toOpen, toCall, requestOf, headerOf, isOpening}
 use Rattle.line.proofs.Laws.Parts.{parts, put-length}
@@ -56,17 +56,17 @@ pub session-shut : (h : Hub) → SessionHub h → isOpen h ≡ false → h ≡ u
 session-shut h (inl e) o = e
 session-shut h (inr r) o = not-both (reachable-open h r) o
 
-opening-session : (o : Opening) → SessionHub (openingFor o .hub)
+opening-session : (o : Opening) → SessionHub (opening o .hub)
 unfolding openingIf
 opening-session o = go (upTo32 (o .permits)) refl (upTo32 (o .parties)) refl
   where
     yes : upTo32 (o .permits) ≡ true → upTo32 (o .parties) ≡ true
-        → openingFor o ≡ record { answer = Answer.Opened; hub = fresh (o .permits) (o .parties) }
+        → opening o ≡ record { answer = Answer.Opened; hub = fresh o }
     yes e f =
-        accepted (upTo32 (o .permits)) (upTo32 (o .parties)) (o .permits) (o .parties) e f
+        accepted (upTo32 (o .permits)) (upTo32 (o .parties)) o e f
 
     go : (a : Bool) → upTo32 (o .permits) ≡ a → (b : Bool) → upTo32 (o .parties) ≡ b
-        → SessionHub (openingIf a b (o .permits) (o .parties) .hub)
+        → SessionHub (openingIf a b o .hub)
     go true e true f =
         inr (subst (λ (x : Outcome). Reachable (x .hub)) (yes e f)
         (opening-reachable o (ap (λ (x : Outcome). x .answer) (yes e f))))

@@ -1,22 +1,17 @@
 -- The lines of a schedule are answered as the schedule is.
-use Prim.Native.Nat.{ℕ, _<_}
 use mathlib.Core.Path.{_≡_, refl, ap, _∙_}
-use mathlib.Core.Bool.{Bool, true, false}
 use mathlib.Core.List.{List, [], _∷_, _++_, map}
 use native.Mathlib.Omega.{arith}
-use borrow.Author.Tests.{leb-true}
-use lib.Dec.{leb}
 use Rattle.hub.specs.declared.answers.Answer.{Answer}
 use Rattle.hub.specs.declared.moves.Call.{Call}
+use Rattle.hub.specs.declared.opening.Opening.{Opening}
 use Rattle.hub.specs.Answers.{printed}
-use Rattle.hub.specs.Basics.{upTo32}
-use Rattle.hub.specs.Opening.{fresh, openingIf}
-use Rattle.hub.proofs.Laws.Bools.{second}
-use Rattle.line.specs.declared.request.Opening.{Opening}
+use Rattle.hub.specs.Opening.{fresh, opening}
+use Rattle.hub.proofs.Demand3.{in-range}
 use Rattle.line.specs.Form.{asText}
 use Rattle.line.specs.Frame.{codeOf}
 use Rattle.line.specs.Hex.{hexOf}
-use Rattle.line.specs.Program.{unopened, openingFor, beforeOpen, respond}
+use Rattle.line.specs.Program.{unopened, beforeOpen, respond}
 use Rattle.line.specs.Program.{replies, after, rendered, closing, linesFrom, linesOf, outputOf}
 use Rattle.line.specs.Requests.{toOpen, toCall, requestOf}
 use Rattle.line.proofs.Laws.Schedules.{schedule-replies, schedule-after}
@@ -33,37 +28,25 @@ calls-asked (c ∷ cs) b =
     ∙ (λ i. call-back c (b .0) i ∷ calls-asked cs (b .1) i)
 
 -- From the opening on.
-module _ (o : Opening) (e : openingFor o .answer ≡ Answer.Opened) where
-  in-range : (upTo32 (o .permits) ≡ true) × (upTo32 (o .parties) ≡ true)
-  unfolding openingIf
-  in-range = go (upTo32 (o .permits)) (upTo32 (o .parties)) e
-    where
-      go : (a b : Bool) → openingIf a b (o .permits) (o .parties) .answer ≡ Answer.Opened
-          → (a ≡ true) × (b ≡ true)
-      go false b e = let z : _≡_ {A = ℕ} 0 1 = cc in absurd (omega arith)
-      go true false e = let z : _≡_ {A = ℕ} 0 1 = cc in absurd (omega arith)
-      go true true e = (refl, refl)
-
-  byte : (x : ℕ) → upTo32 x ≡ true → x < 256
-  byte x f = omega (arith, leb-true x 32 (second (leb 1 x) (leb x 32) f))
-
+module _ (o : Opening) (e : opening o .answer ≡ Answer.Opened) where
   pub asked-opening : requestOf (hexOf (0x01 ∷ o .permits ∷ o .parties ∷ [])) ≡ toOpen o
   asked-opening =
-      opening-back o (byte (o .permits) (in-range .0)) (byte (o .parties) (in-range .1))
+      let r = in-range o e in
+      opening-back o (omega (arith, r .permits .1)) (omega (arith, r .parties .1))
 
   opening-response : respond unopened (toOpen o)
-      ≡ record { reply = openedReply; hub = openingFor o .hub }
+      ≡ record { reply = openedReply; hub = opening o .hub }
   unfolding respond beforeOpen fresh
   opening-response =
       (λ i. record {
         reply = record { party = 0xFF; answer = printed (e i) };
-        hub = openingFor o .hub;
+        hub = opening o .hub;
       })
 
 pub prints-schedule : PrintsSchedule
 unfolding PrintsSchedule outputOf replies rendered after
 prints-schedule o e cs b =
-    let h = openingFor o .hub in
+    let h = opening o .hub in
     let t = opening-response o e in
     let f = reachable-open h (opening-reachable o e) in
     let asked : map requestOf (linesOf (inputOf o cs)) ≡ toOpen o ∷ map toCall cs =

@@ -10,7 +10,7 @@ use Rattle.hub.specs.declared.moves.Call.{Call}
 use Rattle.hub.specs.declared.moves.Op.{Op}
 use Rattle.hub.specs.Basics.{allFrom}
 use Rattle.hub.proofs.Laws.Bools.{first, second, if-true, if-false}
-use Rattle.line.specs.declared.request.Opening.{Opening}
+use Rattle.hub.specs.declared.opening.Opening.{Opening}
 use Rattle.line.specs.Frame.{isCall, opOf, codeOf}
 use Rattle.line.specs.Hex.{digitOf, spelled, byteOf, charOf, hexOf, textOf}
 use Rattle.line.specs.Program.{linesFrom}

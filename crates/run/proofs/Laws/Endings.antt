@@ -11,6 +11,7 @@ use lib.ListN.{length}
 use Rattle.hub.proofs.answers.Answer as answer
 use Rattle.hub.specs.declared.answers.Answer.{Answer}
 use Rattle.hub.specs.declared.answers.Refusal.{Refusal}
+use Rattle.hub.specs.declared.opening.Opening.{Opening}
 use Rattle.hub.specs.declared.record.Hub.{Hub}
 use Rattle.hub.specs.declared.record.Outcome.{Outcome}
 use Rattle.hub.specs.Basics.{upTo32}
@@ -33,31 +34,31 @@ others =
 abbrev NotRefused : Answer → Type 0
 NotRefused a = OneOf others (tagOf answer.the-type a)
 
-module _ (k n : ℕ) (calls out : List ℕ) where
+module _ (k : Opening) (calls out : List ℕ) where
   abbrev Ends : Ran → List ℕ → Type 0
-  Ends r l = (r ≡ runOf k n calls out .ran) × (l ≡ runOf k n calls out .out)
+  Ends r l = (r ≡ runOf k calls out .ran) × (l ≡ runOf k calls out .out)
 
-  pub refused : (o : Outcome) (r : Refusal) → o ≡ opening k n → o .answer ≡ Answer.Refused r
+  pub refused : (o : Outcome) (r : Refusal) → o ≡ opening k → o .answer ≡ Answer.Refused r
       → Ends (Ran.NotOpened r) out
   unfolding openingIf runIf
   refused o r e f =
-      go (upTo32 k) (upTo32 n) _ _ (sym (ap (λ (o : Outcome). o .answer) e) ∙ f)
+      go (upTo32 (k .permits)) (upTo32 (k .parties)) _ _ (sym (ap (λ (o : Outcome). o .answer) e) ∙ f)
     where
-      go : (a b w m : Bool) → openingIf a b k n .answer ≡ Answer.Refused r
-          → (Ran.NotOpened r ≡ runIf a b w m k n calls out .ran)
-          × (out ≡ runIf a b w m k n calls out .out)
+      go : (a b w m : Bool) → openingIf a b k .answer ≡ Answer.Refused r
+          → (Ran.NotOpened r ≡ runIf a b w m k calls out .ran)
+          × (out ≡ runIf a b w m k calls out .out)
       go false b w m e = (cc, refl)
       go true false w m e = (cc, refl)
       go true true w m e = let z : _≡_ {A = ℕ} 0 1 = cc in absurd (omega arith)
 
-  module _ (o : Outcome) (e : o ≡ opening k n) (t : NotRefused (o .answer)) where
-    opened : (upTo32 k ≡ true) × (upTo32 n ≡ true) × (o .hub ≡ fresh k n)
+  module _ (o : Outcome) (e : o ≡ opening k) (t : NotRefused (o .answer)) where
+    opened : (upTo32 (k .permits) ≡ true) × (upTo32 (k .parties) ≡ true) × (o .hub ≡ fresh k)
     unfolding openingIf
     opened =
-        rw e (go (upTo32 k) (upTo32 n) (rw e at t))
+        rw e (go (upTo32 (k .permits)) (upTo32 (k .parties)) (rw e at t))
       where
-        go : (a b : Bool) → NotRefused (openingIf a b k n .answer)
-            → (a ≡ true) × (b ≡ true) × (openingIf a b k n .hub ≡ fresh k n)
+        go : (a b : Bool) → NotRefused (openingIf a b k .answer)
+            → (a ≡ true) × (b ≡ true) × (openingIf a b k .hub ≡ fresh k)
         go false b t = absurd (miss others 0 tt t)
         go true false t = absurd (miss others 0 tt t)
         go true true t = (refl, refl, refl)
@@ -74,8 +75,8 @@ module _ (k n : ℕ) (calls out : List ℕ) where
     -- The record needs no check.
     pub reachable : Reachable (o .hub)
     reachable =
-        rw e (opening-reachable (record { permits = k; parties = n })
-        (ap (λ (x : Outcome). x .answer) (accepted (upTo32 k) (upTo32 n) k n (opened .0) (opened .1))))
+        rw e (opening-reachable k
+        (ap (λ (x : Outcome). x .answer) (accepted (upTo32 (k .permits)) (upTo32 (k .parties)) k (opened .0) (opened .1))))
 
     pub done : (l : List ℕ) → wellFormed calls ≡ true → length calls / 2 ≤ length out / 7
         → l ≡ replied asBytes (o .hub) (length calls / 2) calls out → Ends Ran.Done l
