@@ -1,5 +1,5 @@
 //! The link hub, second program: a fair semaphore with cancellation, driven by
-//! a schedule on standard input.
+//! a schedule on standard input, or by whole records (`--records`).
 //!
 //! It is the oracle another implementation is tested against, so it prefers
 //! the obvious form: one mutable record and one `match` for the step table.
@@ -13,6 +13,7 @@ use std::env;
 use std::io::{self, BufRead, BufReader, BufWriter, ErrorKind, Write};
 use std::process::ExitCode;
 
+mod records;
 #[cfg(test)]
 mod tests;
 
@@ -610,16 +611,16 @@ fn run(mut input: impl BufRead, mut output: impl Write, check: bool) -> io::Resu
 }
 
 fn main() -> ExitCode {
-    let mut check = true;
-    for argument in env::args_os().skip(1) {
-        if argument != "--no-check" {
-            return fail("usage: main [--no-check] < schedule > answers");
-        }
-        check = false;
-    }
+    let arguments: Vec<_> = env::args_os().skip(1).collect();
     let input = BufReader::with_capacity(BUFFER, io::stdin().lock());
     let output = BufWriter::with_capacity(BUFFER, io::stdout().lock());
-    match run(input, output, check) {
+    let outcome = match &arguments[..] {
+        [] => run(input, output, true),
+        [mode] if mode == "--no-check" => run(input, output, false),
+        [mode] if mode == "--records" => records::run(input, output),
+        _ => return fail("usage: main [--no-check | --records] < input > answers"),
+    };
+    match outcome {
         Ok(()) => ExitCode::SUCCESS,
         Err(error) => fail(&error.to_string()),
     }

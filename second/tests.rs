@@ -1,5 +1,5 @@
 //! Tests of the second program: the paper's run and edges, malformed lines,
-//! hand-made records for the fit check, and random schedules.
+//! hand-made records for the fit check, records as bytes, and random schedules.
 
 use super::*;
 
@@ -773,6 +773,170 @@ mod fit {
         expected.counter = 0;
         assert_eq!(hub.call(Call::Step, 0, true), Ok(Answer::plain(0x21)));
         assert_eq!(hub, expected);
+    }
+}
+
+mod record_mode {
+    use super::*;
+    use records::{CASE, RECORD, REPLY};
+
+    fn replies(input: &[u8]) -> Vec<u8> {
+        let mut output = Vec::new();
+        records::run(input, &mut output).unwrap();
+        output
+    }
+
+    /// The reply to one case: the answer as a line has it, and the record.
+    fn reply(record: &[u8], code: u8, party: u8) -> (String, Vec<u8>) {
+        let output = replies(&[record, &[code, party]].concat());
+        assert_eq!(output.len(), REPLY);
+        let (answer, record) = output.split_at(REPLY - RECORD);
+        let digits = answer.iter().map(|byte| format!("{byte:02X}"));
+        (digits.collect(), record.to_vec())
+    }
+
+    /// A record just opened, written down from the layout.
+    fn opened(permits: u8, parties: u8) -> Vec<u8> {
+        let mut record = vec![0; RECORD];
+        record[0] = permits;
+        record[1] = parties;
+        record[5] = permits;
+        record
+    }
+
+    const PLACE: usize = 22;
+    const PHASE: usize = PLACE + 256 * 5;
+
+    fn set(record: &mut [u8], at: usize, byte: u8, number: u32) {
+        record[at] = byte;
+        record[at + 1..at + 5].copy_from_slice(&number.to_be_bytes());
+    }
+
+    #[test]
+    fn sizes() {
+        assert_eq!((RECORD, CASE, REPLY), (1462, 1464, 1469));
+    }
+
+    /// The run, each record handed back in; the last one by hand.
+    #[test]
+    fn paper_run() {
+        let run = [
+            (0x10, 0, "2000FFFFFFFFFF"),
+            (0x11, 0, "2100FFFFFFFFFF"),
+            (0x10, 1, "2001FFFFFFFFFF"),
+            (0x11, 1, "2201FFFFFFFFFF"),
+            (0x11, 1, "2301FF00000000"),
+            (0x11, 1, "2401FF00000000"),
+            (0x13, 0, "2000FFFFFFFFFF"),
+            (0x11, 0, "2700FFFFFFFFFF"),
+            (0x12, 1, "2001FFFFFFFFFF"),
+            (0x11, 1, "2F01FFFFFFFFFF"),
+            (0x11, 0, "2800FF00000000"),
+            (0x11, 0, "2B00FF00000000"),
+            (0x11, 1, "3301FF00000000"),
+        ];
+        let mut record = opened(1, 3);
+        for (code, party, expected) in run {
+            let (answer, next) = reply(&record, code, party);
+            assert_eq!(answer, expected);
+            record = next;
+        }
+        let mut expected = opened(1, 3);
+        // numbered, handed, begun, oldest
+        for (at, figure) in [(9, 1), (13, 1), (17, 2), (21, 1)] {
+            expected[at] = figure;
+        }
+        assert_eq!(record, expected);
+    }
+
+    #[test]
+    fn woken_party_and_number() {
+        let mut record = opened(1, 6);
+        for at in [6, 10, 18] {
+            record[at..at + 4].copy_from_slice(&0x0001_0203u32.to_be_bytes());
+        }
+        record[9] += 1;
+        record[13] += 1;
+        record[2..6].copy_from_slice(&(-1i32).to_be_bytes());
+        set(&mut record, PLACE + 5 * 3, 1, 5);
+        set(&mut record, PHASE, 11, 0x0001_0203);
+        set(&mut record, PHASE + 5 * 5, 2, 0x0001_0203);
+        let mut expected = record.clone();
+        // The place is done, so freed; 0 is free and 5 holds.
+        expected[21] += 1;
+        set(&mut expected, PLACE + 5 * 3, 0, 0);
+        set(&mut expected, PHASE, 0, 0);
+        set(&mut expected, PHASE + 5 * 5, 1, 0);
+        let (answer, left) = reply(&record, 0x11, 0);
+        assert_eq!(answer, "2A000500010203");
+        assert_eq!(left, expected);
+    }
+
+    /// A refusal hands the record back; so every byte is read and written.
+    #[test]
+    fn refused_records_come_back() {
+        let mut record = vec![0; RECORD];
+        for (byte, value) in record[..PLACE].iter_mut().zip(0x81..) {
+            *byte = value;
+        }
+        for place in 0..256 {
+            let state = (place % 6) as u8;
+            let party = if state == 1 {
+                0x1122_3300 + place as u32
+            } else {
+                0
+            };
+            set(&mut record, PLACE + 5 * place, state, party);
+        }
+        for party in 0..32 {
+            let phase = (party % 12) as u8;
+            let numbered = matches!(phase, 2 | 5..=8 | 11);
+            let t = if numbered { 0xA1B2_C3D4 } else { 0 };
+            set(&mut record, PHASE + 5 * party, phase, t);
+        }
+        for (code, party) in [(0x10, 0), (0x11, 31), (0x12, 32), (0x13, 255)] {
+            let (answer, left) = reply(&record, code, party);
+            assert_eq!(answer, format!("01{party:02X}FFFFFFFFFF"));
+            assert_eq!(left, record);
+        }
+    }
+
+    /// A byte that names nothing counts by its remainder; a number that
+    /// nothing has is written as zero.
+    #[test]
+    fn odd_bytes() {
+        for byte in 0..=255u8 {
+            let mut record = opened(0, 0);
+            set(&mut record, PLACE, byte, 7);
+            set(&mut record, PHASE, byte, 7);
+            let mut expected = opened(0, 0);
+            let (state, phase) = (byte % 6, byte % 12);
+            set(&mut expected, PLACE, state, if state == 1 { 7 } else { 0 });
+            let t = if matches!(phase, 2 | 5..=8 | 11) {
+                7
+            } else {
+                0
+            };
+            set(&mut expected, PHASE, phase, t);
+            let (answer, left) = reply(&record, byte, 9);
+            assert_eq!(answer, "0109FFFFFFFFFF");
+            assert_eq!(left, expected);
+            // On a fresh record each call is known by its answer.
+            let expected = ["20", "08", "09", "0B"][usize::from(byte % 4)];
+            assert_eq!(reply(&opened(1, 1), byte, 0).0[..2], *expected);
+        }
+    }
+
+    #[test]
+    fn only_whole_cases_are_answered() {
+        let cases = [opened(1, 1), vec![0x10, 0], opened(2, 2), vec![0x11, 1]].concat();
+        let output = replies(&cases);
+        assert_eq!(output.len(), 2 * REPLY);
+        assert_eq!((output[0], output[REPLY]), (0x20, 0x08));
+        for short in [0, 1, CASE - 1] {
+            assert_eq!(replies(&cases[..short]), []);
+            assert_eq!(replies(&cases[..CASE + short]), output[..REPLY]);
+        }
     }
 }
 

@@ -29,7 +29,7 @@ fn proved(schedule: &Schedule) -> Vec<[u8; ANSWER]> {
 /// refused opening, and it adds the closing line: neither is looked at.
 fn second(program: &str, schedule: &Schedule, answers: usize) -> Vec<String> {
     let input = schedule.lines().join("\n");
-    let output = process::output(program, input.as_bytes(), input.len());
+    let output = process::output(program, &[], input.as_bytes(), input.len());
     let text = String::from_utf8_lossy(&output).into_owned();
     text.lines().take(answers).map(str::to_string).collect()
 }

@@ -6,8 +6,9 @@ use std::thread;
 
 /// What a program prints for an input that it gets in pieces of a size. A program that does not
 /// end well, or that says anything on standard error, has printed nothing worth comparing.
-pub fn output(program: &str, input: &[u8], piece: usize) -> Vec<u8> {
+pub fn output(program: &str, arguments: &[&str], input: &[u8], piece: usize) -> Vec<u8> {
     let mut child = Command::new(program)
+        .args(arguments)
         .stdin(Stdio::piped())
         .stdout(Stdio::piped())
         .stderr(Stdio::piped())

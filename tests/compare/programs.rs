@@ -129,8 +129,8 @@ fn bytes(random: &mut Random) -> Vec<u8> {
 /// What both print. The pieces in which they get it must not show.
 fn outputs(programs: [&str; 2], input: &[u8], piece: usize) -> [Vec<u8>; 2] {
     thread::scope(|scope| {
-        let proved = scope.spawn(|| process::output(programs[0], input, piece));
-        let second = process::output(programs[1], input, input.len());
+        let proved = scope.spawn(|| process::output(programs[0], &[], input, piece));
+        let second = process::output(programs[1], &[], input, input.len());
         [proved.join().expect("the thread does not panic"), second]
     })
 }

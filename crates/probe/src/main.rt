@@ -1,0 +1,275 @@
+// One call on any record at all, also on one that no opening reaches. A case on standard input is a
+// record and a call, 1464 bytes; its reply is the answer and the record that is left, 1469 bytes.
+// tests/README.md lays them out.
+
+use hub::moves::Op;
+use hub::opening::Opening;
+use hub::record::Figures;
+use hub::record::Hub;
+use hub::record::Outcome;
+use hub::record::PartySlot;
+use hub::record::Phase;
+use hub::record::Place;
+use hub::record::PlaceSlot;
+use libc::STDIN_FILENO;
+use libc::STDOUT_FILENO;
+use line::answer::print_of;
+use line::answer::put;
+use line::signed::twos_complement;
+use step::calls::call;
+ghost use Prim.Native.Nat.{_+_, _<_, _≤_};
+
+// Only this function and `bytes_of` know the record's fields.
+fn record_of(bytes: &[u8; 1462]) -> Hub {
+    let places = places_of(bytes);
+    let slots = slots_of(bytes);
+    Hub {
+        opening: Opening {
+            permits: bytes[0],
+            parties: bytes[1],
+        },
+        figures: Figures {
+            counter: signed(number_at(bytes, 2)),
+            issued: number_at(bytes, 6),
+            resumed: number_at(bytes, 10),
+            begun: number_at(bytes, 14),
+        },
+        oldest: number_at(bytes, 18),
+        places,
+        slots,
+    }
+}
+
+fn bytes_of(hub: Hub) -> [u8; 1462] {
+    let mut out = [0u8; 1462];
+    out[0] = hub.opening.permits;
+    out[1] = hub.opening.parties;
+    put_number(&mut out, 2, twos_complement(hub.figures.counter));
+    put_number(&mut out, 6, hub.figures.issued);
+    put_number(&mut out, 10, hub.figures.resumed);
+    put_number(&mut out, 14, hub.figures.begun);
+    put_number(&mut out, 18, hub.oldest);
+    let places = hub.places;
+    put_places(&mut out, places);
+    let slots = hub.slots;
+    put_slots(&mut out, slots);
+    out
+}
+
+fn places_of(bytes: &[u8; 1462]) -> [PlaceSlot; 256] {
+    let mut places = [PlaceSlot {
+        place: Place::Empty,
+    }; 256];
+    let mut i: usize = 0;
+    while i < 256 {
+        let place = place_of(cell_at(bytes, 22 + 5 * i));
+        places[i] = PlaceSlot { place };
+        i += 1;
+    }
+    places
+}
+
+fn put_places(out: &mut [u8; 1462], places: [PlaceSlot; 256]) {
+    let mut i: usize = 0;
+    while i < 256 {
+        let slot = places[i];
+        let place = slot.place;
+        put_cell(out, 22 + 5 * i, place_cell(place));
+        i += 1;
+    }
+}
+
+fn slots_of(bytes: &[u8; 1462]) -> [PartySlot; 32] {
+    let mut slots = [PartySlot { phase: Phase::Free }; 32];
+    let mut p: usize = 0;
+    while p < 32 {
+        let phase = phase_of(cell_at(bytes, 1302 + 5 * p));
+        slots[p] = PartySlot { phase };
+        p += 1;
+    }
+    slots
+}
+
+fn put_slots(out: &mut [u8; 1462], slots: [PartySlot; 32]) {
+    let mut p: usize = 0;
+    while p < 32 {
+        let slot = slots[p];
+        let phase = slot.phase;
+        put_cell(out, 1302 + 5 * p, phase_cell(phase));
+        p += 1;
+    }
+}
+
+// A place or a phase as bytes: which one it is, and the party or the ticket that it may carry.
+struct Cell {
+    name: u8,
+    number: u32,
+}
+
+fn cell_at(bytes: &[u8; 1462], at: usize) -> Cell
+    requires { ⌜ at + 5 ≤ 1462 ⌝ }
+{
+    Cell {
+        name: bytes[at],
+        number: number_at(bytes, at + 1),
+    }
+}
+
+fn put_cell(out: &mut [u8; 1462], at: usize, cell: Cell)
+    requires { ⌜ at + 5 ≤ 1462 ⌝ }
+{
+    out[at] = cell.name;
+    put_number(out, at + 1, cell.number);
+}
+
+// A byte that names nothing counts by its remainder.
+fn place_of(cell: Cell) -> Place {
+    let name = cell.name % 6;
+    let party = cell.number;
+    match name {
+        0 => Place::Empty,
+        1 => Place::Waiting(party),
+        2 => Place::Permit,
+        3 => Place::Cancelled,
+        4 => Place::Refused,
+        _ => Place::Done,
+    }
+}
+
+fn place_cell(place: Place) -> Cell {
+    match place {
+        Place::Empty => plain(0),
+        Place::Waiting(party) => Cell {
+            name: 1,
+            number: party,
+        },
+        Place::Permit => plain(2),
+        Place::Cancelled => plain(3),
+        Place::Refused => plain(4),
+        Place::Done => plain(5),
+    }
+}
+
+fn phase_of(cell: Cell) -> Phase {
+    let name = cell.name % 12;
+    let t = cell.number;
+    match name {
+        0 => Phase::Free,
+        1 => Phase::Holding,
+        2 => Phase::Waiting(t),
+        3 => Phase::Acquiring,
+        4 => Phase::Suspending,
+        5 => Phase::Ticketed(t),
+        6 => Phase::Aborting(t),
+        7 => Phase::Cancelling(t),
+        8 => Phase::Refusing(t),
+        9 => Phase::Releasing,
+        10 => Phase::Resuming,
+        _ => Phase::ResumingAt(t),
+    }
+}
+
+fn phase_cell(phase: Phase) -> Cell {
+    match phase {
+        Phase::Free => plain(0),
+        Phase::Holding => plain(1),
+        Phase::Waiting(t) => Cell { name: 2, number: t },
+        Phase::Acquiring => plain(3),
+        Phase::Suspending => plain(4),
+        Phase::Ticketed(t) => Cell { name: 5, number: t },
+        Phase::Aborting(t) => Cell { name: 6, number: t },
+        Phase::Cancelling(t) => Cell { name: 7, number: t },
+        Phase::Refusing(t) => Cell { name: 8, number: t },
+        Phase::Releasing => plain(9),
+        Phase::Resuming => plain(10),
+        Phase::ResumingAt(t) => Cell {
+            name: 11,
+            number: t,
+        },
+    }
+}
+
+fn plain(name: u8) -> Cell {
+    Cell { name, number: 0 }
+}
+
+fn op_of(byte: u8) -> Op {
+    let name = byte % 4;
+    match name {
+        0 => Op::Acquire,
+        1 => Op::Step,
+        2 => Op::Cancel,
+        _ => Op::Release,
+    }
+}
+
+// The number in the four bytes from here on, the high byte first.
+fn number_at(bytes: &[u8; 1462], at: usize) -> u32
+    requires { ⌜ at + 4 ≤ 1462 ⌝ }
+{
+    let high = wide(bytes[at]) * 256 + wide(bytes[at + 1]);
+    let low = wide(bytes[at + 2]) * 256 + wide(bytes[at + 3]);
+    high * 65536 + low
+}
+
+fn put_number(out: &mut [u8; 1462], at: usize, n: u32)
+    requires { ⌜ at + 4 ≤ 1462 ⌝ }
+{
+    out[at] = (n / 16777216 % 256) as u8;
+    out[at + 1] = (n / 65536 % 256) as u8;
+    out[at + 2] = (n / 256 % 256) as u8;
+    out[at + 3] = (n % 256) as u8;
+}
+
+fn wide(byte: u8) -> u32
+    ensures { λ r. ⌜ r < 256 ⌝ }
+{
+    byte as u32
+}
+
+// A number from its two's complement.
+fn signed(n: u32) -> i32 {
+    if n <= 0x7FFFFFFF {
+        return n as i32;
+    }
+    let below = 0xFFFFFFFF - n;
+    !(below as i32)
+}
+
+// Whether all of the reply was written.
+fn print_reply(party: u8, o: Outcome) -> bool {
+    let answer = o.answer;
+    let mut line = [0u8; 7];
+    put(&mut line, party, print_of(answer));
+    if !io::write_all(STDOUT_FILENO, &line) {
+        return false;
+    }
+    let record = bytes_of(o.hub);
+    io::write_all(STDOUT_FILENO, &record)
+}
+
+// False where the input ends, or writing fails.
+fn answer_one() -> bool {
+    let mut record = [0u8; 1462];
+    if io::read_full(STDIN_FILENO, &mut record) < 1462 {
+        return false;
+    }
+    let mut asked = [0u8; 2];
+    if io::read_full(STDIN_FILENO, &mut asked) < 2 {
+        return false;
+    }
+    let party = asked[1];
+    let o = call(record_of(&record), op_of(asked[0]), party);
+    print_reply(party, o)
+}
+
+// A proved loop has to end, so the cases are counted down from a number that no input uses up.
+fn main() {
+    let mut turns = u64::MAX;
+    while 0 < turns {
+        if !answer_one() {
+            return;
+        }
+        turns -= 1;
+    }
+}

@@ -1,0 +1,787 @@
+//! Cases for the comparison of records, all from a seed. What "A record that fits" says aims them;
+//! nothing is judged here.
+
+use crate::clauses::{is_listed, Judgement};
+use crate::record::{Party, Phase, Place, Record, State, PARTIES, PHASES, PLACES, RECORD, STATES};
+use crate::schedules::{schedule, Random, ASK, GIVE_BACK, GIVE_UP, STEP};
+use std::vec;
+
+const SPAN: u32 = PLACES as u32;
+const MOST: u32 = 1_000_000;
+
+#[derive(Clone, Copy)]
+pub enum Family {
+    Reached,
+    FromFitting,
+    Damaged,
+    NearBounds,
+    OneClause,
+    Untidy,
+    ToUnfit,
+    Unfit,
+    OddBytes,
+}
+
+pub const FAMILIES: [&str; 9] = [
+    "reached",
+    "called on from any that fits",
+    "damaged",
+    "near the bounds",
+    "one clause",
+    "untidy",
+    "to be left unfit",
+    "left unfit",
+    "odd bytes",
+];
+
+/// A record and a call as the programs read them.
+pub struct Case {
+    pub family: Family,
+    pub bytes: Vec<u8>,
+}
+
+impl Case {
+    fn new(family: Family, record: &Record, call: [u8; 2]) -> Self {
+        let mut bytes = record.bytes();
+        bytes.extend(call);
+        Case { family, bytes }
+    }
+}
+
+/// A record that is called on and on: each call gets what the one before it left.
+struct World {
+    record: Record,
+    /// The calls of a schedule, from its opening; without one, calls that the record suggests.
+    schedule: Option<vec::IntoIter<[u8; 2]>>,
+    over: bool,
+}
+
+impl World {
+    fn opened(random: &mut Random) -> Self {
+        let s = schedule(random, 4000);
+        if !(1..=32).contains(&s.permits) || !(1..=32).contains(&s.parties) {
+            return World::opened(random);
+        }
+        let record = Record::opened(s.permits, s.parties);
+        World { record, schedule: Some(s.calls.into_iter()), over: false }
+    }
+
+    fn fitting(random: &mut Random) -> Self {
+        World { record: fitting(random), schedule: None, over: false }
+    }
+
+    /// The next call; if this world is over, the first of another.
+    fn next(&mut self, random: &mut Random) -> Case {
+        if self.over {
+            *self = match self.schedule {
+                Some(_) => World::opened(random),
+                None => World::fitting(random),
+            };
+        }
+        match &mut self.schedule {
+            Some(calls) => {
+                let call = calls.next().unwrap_or([STEP, 0]);
+                self.over = calls.len() == 0;
+                Case::new(Family::Reached, &self.record, call)
+            }
+            None => {
+                self.over = random.one_in(100);
+                Case::new(Family::FromFitting, &self.record, call_for(random, &self.record))
+            }
+        }
+    }
+}
+
+/// Makes the cases of one turn after the other.
+pub struct Maker {
+    worlds: Vec<World>,
+    /// Records that a success has just left unfit.
+    unfit: Vec<Record>,
+}
+
+impl Maker {
+    pub fn new(random: &mut Random) -> Self {
+        let mut worlds = Vec::new();
+        for _ in 0..60 {
+            worlds.extend([World::opened(random), World::fitting(random)]);
+        }
+        Maker { worlds, unfit: Vec::new() }
+    }
+
+    /// The cases of a turn, those of the worlds first.
+    pub fn cases(&mut self, random: &mut Random) -> Vec<Case> {
+        let mut cases: Vec<Case> = self.worlds.iter_mut().map(|world| world.next(random)).collect();
+        let mut add = |random: &mut Random, family, record: Record| {
+            let call = call_for(random, &record);
+            cases.push(Case::new(family, &record, call));
+        };
+        for world in &self.worlds {
+            let record = damaged(random, &world.record);
+            add(random, Family::Damaged, record);
+        }
+        for _ in 0..60 {
+            let record = near_bounds(random);
+            add(random, Family::NearBounds, record);
+        }
+        for record in one_clause(random) {
+            add(random, Family::OneClause, record);
+        }
+        for record in self.unfit.drain(..) {
+            add(random, Family::Unfit, record);
+        }
+        for _ in 0..60 {
+            let mut record = untidy(random);
+            let call = success(random, &mut record);
+            cases.push(Case::new(Family::Untidy, &record, call));
+        }
+        cases.extend((0..40).map(|_| to_unfit(random)));
+        cases.extend((0..20).map(|_| odd_bytes(random)));
+        cases
+    }
+
+    /// Takes up what a turn left: the code of each answer, and the record.
+    pub fn follow(&mut self, replies: &[(u8, Record)]) {
+        for (world, (code, record)) in self.worlds.iter_mut().zip(replies) {
+            world.record = record.clone();
+            // after 1 nothing more can happen
+            world.over |= *code == 1;
+        }
+        let fresh = replies.iter().filter(|(code, _)| *code >= 0x20).map(|(_, record)| record);
+        let unfit = fresh.filter(|record| !Judgement::of(record).broken.is_empty());
+        self.unfit.extend(unfit.take(40).cloned());
+    }
+}
+
+/// A call that the record suggests, and now and then any other.
+fn call_for(random: &mut Random, record: &Record) -> [u8; 2] {
+    let n = record.parties.clamp(1, 32);
+    if random.one_in(12) {
+        let any = random.byte();
+        let below = random.below(n.into()) as u8;
+        return [random.pick(&[ASK, STEP, GIVE_UP, GIVE_BACK]), random.pick(&[any, n, below])];
+    }
+    let mut party = random.below(n.into()) as u8;
+    for _ in 0..3 {
+        // whoever is free can only ask
+        if record.phases[usize::from(party)].phase == Phase::Free {
+            party = random.below(n.into()) as u8;
+        }
+    }
+    [usual(record.phases[usize::from(party)].phase), party]
+}
+
+/// The call that a party in a phase may make.
+fn usual(phase: Phase) -> u8 {
+    match phase {
+        Phase::Free => ASK,
+        Phase::Waiting => GIVE_UP,
+        Phase::Holding => GIVE_BACK,
+        _ => STEP,
+    }
+}
+
+/// A call that a record which fits does not refuse. Party 0 may have to hold a link for it.
+fn success(random: &mut Random, record: &mut Record) -> [u8; 2] {
+    for _ in 0..8 {
+        let party = random.below(record.parties.into()) as u8;
+        let phase = record.phases[usize::from(party)].phase;
+        // an ask may find no room, and waits of kind 3 stay
+        if phase != Phase::Free && (phase != Phase::Waiting || party < 30) {
+            return [usual(phase), party];
+        }
+    }
+    if record.phases[0].phase == Phase::Free {
+        record.phases[0] = Party::at(Phase::Holding, 0);
+    }
+    [usual(record.phases[0].phase), 0]
+}
+
+/// One of a few, or any below a bound.
+fn figure(random: &mut Random, few: &[u32], bound: u32) -> u32 {
+    let any = random.below(bound.into()) as u32;
+    if random.one_in(2) {
+        random.pick(few)
+    } else {
+        any
+    }
+}
+
+/// A record with figures that fit, its places empty and its parties free.
+fn bare(random: &mut Random) -> Record {
+    let links = 1 + figure(random, &[0, 31], 32) as u8;
+    let parties = 1 + figure(random, &[1, 2, 30, 31, 31], 32) as u8;
+    let mut record = Record::opened(links, parties);
+    record.counter = figure(random, &[0, 1, 31, 32, 33, 63, 64], 65) as i32 - 32;
+    record.begun = figure(random, &[0, MOST - 1, MOST], MOST);
+    record.oldest = figure(random, &[0, 1, 255, 256, 257, 65_535, MOST - SPAN, MOST], MOST);
+    let ahead = |random: &mut Random| figure(random, &[0, 1, 2, 255, 256], SPAN + 1);
+    record.numbered = (record.oldest + ahead(random)).min(MOST);
+    record.handed = (record.oldest + ahead(random)).min(MOST);
+    record
+}
+
+/// The same with some numbers given out, some handed over and some left on either side.
+fn roomy(random: &mut Random) -> Record {
+    let mut record = bare(random);
+    record.oldest = 1 + random.below(990_000) as u32;
+    record.numbered = record.oldest + 2 + random.below(254) as u32;
+    record.handed = record.oldest + 2 + random.below(254) as u32;
+    record
+}
+
+/// A record that fits, of any kind.
+fn fitting(random: &mut Random) -> Record {
+    let mut record = bare(random);
+    fill(random, &mut record);
+    record
+}
+
+/// Fills places and phases so that the record fits if its figures do.
+fn fill(random: &mut Random, record: &mut Record) {
+    let places = random.pick(&[0, 4, 40, 400]);
+    for _ in 0..random.below(places + 1) {
+        let any = random.below(256) as u32;
+        let few = random.below(6) as u32;
+        let at = random.pick(&[any, record.oldest + few, record.handed + few]);
+        let state = random.pick(&[State::Link, State::Cancelled, State::Refused, State::Done]);
+        *record.place_mut(at) = Place::of(state);
+    }
+    let idle = random.pick(&[0, 1, 3]);
+    for party in 0..usize::from(record.parties).min(PARTIES) {
+        if random.below(4) >= idle {
+            // a hand-over should often meet somebody
+            let any = random.pick(&PHASES);
+            let phase =
+                random.pick(&[any, any, any, Phase::Waiting, Phase::GivingUp, Phase::Handing]);
+            let t = given(random, record, phase);
+            settle(random, record, party, phase, t);
+        }
+    }
+    mend(record, &[], &[]);
+}
+
+/// Where the numbers of a phase end.
+fn next(record: &Record, phase: Phase) -> u32 {
+    if phase == Phase::Handing {
+        record.handed
+    } else {
+        record.numbered
+    }
+}
+
+/// A number that a party in a phase may have, if there is one: at times somebody else's.
+fn given(random: &mut Random, record: &Record, phase: Phase) -> u32 {
+    let count = next(record, phase).saturating_sub(record.oldest).clamp(1, SPAN);
+    let taken = random.pick(&record.phases).number;
+    if random.one_in(2) && (record.oldest..record.oldest + count).contains(&taken) {
+        return taken;
+    }
+    let any = random.below(count.into()) as u32;
+    record.oldest + random.pick(&[any, any, 0, count - 1])
+}
+
+/// Puts a party into a phase and makes the place of its number suit it.
+fn settle(random: &mut Random, record: &mut Record, party: usize, phase: Phase, t: u32) {
+    if !phase.has_number() {
+        record.phases[party] = Party::at(phase, 0);
+        return;
+    }
+    record.phases[party] = Party::at(phase, t);
+    // those two act on no place, so that any is right; mostly it is their own
+    let left_alone = if matches!(phase, Phase::Waiting | Phase::GivingUp) { 1 } else { 2 };
+    if is_listed(phase, record.place(t).state) && random.below(3) < left_alone {
+        return;
+    }
+    let has_place = t.wrapping_sub(record.oldest) < SPAN;
+    let own = if has_place { Place::waiting(party as u32) } else { Place::of(State::Link) };
+    let [empty, link] = [State::Empty, State::Link].map(Place::of);
+    let [cancelled, refused] = [State::Cancelled, State::Refused].map(Place::of);
+    *record.place_mut(t) = match phase {
+        Phase::Numbered => random.pick(&[empty, link]),
+        Phase::Handing => random.pick(&[empty, cancelled, refused]),
+        _ => random.pick(&[own, own, link]),
+    };
+}
+
+/// Frees parties and empties places until all of them fit, but for those that are kept.
+fn mend(record: &mut Record, parties: &[usize], numbers: &[u32]) {
+    let kept = |at: usize| numbers.iter().any(|&number| number as usize % PLACES == at);
+    loop {
+        let before = record.clone();
+        for party in 0..PARTIES {
+            if !parties.contains(&party) && !Judgement::party_fits(record, party) {
+                record.phases[party] = Party::FREE;
+            }
+        }
+        for at in 0..PLACES {
+            if !kept(at) && !Judgement::place_fits(record, at) {
+                record.places[at] = Place::EMPTY;
+            }
+        }
+        if *record == before {
+            return;
+        }
+    }
+}
+
+/// One to three fields altered.
+fn damaged(random: &mut Random, record: &Record) -> Record {
+    let mut record = record.clone();
+    for _ in 0..1 + random.below(3) {
+        damage(random, &mut record);
+    }
+    record
+}
+
+fn damage(random: &mut Random, record: &mut Record) {
+    let party = random.below(32) as usize;
+    let at = random.below(256) as usize;
+    match random.below(14) {
+        0 => record.links = damaged_byte(random, record.links),
+        1 => record.parties = damaged_byte(random, record.parties),
+        2 => record.counter = damaged_figure(random, record, record.counter as u32) as i32,
+        3 => record.numbered = damaged_figure(random, record, record.numbered),
+        4 => record.handed = damaged_figure(random, record, record.handed),
+        5 => record.begun = damaged_figure(random, record, record.begun),
+        6 => record.oldest = damaged_figure(random, record, record.oldest),
+        7 | 8 => record.phases[party].phase = random.pick(&PHASES),
+        9 => record.phases[party] = random.pick(&record.phases),
+        10 => {
+            let number = record.phases[party].number;
+            record.phases[party].number = damaged_figure(random, record, number);
+        }
+        11 => {
+            let state = random.pick(&STATES);
+            record.places[at] = Place { state, party: party as u32 };
+        }
+        12 => record.places[at] = random.pick(&record.places),
+        // where something is more often the case
+        _ => {
+            let number = random.pick(&[record.oldest, record.handed, record.numbered]);
+            let place = record.place_mut(number.wrapping_sub(random.below(3) as u32));
+            place.state = random.pick(&STATES);
+            place.party = damaged_byte(random, party as u8).into();
+        }
+    }
+    tidy_fields(record);
+}
+
+/// A party that no place carries and a number that no phase has are 0.
+fn tidy_fields(record: &mut Record) {
+    for place in record.places.iter_mut().filter(|place| place.state != State::Waiting) {
+        place.party = 0;
+    }
+    for party in record.phases.iter_mut().filter(|party| !party.phase.has_number()) {
+        party.number = 0;
+    }
+}
+
+fn damaged_byte(random: &mut Random, byte: u8) -> u8 {
+    let any = random.byte();
+    random.pick(&[0, 1, 31, 32, 33, byte.wrapping_add(1), byte.wrapping_sub(1), any])
+}
+
+fn damaged_figure(random: &mut Random, record: &Record, figure: u32) -> u32 {
+    let near = [figure, record.oldest, record.numbered, record.handed, 0, 32, MOST, 1 << 31];
+    let from = random.pick(&near);
+    let by = random.pick(&[0, 1, 2, 32, 255, 256, 257, 1 << 16, 1 << 24]);
+    if random.one_in(2) {
+        from.wrapping_add(by)
+    } else {
+        from.wrapping_sub(by)
+    }
+}
+
+/// Anything near the bounds, whether it fits or not.
+fn near_bounds(random: &mut Random) -> Record {
+    let mut record = if random.one_in(2) { bare(random) } else { roomy(random) };
+    for _ in 0..random.below(3) {
+        damage(random, &mut record);
+    }
+    let places = random.pick(&[2, 20, 200]);
+    for _ in 0..random.below(places) {
+        let party = damaged_byte(random, 5).into();
+        let number = record.oldest.wrapping_add(random.below(260) as u32);
+        *record.place_mut(number) = Place { state: random.pick(&STATES), party };
+    }
+    for _ in 0..random.below(5) {
+        let party = random.below(32) as usize;
+        let number = damaged_figure(random, &record, record.oldest);
+        record.phases[party] = Party::at(random.pick(&PHASES), number);
+    }
+    tidy_fields(&mut record);
+    record
+}
+
+/// Each clause broken alone, one step outside of its bound, and just met.
+fn one_clause(random: &mut Random) -> Vec<Record> {
+    let mut records = Vec::new();
+    figures_alone(random, &mut records);
+    free_alone(random, &mut records);
+    numbers_alone(random, &mut records);
+    acted_on_alone(random, &mut records);
+    waiters_alone(random, &mut records);
+    waiter_numbers_alone(random, &mut records);
+    waiter_parties_alone(random, &mut records);
+    taking_alone(random, &mut records);
+    records
+}
+
+fn figures_alone(random: &mut Random, records: &mut Vec<Record>) {
+    // what is set, with an oldest that has room on either side; the rest is filled to suit it
+    let alter: [fn(&mut Record, u32); 26] = [
+        |r, _| r.links = 0,
+        |r, _| r.links = 1,
+        |r, _| r.links = 32,
+        |r, _| r.links = 33,
+        |r, _| r.parties = 0,
+        |r, _| r.parties = 1,
+        |r, _| r.parties = 32,
+        |r, _| r.parties = 33,
+        |r, _| r.counter = -33,
+        |r, _| r.counter = -32,
+        |r, _| r.counter = 32,
+        |r, _| r.counter = 33,
+        |r, _| r.begun = MOST,
+        |r, _| r.begun = MOST + 1,
+        |r, o| (r.oldest, r.numbered, r.handed) = (o, o - 1, o + 20),
+        |r, o| (r.oldest, r.numbered, r.handed) = (o, o, o + 20),
+        |r, o| (r.oldest, r.numbered, r.handed) = (o, o + 256, o + 20),
+        |r, o| (r.oldest, r.numbered, r.handed) = (o, o + 257, o + 20),
+        |r, o| (r.oldest, r.numbered, r.handed) = (o, o + 20, o - 1),
+        |r, o| (r.oldest, r.numbered, r.handed) = (o, o + 20, o),
+        |r, o| (r.oldest, r.numbered, r.handed) = (o, o + 20, o + 256),
+        |r, o| (r.oldest, r.numbered, r.handed) = (o, o + 20, o + 257),
+        |r, o| (r.oldest, r.numbered, r.handed) = (MOST - o % 99, MOST, MOST),
+        |r, o| (r.oldest, r.numbered, r.handed) = (MOST - o % 99, MOST + 1, MOST),
+        |r, o| (r.oldest, r.numbered, r.handed) = (MOST - o % 99, MOST, MOST + 1),
+        |r, o| (r.oldest, r.numbered, r.handed) = (MOST - o % 9, MOST - o % 9, MOST),
+    ];
+    for alter in alter {
+        let mut record = bare(random);
+        let oldest = 1 + random.below(990_000) as u32;
+        alter(&mut record, oldest);
+        fill(random, &mut record);
+        records.push(record);
+    }
+}
+
+fn free_alone(random: &mut Random, records: &mut Vec<Record>) {
+    for phase in &PHASES[1..] {
+        let n = 1 + random.below(31) as u8;
+        // party n, the last party, and party n - 1
+        for party in [n, 31, n - 1].map(usize::from) {
+            let mut record = roomy(random);
+            record.parties = n;
+            fill(random, &mut record);
+            let t = given(random, &record, *phase);
+            settle(random, &mut record, party, *phase, t);
+            mend(&mut record, &[party], &[t]);
+            records.push(record);
+        }
+    }
+}
+
+/// A party below n, often the first or the last.
+fn party_of(random: &mut Random, record: &Record) -> usize {
+    let n = usize::from(record.parties);
+    let any = random.below(n as u64) as usize;
+    random.pick(&[0, n - 1, any])
+}
+
+/// Sets where the numbers of a phase end.
+fn set_next(record: &mut Record, phase: Phase, next: u32) {
+    match phase {
+        Phase::Handing | Phase::Carrying => record.handed = next,
+        _ => record.numbered = next,
+    }
+}
+
+fn numbers_alone(random: &mut Random, records: &mut Vec<Record>) {
+    for phase in PHASES.into_iter().filter(|phase| phase.has_number()) {
+        for side in 0..5 {
+            let mut record = roomy(random);
+            let end = next(&record, phase);
+            let t = match side {
+                0 => record.oldest - 1,
+                1 => record.oldest,
+                2 => end - 1,
+                3 => end,
+                _ => {
+                    let end = record.oldest + SPAN;
+                    set_next(&mut record, phase, end);
+                    end - 1
+                }
+            };
+            fill(random, &mut record);
+            let party = party_of(random, &record);
+            settle(random, &mut record, party, phase, t);
+            mend(&mut record, &[party], &[t]);
+            records.push(record);
+        }
+    }
+}
+
+fn acted_on_alone(random: &mut Random, records: &mut Vec<Record>) {
+    for phase in [Phase::Numbered, Phase::Handing, Phase::Cancelling, Phase::Refusing] {
+        for state in STATES {
+            let mut record = roomy(random);
+            record.parties = record.parties.max(2);
+            fill(random, &mut record);
+            let party = party_of(random, &record);
+            let waiter = (party + 1) % usize::from(record.parties);
+            let t = shared(random, &record);
+            record.phases[party] = Party::at(phase, t);
+            *record.place_mut(t) = Place::of(state);
+            if state == State::Waiting {
+                record.phases[waiter] = Party::at(Phase::Waiting, t);
+                *record.place_mut(t) = Place::waiting(waiter as u32);
+            }
+            mend(&mut record, &[party], &[t]);
+            records.push(record);
+        }
+    }
+}
+
+/// A number that is given out and handed over.
+fn shared(random: &mut Random, record: &Record) -> u32 {
+    let end = record.numbered.min(record.handed);
+    let any = record.oldest + random.below((end - record.oldest).into()) as u32;
+    random.pick(&[record.oldest, end - 1, any])
+}
+
+/// A waiting place whose party is in each phase; then, past the numbers given out, of anybody.
+fn waiters_alone(random: &mut Random, records: &mut Vec<Record>) {
+    for phase in PHASES {
+        let mut record = roomy(random);
+        fill(random, &mut record);
+        let party = party_of(random, &record);
+        let t = shared(random, &record);
+        // nobody can be numbered t where a place is waiting
+        let own = match phase {
+            Phase::Numbered if t == record.oldest => t + 1,
+            Phase::Numbered => t - 1,
+            _ => t,
+        };
+        record.phases[party] = Party::at(phase, if phase.has_number() { own } else { 0 });
+        *record.place_mut(own) = Place::EMPTY;
+        *record.place_mut(t) = Place::waiting(party as u32);
+        mend(&mut record, &[party], &[t, own]);
+        records.push(record);
+    }
+    for last in [false, true] {
+        let mut record = roomy(random);
+        fill(random, &mut record);
+        let t = if last { record.oldest + SPAN - 1 } else { record.numbered };
+        let party = random.below(32) as u32;
+        *record.place_mut(t) = Place::waiting(party);
+        mend(&mut record, &[], &[t]);
+        records.push(record);
+    }
+}
+
+/// A waiting place whose party has the number before or after.
+fn waiter_numbers_alone(random: &mut Random, records: &mut Vec<Record>) {
+    for phase in [Phase::Waiting, Phase::GivingUp, Phase::Cancelling, Phase::Refusing] {
+        for less in [false, true] {
+            let mut record = roomy(random);
+            fill(random, &mut record);
+            let party = party_of(random, &record);
+            let first =
+                record.oldest + random.below((record.numbered - record.oldest - 1).into()) as u32;
+            let (own, t) = if less { (first, first + 1) } else { (first + 1, first) };
+            record.phases[party] = Party::at(phase, own);
+            *record.place_mut(own) = Place::of(State::Link);
+            *record.place_mut(t) = Place::waiting(party as u32);
+            mend(&mut record, &[party], &[t, own]);
+            records.push(record);
+        }
+    }
+}
+
+/// A waiting place whose party is right, or would be if a part of the number were lost.
+fn waiter_parties_alone(random: &mut Random, records: &mut Vec<Record>) {
+    let any = [0, 32, 64, 224, 1 << 8, 1 << 16, 1 << 24, 1 << 31, 0xFFFF_FF00];
+    let some = [(Some(31), 0), (Some(0), 32)];
+    for (party, more) in some.into_iter().chain(any.map(|more| (None, more))) {
+        let mut record = roomy(random);
+        if party == Some(31) {
+            record.parties = 32;
+        }
+        fill(random, &mut record);
+        let party = party.unwrap_or_else(|| party_of(random, &record));
+        let t = given(random, &record, Phase::Waiting);
+        record.phases[party] = Party::at(Phase::Waiting, t);
+        *record.place_mut(t) = Place::waiting(party as u32 + more);
+        mend(&mut record, &[party], &[t]);
+        records.push(record);
+    }
+    // party n, which is free; and one that there is not
+    for more in [0, 32] {
+        let mut record = roomy(random);
+        record.parties = 1 + random.below(31) as u8;
+        fill(random, &mut record);
+        let t = record.oldest + random.below(256) as u32;
+        *record.place_mut(t) = Place::waiting(u32::from(record.parties) + more);
+        mend(&mut record, &[], &[t]);
+        records.push(record);
+    }
+}
+
+fn taking_alone(random: &mut Random, records: &mut Vec<Record>) {
+    for phase in [Phase::Unnumbered, Phase::Carrying] {
+        for ahead in [SPAN - 1, SPAN] {
+            let mut record = roomy(random);
+            let end = record.oldest + ahead;
+            set_next(&mut record, phase, end);
+            fill(random, &mut record);
+            let party = party_of(random, &record);
+            record.phases[party] = Party::at(phase, 0);
+            mend(&mut record, &[party], &[]);
+            records.push(record);
+        }
+    }
+}
+
+/// A record that fits, with done places from *oldest* on and cancelled ones from *handed* on.
+fn untidy(random: &mut Random) -> Record {
+    let mut record = if random.one_in(2) { bare(random) } else { roomy(random) };
+    let few = random.below(5) as u32;
+    if random.one_in(2) {
+        // the tidying of the one runs into the other
+        record.handed = (record.oldest + few).min(MOST);
+    }
+    fill(random, &mut record);
+    let [done, cancelled] = [State::Done, State::Cancelled];
+    let (oldest, handed, end) = (record.oldest, record.handed, record.oldest + SPAN);
+    let many = random.below(257) as u32;
+    match random.below(7) {
+        0 => lay(&mut record, oldest, 1 + few, done),
+        1 => lay(&mut record, oldest, many, done),
+        2 => lay(&mut record, handed, 1 + few, cancelled),
+        3 => lay(&mut record, handed, end - handed, cancelled),
+        4 => lay(&mut record, oldest, SPAN, random.pick(&[done, cancelled])),
+        5 => {
+            lay(&mut record, oldest, handed - oldest, done);
+            lay(&mut record, handed, many.min(end - handed), cancelled);
+            lay(&mut record, handed + many.min(end - handed), few, done);
+        }
+        _ => {
+            lay(&mut record, oldest, 1 + few, done);
+            lay(&mut record, handed, 1 + few, cancelled);
+        }
+    }
+    mend(&mut record, &[], &[]);
+    record
+}
+
+fn lay(record: &mut Record, from: u32, count: u32, state: State) {
+    for number in from..from + count {
+        *record.place_mut(number) = Place::of(state);
+    }
+}
+
+/// A record that fits, and a call that leaves it unfit.
+fn to_unfit(random: &mut Random) -> Case {
+    let mut record = if random.one_in(2) { bare(random) } else { roomy(random) };
+    let near = MOST - random.below(255) as u32;
+    let kind = random.below(8);
+    match kind {
+        0 | 1 => record.counter = 32,
+        2 => record.counter = -32,
+        3 => (record.oldest, record.numbered, record.handed) = (near, MOST, near),
+        4 | 5 => (record.oldest, record.numbered, record.handed) = (near, near, MOST),
+        _ => record = roomy(random),
+    }
+    fill(random, &mut record);
+    let party = party_of(random, &record);
+    let phase = match kind {
+        0 => Phase::GivingBack,
+        1 => Phase::GivingUp,
+        2 => Phase::Asked,
+        3 => Phase::Unnumbered,
+        4 => Phase::Carrying,
+        7 => Phase::Waiting,
+        _ => Phase::Holding,
+    };
+    let oldest = record.oldest;
+    let t = if kind == 7 { oldest } else { given(random, &record, phase) };
+    settle(random, &mut record, party, phase, t);
+    match kind {
+        5 => lay(&mut record, MOST, 1, State::Cancelled),
+        // past numbered, past handed, or past both
+        6 => lay(&mut record, oldest, 1 + random.below(256) as u32, State::Done),
+        7 => lay(&mut record, oldest, 1, State::Done),
+        _ => {}
+    }
+    mend(&mut record, &[], &[]);
+    let code = usual(record.phases[party].phase);
+    Case::new(Family::ToUnfit, &record, [code, party as u8])
+}
+
+/// Bytes that name no state, phase or call, and numbers that nothing has; or bytes of any kind.
+fn odd_bytes(random: &mut Random) -> Case {
+    let record = if random.one_in(2) { fitting(random) } else { near_bounds(random) };
+    let call = call_for(random, &record);
+    let mut case = Case::new(Family::OddBytes, &record, call);
+    if random.one_in(4) {
+        let from = random.pick(&[0, 0, 22]);
+        case.bytes[from..].iter_mut().for_each(|byte| *byte = random.byte());
+        return case;
+    }
+    let (record, call) = case.bytes.split_at_mut(RECORD);
+    for (at, cell) in record[22..].chunks_mut(5).enumerate() {
+        let (count, carries): (u8, &[u8]) =
+            if at < PLACES { (6, &[1]) } else { (12, &[2, 5, 6, 7, 8, 11]) };
+        if !carries.contains(&cell[0]) {
+            cell[1..].iter_mut().for_each(|byte| *byte = random.byte());
+        }
+        cell[0] += count * random.below((256 / u64::from(count)) - 1) as u8;
+    }
+    call[0] = call[0] % 4 + 4 * random.below(64) as u8;
+    case
+}
+
+/// The few cases of crates/probe/stdin.
+pub fn sample() -> Vec<u8> {
+    let mut bytes = Vec::new();
+    let mut add = |record: &Record, call: [u8; 2]| {
+        bytes.extend(record.bytes());
+        bytes.extend(call);
+    };
+    let opened = Record::opened(1, 3);
+    add(&opened, [ASK, 0]);
+    add(&opened, [ASK, 3]);
+    // the counter goes from 32 to 33; the next call is refused
+    let mut full = Record::opened(32, 3);
+    full.phases[2] = Party::at(Phase::GivingBack, 0);
+    add(&full, [STEP, 2]);
+    full.counter = 33;
+    add(&full, [STEP, 2]);
+    // number 1,000,000 is given out
+    let mut last = Record::opened(2, 32);
+    (last.oldest, last.numbered, last.handed) = (MOST - 1, MOST, MOST - 1);
+    last.phases[31] = Party::at(Phase::Unnumbered, 0);
+    last.counter = -1;
+    add(&last, [STEP, 31]);
+    // a waiter is woken, with places done from oldest on and cancelled ones from handed on
+    let mut untidy = Record::opened(2, 8);
+    (untidy.oldest, untidy.numbered, untidy.handed) = (1000, 1010, 1004);
+    lay(&mut untidy, 1000, 3, State::Done);
+    lay(&mut untidy, 1004, 2, State::Cancelled);
+    untidy.phases[1] = Party::at(Phase::Handing, 1003);
+    untidy.phases[7] = Party::at(Phase::Waiting, 1003);
+    *untidy.place_mut(1003) = Place::waiting(7);
+    untidy.counter = -3;
+    add(&untidy, [STEP, 1]);
+    // the same, but for a waiter that is not 7
+    *untidy.place_mut(1003) = Place::waiting(7 + 256);
+    add(&untidy, [STEP, 1]);
+    // all places are empty and party 0 holds, and it gives back
+    let odd = bytes.len();
+    bytes.extend(opened.bytes());
+    bytes.extend([0xFF, 0]);
+    bytes[odd + 22..odd + 1302].fill(252);
+    bytes[odd + 1302] = 253;
+    bytes
+}
