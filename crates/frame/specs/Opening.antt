@@ -10,7 +10,7 @@ use Rattle.hub.specs.declared.record.Hub.{Hub}
 use Rattle.hub.specs.Answers.{plain}
 use Rattle.line.specs.Program.{unopened, isOpen, Reply, beforeOpen, after}
 use Rattle.line.specs.Requests.{Request, requestOf}
-use Rattle.live.specs.Live.{Reachable}
+use Rattle.batch.specs.Batch.{Reachable}
 use Rattle.frame.specs.declared.opening.Begun.{Begun}
 use Rattle.frame.specs.declared.reader.Reader.{Reader}
 use Rattle.frame.specs.Reading.{lineIn, next, past, asked}

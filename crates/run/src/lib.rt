@@ -1,13 +1,13 @@
 // Runs a whole list of calls on a hub just opened, and leaves the answers in the caller's buffer.
 // What the third demand says of schedules it says of these answers.
 
+use batch::answer_requests;
 use hub::answers::Answer;
 use hub::answers::Refusal;
 use hub::opening::Opening;
 use hub::opening::open_hub;
 use line::answer::refusal_code;
 use line::form::BYTES;
-use live::answer_requests;
 ghost use mathlib.Core.Path.{_≡_};
 ghost use Rattle.run.specs.Bytes.{wellFormed};
 ghost use Rattle.run.specs.Run.{ranCode, runOf};
@@ -43,7 +43,7 @@ fn well_formed(calls: &[u8]) -> bool
 }
 
 // Opens a hub, and runs the calls if they are well formed and there is room for the answers. What
-// an opening leads to needs no check, so that `live` answers them.
+// an opening leads to needs no check, so that `batch` answers them.
 pub fn run_calls(o: Opening, calls: &[u8], out: &mut [u8]) -> Ran
     ensures { λ r. ⌜ (r ≡ runOf o (now (calls .entry)) (now (out .entry)) .ran)
         × (now (out .exit) ≡ runOf o (now (calls .entry)) (now (out .entry)) .out) ⌝ }

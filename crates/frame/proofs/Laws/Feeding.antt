@@ -26,8 +26,8 @@ use Rattle.line.specs.Requests.{Request, malformed, toOpen, toCall, requestOf, 
 use Rattle.line.proofs.Laws.Codes.{is-call, op-back}
 use Rattle.line.proofs.Laws.Parts.{parts, put-length}
 use Rattle.line.proofs.Laws.Schedules.{respond-open, respond-before, still-open}
-use Rattle.live.specs.Live.{requestFor, requestsIn, replied, Reachable}
-use Rattle.live.proofs.Laws.Reachable.{reachable-open, opening-reachable, response-reachable}
+use Rattle.batch.specs.Batch.{requestFor, requestsIn, replied, Reachable}
+use Rattle.batch.proofs.Laws.Reachable.{reachable-open, opening-reachable, response-reachable}
 use Rattle.frame.specs.declared.reader.Read.{Read}
 use Rattle.frame.specs.declared.reader.Reader.{Reader}
 use Rattle.frame.specs.declared.session.Fed.{Fed}

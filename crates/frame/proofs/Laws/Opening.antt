@@ -27,8 +27,8 @@ use Rattle.line.specs.Program.{replies, replyIn, rendered}
 use Rattle.line.specs.Requests.{Request, malformed, toOpen, toCall, requestOf, headerOf, isOpening}
 use Rattle.line.proofs.Laws.Parts.{parts, put-length}
 use Rattle.line.proofs.Laws.Schedules.{respond-before}
-use Rattle.live.specs.Live.{Reachable}
-use Rattle.live.proofs.Laws.Reachable.{reachable-open, opening-reachable, response-reachable}
+use Rattle.batch.specs.Batch.{Reachable}
+use Rattle.batch.proofs.Laws.Reachable.{reachable-open, opening-reachable, response-reachable}
 use Rattle.frame.specs.declared.opening.Begun.{Begun}
 use Rattle.frame.specs.declared.reader.Read.{Read}
 use Rattle.frame.specs.declared.reader.Reader.{Reader}

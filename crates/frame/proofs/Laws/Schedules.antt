@@ -15,7 +15,7 @@ use Rattle.line.specs.Program.{unopened, beforeOpen, respond}
 use Rattle.line.specs.Program.{replies, after, rendered, closing, linesFrom, linesOf, outputOf}
 use Rattle.line.specs.Requests.{toOpen, toCall, requestOf}
 use Rattle.line.proofs.Laws.Schedules.{schedule-replies, schedule-after}
-use Rattle.live.proofs.Laws.Reachable.{reachable-open, opening-reachable}
+use Rattle.batch.proofs.Laws.Reachable.{reachable-open, opening-reachable}
 use Rattle.frame.specs.Schedule.{callLines, inputOf, PartyBytes, openedReply, PrintsSchedule}
 use Rattle.frame.proofs.Laws.Written.{line-read, call-back, opening-back}
 

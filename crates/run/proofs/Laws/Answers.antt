@@ -12,7 +12,7 @@ use Rattle.line.specs.Frame.{isCall, opOf}
 use Rattle.line.specs.Program.{isOpen, Reply, replies, rendered}
 use Rattle.line.specs.Requests.{Request, toCall}
 use Rattle.line.proofs.Laws.Schedules.{schedule-replies}
-use Rattle.live.specs.Live.{requestsIn, replied}
+use Rattle.batch.specs.Batch.{requestsIn, replied}
 use Rattle.run.specs.Bytes.{wellFormed, callsOf}
 use Rattle.run.specs.Run.{written}
 

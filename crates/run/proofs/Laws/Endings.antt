@@ -18,8 +18,8 @@ use Rattle.hub.specs.Basics.{upTo32}
 use Rattle.hub.specs.Opening.{fresh, openingIf, opening}
 use Rattle.hub.proofs.Laws.Opening.{accepted}
 use Rattle.line.specs.Form.{asBytes}
-use Rattle.live.specs.Live.{replied, Reachable}
-use Rattle.live.proofs.Laws.Reachable.{reachable-open, opening-reachable}
+use Rattle.batch.specs.Batch.{replied, Reachable}
+use Rattle.batch.proofs.Laws.Reachable.{reachable-open, opening-reachable}
 use Rattle.run.specs.Bytes.{wellFormed}
 use Rattle.run.specs.Run.{written, runIf, runOf}
 use Rattle.run.specs.declared.Ran.{Ran}

@@ -28,7 +28,7 @@ ghost use Prim.Native.Nat.{_*_, _≤_};
 ghost use lib.ListN.{length};
 ghost use Rattle.line.specs.Form.{formOf, replySize};
 ghost use Rattle.line.specs.Program.{after};
-ghost use Rattle.live.specs.Live.{Reachable, replied, requestsIn};
+ghost use Rattle.batch.specs.Batch.{Reachable, replied, requestsIn};
 
 // Answers the first `count` requests, of two bytes each, in a form.
 pub fn answer_requests(hub: Hub, requests: &[u8], count: usize, form: bool, out: &mut [u8]) -> Hub

@@ -18,10 +18,10 @@ use Rattle.line.specs.Requests.{Request, malformed, toOpen, toCall}
 use Rattle.line.proofs.Laws.Schedules.{respond-open}
 use Rattle.transition.proofs.Laws.Called.{Counted, counted, no-such-party, asks}
 use Rattle.transition.proofs.Laws.Called.{admitted as by-table}
-use Rattle.live.specs.declared.admission.Admission.{Admission}
-use Rattle.live.specs.Admission.{admitted, admissionOf, refused}
-use Rattle.live.specs.Live.{requestFor, Reachable}
-use Rattle.live.proofs.Laws.Reachable.{reachable-fits, reachable-open}
+use Rattle.batch.specs.declared.admission.Admission.{Admission}
+use Rattle.batch.specs.Admission.{admitted, admissionOf, refused}
+use Rattle.batch.specs.Batch.{requestFor, Reachable}
+use Rattle.batch.proofs.Laws.Reachable.{reachable-fits, reachable-open}
 
 -- What is admitted: a call of one of the n parties.
 pub record Admitted (c x n : ℕ) : Type 0 where

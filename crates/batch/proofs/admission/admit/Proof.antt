@@ -4,9 +4,9 @@ use Prim.Native.Nat.{ℕ, _<_}
 use mathlib.Core.Path.{_≡_, refl}
 use native.Mathlib.Omega.{arith}
 use Rattle.line.proofs.Laws.Codes.{under, over}
-use Rattle.live.proofs.Laws.Admission.{an-opening, no-request, no-party, a-call}
-use Rattle.live.proofs.admission.admit.Statement.{statement}
-use Rattle.live.proofs.admission.admit.Tie as tie
+use Rattle.batch.proofs.Laws.Admission.{an-opening, no-request, no-party, a-call}
+use Rattle.batch.proofs.admission.admit.Statement.{statement}
+use Rattle.batch.proofs.admission.admit.Tie as tie
 
 not-one : (c : ℕ) → 19 < c → c ≡ 1 → ⊥
 not-one c l e = omega arith

@@ -37,13 +37,13 @@ use Rattle.transition.proofs.Laws.Loops.{skipping-stop, skipping-end}
 use Rattle.transition.proofs.Laws.Loops.{Retiring, retiring, retiring-on, retiring-stop, retiring-end}
 use Rattle.transition.proofs.Laws.Sight.{Reads, of-kind, sightOf}
 use Rattle.transition.proofs.Laws.Stored.{nobody, still, few-turns}
-use Rattle.live.specs.Live.{Reachable, requestsIn, replied}
-use Rattle.live.proofs.Laws.Answered.{Admitted, is-admitted, refused-response, LetIn}
-use Rattle.live.proofs.Laws.Answered.{let-in, call-response}
-use Rattle.live.proofs.Laws.Responses.{Upto, requestAt, start, whole-request}
-use Rattle.live.proofs.Laws.Responses.{whole-reply, reply-part, responded, ended}
-use Rattle.live.proofs.answer_requests.Statement.{statement}
-use Rattle.live.proofs.answer_requests.Tie as tie
+use Rattle.batch.specs.Batch.{Reachable, requestsIn, replied}
+use Rattle.batch.proofs.Laws.Answered.{Admitted, is-admitted, refused-response, LetIn}
+use Rattle.batch.proofs.Laws.Answered.{let-in, call-response}
+use Rattle.batch.proofs.Laws.Responses.{Upto, requestAt, start, whole-request}
+use Rattle.batch.proofs.Laws.Responses.{whole-reply, reply-part, responded, ended}
+use Rattle.batch.proofs.answer_requests.Statement.{statement}
+use Rattle.batch.proofs.answer_requests.Tie as tie
 
 -- The record that the locals make, and the ring of the tidying.
 abbrev hubOf : Opening → Figures → ℕ → List PlaceSlot → List PartySlot → Hub

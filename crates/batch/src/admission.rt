@@ -4,7 +4,7 @@ use hub::moves::Op;
 use line::request::OPENING;
 ghost use mathlib.Core.Path.{_≡_};
 ghost use Rattle.line.specs.Frame.{opOf};
-ghost use Rattle.live.specs.Admission.{admissionOf, refused};
+ghost use Rattle.batch.specs.Admission.{admissionOf, refused};
 
 pub struct Admission {
     pub admitted: bool, // a call of a party that there is: the table answers it

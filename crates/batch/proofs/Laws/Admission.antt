@@ -6,8 +6,8 @@ use borrow.Author.Tests.{eq-eqb, ne-eqb, le-ltb, lt-ltb}
 use native.Mathlib.Omega.{arith}
 use Rattle.line.specs.Frame.{isCall}
 use Rattle.line.proofs.Laws.Codes.{under, a-code}
-use Rattle.live.specs.declared.admission.Admission.{Admission}
-use Rattle.live.specs.Admission.{admitted, admissionOf, refused}
+use Rattle.batch.specs.declared.admission.Admission.{Admission}
+use Rattle.batch.specs.Admission.{admitted, admissionOf, refused}
 
 module _ (c p n : ℕ) {d : Admission} where
   pub an-opening : c ≡ 1 → d ≡ refused 0xFF 13 → d ≡ admissionOf c p n

@@ -13,8 +13,8 @@ use Rattle.line.specs.Program.{Reply, Response, respond, after, replies, replyI
 use Rattle.line.specs.Program.{repliesIn}
 use Rattle.line.specs.Requests.{Request}
 use Rattle.line.proofs.Laws.Parts.{put-length, put-take, put-drop}
-use Rattle.live.specs.Live.{requestFor, requestsIn, replied, Reachable}
-use Rattle.live.proofs.Laws.Reachable.{response-reachable}
+use Rattle.batch.specs.Batch.{requestFor, requestsIn, replied, Reachable}
+use Rattle.batch.proofs.Laws.Reachable.{response-reachable}
 
 -- The request of the two bytes from a place on.
 abbrev pub requestAt : List ℕ → ℕ → Request
