@@ -7,5 +7,6 @@ pub mod Written
 pub mod Schedules
 pub mod Sizes
 pub mod Opening
+pub mod Every
 pub mod Feeding
 pub mod Whole

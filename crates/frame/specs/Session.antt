@@ -2,11 +2,11 @@
 use Prim.Native.Nat.{ℕ, _≤_}
 use mathlib.Core.Path.{_≡_}
 use mathlib.Core.Bool.{cond}
-use mathlib.Core.List.{List, [], _∷_, _++_, map}
+use mathlib.Core.List.{List, [], _∷_, _++_}
 use lib.Dec.{eqb}
 use lib.ListN.{length, replicate}
 use Rattle.line.specs.Form.{asText}
-use Rattle.line.specs.Program.{unopened, repliesIn, after, closing, linesOf, outputOf}
+use Rattle.line.specs.Program.{unopened, repliesIn, after, closing, outputOf}
 use Rattle.line.specs.Requests.{Request, requestOf}
 use Rattle.frame.specs.declared.reader.Reader.{Reader}
 use Rattle.frame.specs.declared.session.Session.{Session}
@@ -53,8 +53,3 @@ pub record Sound (s : Session) : Type 0 where
   pub hub : SessionHub (s .hub)
   pub size : length (s .reader .line) ≡ KEPT
   pub short : s .reader .len ≤ KEPT
-
--- Every input, well formed or not, leads to a record that is not opened or that some schedule from
--- an accepted opening leaves: one that the third demand speaks of.
-unfoldable pub EveryInput : Type 0
-EveryInput = (input : List ℕ) → SessionHub (after unopened (map requestOf (linesOf input)))

@@ -4,6 +4,7 @@ use frame::session::Session;
 use frame::session::begin;
 use frame::session::feed;
 use frame::session::finish;
+use libc::STDERR_FILENO;
 use libc::STDIN_FILENO;
 use libc::STDOUT_FILENO;
 ghost use Prim.Native.Nat.{_*_, _≤_};
@@ -24,7 +25,14 @@ fn print(out: &[u8], lines: usize) -> bool {
         return false;
     }
     let end = 15 * lines;
-    io::write_all(STDOUT_FILENO, &out[0..end])
+    if !io::write_all(STDOUT_FILENO, &out[0..end]) {
+        io::write_all(
+            STDERR_FILENO,
+            b"schedule: standard output could not be written\n",
+        );
+        return false;
+    }
+    true
 }
 
 // Reads once, answers the lines that end in what came, and writes the answers.
@@ -36,6 +44,10 @@ fn take_piece(session: Session, piece: &mut [u8], requests: &mut [u8], out: &mut
 {
     let got = libc::read(STDIN_FILENO, piece);
     if got < 0 {
+        io::write_all(
+            STDERR_FILENO,
+            b"schedule: standard input could not be read\n",
+        );
         return Taken {
             session,
             more: false,
@@ -94,7 +106,8 @@ fn take_all(piece: &mut [u8], requests: &mut [u8], out: &mut [u8]) -> Taken
     }
 }
 
-// Where reading or writing fails the closing line is left out: what was printed is not whole.
+// Where reading or writing fails the program has said so, and the closing line is left out: what was
+// printed is not whole.
 fn main() {
     let mut piece = [0u8; 4096];
     let mut requests = [0u8; 8192];

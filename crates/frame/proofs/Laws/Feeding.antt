@@ -21,7 +21,7 @@ use Rattle.hub.specs.Opening.{fresh, openingIf}
 use Rattle.hub.proofs.Laws.Bools.{if-true, if-false}
 use Rattle.line.specs.Form.{asText}
 use Rattle.line.specs.Program.{unopened, isOpen, Reply, Response, whenOpen, beforeOpen}
-use Rattle.line.specs.Program.{respond, replies, after, rendered, repliesIn, closing, linesOf}
+use Rattle.line.specs.Program.{respond, replies, after, rendered, repliesIn, closing}
 use Rattle.line.specs.Requests.{Request, malformed, toOpen, toCall, requestOf, headerOf}
 use Rattle.line.proofs.Laws.Codes.{is-call, op-back}
 use Rattle.line.proofs.Laws.Parts.{parts, put-length}
@@ -36,7 +36,7 @@ use Rattle.frame.specs.declared.opening.Begun.{Begun}
 use Rattle.frame.specs.Opening.{openAt, early, late, begunBy, askedOpen}
 use Rattle.frame.specs.Reading.{KEPT, lineIn, pushed, emptied, next, past, asked}
 use Rattle.frame.specs.Reading.{requestBytes, written}
-use Rattle.frame.specs.Session.{atStart, fed, told, rest, finished, Sound, EveryInput}
+use Rattle.frame.specs.Session.{atStart, fed, told, rest, finished, Sound}
 use Rattle.frame.proofs.Laws.Opening.{session-open, after-session, open-few, all-read}
 use Rattle.frame.proofs.Laws.Pieces.{Kept, past-kept}
 use Rattle.frame.proofs.Laws.Sessions.{lines, asked-append, fed-append, told-append}
@@ -101,10 +101,6 @@ fed-sound s piece o =
       size = k .size;
       short = k .short;
     }
-
-pub every-input : EveryInput
-unfolding EveryInput
-every-input input = after-session (map requestOf (linesOf input)) unopened (inl refl)
 
 -- Fed on an open hub: the answers to what was asked, which stands in front of the spare bytes.
 module _ (s : Session) (o : Reachable (s .hub)) (piece spare : List ℕ) (read : Read)

@@ -91,7 +91,7 @@ after-session [] h k = k
 after-session (r ∷ rs) h k = after-session rs (respond h r .hub) (respond-session h r k)
 
 -- A line that opens no hub leaves none.
-stays-shut : (q : Request) → opensHub q ≡ false → beforeOpen q .hub ≡ unopened
+pub stays-shut : (q : Request) → opensHub q ≡ false → beforeOpen q .hub ≡ unopened
 stays-shut q e = session-shut (beforeOpen q .hub) (before-session q) e
 
 until-few : (cs : List ℕ) (r : Reader) → untilOpen r cs ≤ length cs

@@ -5,18 +5,19 @@ use native.Mathlib.Omega.{arith}
 use Rattle.hub.specs.declared.answers.Answer.{Answer}
 use Rattle.hub.specs.declared.moves.Call.{Call}
 use Rattle.hub.specs.declared.opening.Opening.{Opening}
-use Rattle.hub.specs.Answers.{printed}
+use Rattle.hub.specs.Answers.{plain, printed}
 use Rattle.hub.specs.Opening.{fresh, opening}
 use Rattle.hub.proofs.Demand3.{in-range}
 use Rattle.line.specs.Form.{asText}
 use Rattle.line.specs.Frame.{codeOf}
 use Rattle.line.specs.Hex.{hexOf}
-use Rattle.line.specs.Program.{unopened, beforeOpen, respond}
+use Rattle.line.specs.Program.{unopened, Reply, beforeOpen, respond}
 use Rattle.line.specs.Program.{replies, after, rendered, closing, linesFrom, linesOf, outputOf}
 use Rattle.line.specs.Requests.{toOpen, toCall, requestOf}
 use Rattle.line.proofs.Laws.Schedules.{schedule-replies, schedule-after}
 use Rattle.batch.proofs.Laws.Reachable.{reachable-open, opening-reachable}
-use Rattle.frame.specs.Schedule.{callLines, inputOf, PartyBytes, openedReply, PrintsSchedule}
+use Rattle.frame.specs.Schedule.{repliesOf, started, leftBy, callLines, inputOf, PartyBytes}
+use Rattle.frame.specs.Schedule.{PrintsSchedule}
 use Rattle.frame.proofs.Laws.Written.{line-read, call-back, opening-back}
 
 calls-asked : (cs : List Call) → PartyBytes cs
@@ -26,6 +27,10 @@ calls-asked [] b = refl
 calls-asked (c ∷ cs) b =
     ap (map requestOf) (line-read (codeOf (c .op) ∷ c .party ∷ []) [] (callLines cs))
     ∙ (λ i. call-back c (b .0) i ∷ calls-asked cs (b .1) i)
+
+-- The reply to an opening that is accepted.
+abbrev openedReply : Reply
+openedReply = record { party = 0xFF; answer = plain 0x1F }
 
 -- From the opening on.
 module _ (o : Opening) (e : opening o .answer ≡ Answer.Opened) where

@@ -14,6 +14,12 @@ use Rattle.schedule.proofs.take_piece.Tie as tie
 read-requires : tie.Need-read-requires
 read-requires c κs = search needs
 
+slice-aggregate-write-all : tie.Need-slice-aggregate-write-all
+slice-aggregate-write-all c = search needs
+
+write-all-requires : tie.Need-write-all-requires
+write-all-requires c κs = search needs
+
 same-length : tie.Need-same-length
 same-length c = search needs
 
@@ -74,6 +80,8 @@ take-piece-spec =
     tie.close
     (tie.spec
     read-requires
+    slice-aggregate-write-all
+    write-all-requires
     same-length
     returns
     same-length-2

@@ -1,0 +1,236 @@
+-- Every input: what is left out is 12, 13 and refused openings, and the rest is a schedule's.
+use Prim.Native.Nat.{ℕ}
+use mathlib.Core.Path.{_≡_, refl, sym, ap, _∙_}
+use mathlib.Core.Bool.{Bool, true, false, cond}
+use mathlib.Core.List.{List, [], _∷_, _++_, map}
+use native.Mathlib.Omega.{arith}
+use lib.Dec.{leb}
+use Rattle.hub.specs.declared.answers.Answer.{Answer}
+use Rattle.hub.specs.declared.moves.Call.{Call}
+use Rattle.hub.specs.declared.moves.Op.{Op}
+use Rattle.hub.specs.declared.moves.Sight.{Sight}
+use Rattle.hub.specs.declared.opening.Opening.{Opening}
+use Rattle.hub.specs.declared.record.Hub.{Hub}
+use Rattle.hub.specs.declared.record.Outcome.{Outcome}
+use Rattle.hub.specs.declared.record.Phase.{Phase}
+use Rattle.hub.specs.declared.record.Place.{Place}
+use Rattle.hub.specs.Answers.{plain, printed}
+use Rattle.hub.specs.Basics.{upTo32}
+use Rattle.hub.specs.Calls.{answerOf, called, checked}
+use Rattle.hub.specs.Demand3.{Demand3}
+use Rattle.hub.specs.Look.{look}
+use Rattle.hub.specs.Moves.{Move}
+use Rattle.hub.specs.Opening.{fresh, opening, openingIf}
+use Rattle.hub.specs.Schedule.{entries, run}
+use Rattle.hub.specs.Table.{stepAcquiring, stepSuspending, stepTicketed, stepReleasing, stepResuming}
+use Rattle.hub.specs.Table.{resumeWaiter, stepResumingAt, stepAborting, stepCancelling, stepRefusing}
+use Rattle.hub.specs.Table.{stepIn, acquire, cancel, release, decide}
+use Rattle.hub.proofs.Demand3.{demand3}
+use Rattle.hub.proofs.Laws.Bools.{first, if-true, if-false}
+use Rattle.hub.proofs.Laws.Phases.{places-alike}
+use Rattle.line.specs.Form.{asText}
+use Rattle.line.specs.Program.{unopened, isOpen, Reply, replyOf, whenOpen, beforeOpen}
+use Rattle.line.specs.Program.{replies, after, rendered, closing, linesOf, outputOf}
+use Rattle.line.specs.Requests.{Request, malformed, toOpen, toCall, requestOf}
+use Rattle.line.proofs.Laws.Schedules.{respond-open, respond-before, still-open}
+use Rattle.frame.specs.Schedule.{Schedule, unstarted, started, repliesOf, leftBy, Holds}
+use Rattle.frame.specs.Schedule.{callsIn, scheduleOf, leftOut, kept, EveryInput}
+use Rattle.frame.proofs.Laws.Opening.{shut, stays-shut}
+
+-- No call is answered by 2, 3, 12 or 13.
+abbrev isLeftOut : Move → Bool
+isLeftOut m = leftOut (printed (answerOf m) .code)
+
+abbrev Own : Move → Type 0
+Own m = isLeftOut m ≡ false
+
+-- The rows of the table.
+module _ (s : Sight) where
+  acquiring : (b : Bool) → Own (stepAcquiring b s)
+  unfolding stepAcquiring
+  acquiring true = refl
+  acquiring false = refl
+
+  releasing : (b : Bool) → Own (stepReleasing b s)
+  unfolding stepReleasing
+  releasing true = refl
+  releasing false = refl
+
+  aborting : (t : ℕ) (b : Bool) → Own (stepAborting t b s)
+  unfolding stepAborting
+  aborting t true = refl
+  aborting t false = refl
+
+  resumed : (b : Bool) (q t : ℕ) → Own (resumeWaiter b q t s)
+  unfolding resumeWaiter
+  resumed true q t = refl
+  resumed false q t = refl
+
+  resuming : (t : ℕ) (a : Place) → Own (stepResumingAt t a s)
+  unfolding stepResumingAt
+  resuming t Place.Empty = refl
+  resuming t (Place.Waiting q) = resumed _ q t
+  resuming t Place.Permit = refl
+  resuming t Place.Cancelled = refl
+  resuming t Place.Refused = refl
+  resuming t Place.Done = refl
+
+  own-in : (x : Phase) → Own (stepIn x s)
+  unfolding stepIn stepSuspending stepTicketed stepResuming stepCancelling stepRefusing
+  own-in Phase.Free = refl
+  own-in Phase.Holding = refl
+  own-in (Phase.Waiting t) = refl
+  own-in Phase.Acquiring = acquiring _
+  own-in Phase.Suspending = refl
+  own-in (Phase.Ticketed t) =
+      places-alike (λ a. isLeftOut (stepTicketed t a s)) (λ a. false) (λ q. refl) (s .seat .place)
+  own-in (Phase.Aborting t) = aborting t _
+  own-in (Phase.Cancelling t) =
+      places-alike (λ a. isLeftOut (stepCancelling t a s)) (λ a. false) (λ q. refl) (s .seat .place)
+  own-in (Phase.Refusing t) =
+      places-alike (λ a. isLeftOut (stepRefusing t a s)) (λ a. false) (λ q. refl) (s .seat .place)
+  own-in Phase.Releasing = releasing _
+  own-in Phase.Resuming = refl
+  own-in (Phase.ResumingAt t) = resuming t _
+
+own-acquire : (a b full : Bool) (s : Sight) → Own (acquire a b full s)
+unfolding acquire
+own-acquire false b full s = refl
+own-acquire true true full s = refl
+own-acquire true false true s = refl
+own-acquire true false false s = refl
+
+own-cancel : (a k : Bool) (t : ℕ) (s : Sight) → Own (cancel a k t s)
+unfolding cancel
+own-cancel false k t s = refl
+own-cancel true true t s = refl
+own-cancel true false t s = refl
+
+own-release : (a : Bool) (s : Sight) → Own (release a s)
+unfolding release
+own-release false s = refl
+own-release true s = refl
+
+own-decided : (o : Op) (full : Bool) (s : Sight) → Own (decide o full s)
+unfolding decide
+own-decided Op.Acquire full s = own-acquire _ _ full s
+own-decided Op.Step full s = own-in s (s .slot .phase)
+own-decided Op.Cancel full s = own-cancel _ _ _ s
+own-decided Op.Release full s = own-release _ s
+
+own-checked : (a b : Bool) (m : Move) → Own m → Own (checked a b m)
+unfolding checked
+own-checked false b m e = refl
+own-checked true false m e = refl
+own-checked true true m e = e
+
+own-call : (h : Hub) (c : Call) → leftOut (printed (called h c .answer) .code) ≡ false
+own-call h c = own-checked _ _ _ (own-decided (c .op) _ (look h (c .party)))
+
+-- On an open hub: the calls are kept, and they alone change the record.
+pub open-kept : (rs : List Request) (h : Hub) → isOpen h ≡ true
+    → (kept (replies h rs) ≡ map replyOf (entries h (callsIn rs))) × (after h rs ≡ run h (callsIn rs))
+unfolding replies after kept entries run callsIn whenOpen
+open-kept [] h o = (refl, refl)
+open-kept (malformed ∷ rs) h o =
+    let t = respond-open h malformed o in
+    let i = open-kept rs h o in (
+      (λ j. kept (t j .reply ∷ replies (t j .hub) rs)) ∙ i .0,
+      (λ j. after (t j .hub) rs) ∙ i .1,
+    )
+open-kept (toOpen a ∷ rs) h o =
+    let t = respond-open h (toOpen a) o in
+    let i = open-kept rs h o in (
+      (λ j. kept (t j .reply ∷ replies (t j .hub) rs)) ∙ i .0,
+      (λ j. after (t j .hub) rs) ∙ i .1,
+    )
+open-kept (toCall c ∷ rs) h o =
+    let t = respond-open h (toCall c) o in
+    let r = whenOpen h (toCall c) in
+    let i = open-kept rs (r .hub) (still-open h (toCall c) o) in (
+      (λ j. kept (t j .reply ∷ replies (t j .hub) rs))
+          ∙ if-false (leftOut (r .reply .answer .code)) _ _ (own-call h c)
+          ∙ ap (λ (l : List Reply). r .reply ∷ l) (i .0),
+      (λ j. after (t j .hub) rs) ∙ i .1,
+    )
+
+-- An opening that opens a hub is accepted, and one that does not is answered by 2 or 3.
+module _ (o : Opening) where
+  abbrev outcome : Bool → Bool → Outcome
+  outcome a b = openingIf a b o
+
+  opens : isOpen (opening o .hub) ≡ true → opening o .answer ≡ Answer.Opened
+  unfolding openingIf fresh
+  opens = go (upTo32 (o .permits)) (upTo32 (o .parties))
+    where
+      go : (a b : Bool) → isOpen (outcome a b .hub) ≡ true → outcome a b .answer ≡ Answer.Opened
+      go true true z = refl
+      go true false z = let e : _≡_ {A = ℕ} 0 1 = cc in absurd (omega arith)
+      go false b z = let e : _≡_ {A = ℕ} 0 1 = cc in absurd (omega arith)
+
+  opens-not : isOpen (opening o .hub) ≡ false
+      → leftOut (printed (opening o .answer) .code) ≡ true
+  unfolding openingIf fresh
+  opens-not = go (upTo32 (o .permits)) refl (upTo32 (o .parties))
+    where
+      go : (a : Bool) → upTo32 (o .permits) ≡ a → (b : Bool) → isOpen (outcome a b .hub) ≡ false
+          → leftOut (printed (outcome a b .answer) .code) ≡ true
+      go true e true z =
+          let f = first (leb 1 (o .permits)) (leb (o .permits) 32) e in
+          let g : _≡_ {A = ℕ} 0 1 = cc in absurd (omega arith)
+      go true e false z = refl
+      go false e b z = refl
+
+-- Before an opening, and from it on.
+abbrev Follows : List Request → Schedule → Type 0
+Follows rs s =
+    (kept (replies unopened rs) ≡ repliesOf s) × (after unopened rs ≡ leftBy s) × Holds s
+
+follows : (rs : List Request) → Follows rs (scheduleOf rs)
+unfolding replies after kept beforeOpen scheduleOf Demand3
+follows [] = (refl, refl, tt)
+follows (malformed ∷ rs) =
+    let t = respond-before unopened malformed shut in
+    let i = follows rs in (
+      (λ j. kept (t j .reply ∷ replies (t j .hub) rs)) ∙ i .0,
+      (λ j. after (t j .hub) rs) ∙ i .1,
+      i .2,
+    )
+follows (toOpen o ∷ rs) = go (isOpen (opening o .hub)) refl (follows rs)
+  where
+    go : (b : Bool) → isOpen (opening o .hub) ≡ b → Follows rs (scheduleOf rs)
+        → Follows (toOpen o ∷ rs) (cond b (started o (callsIn rs)) (scheduleOf rs))
+    go true e i =
+        let t = respond-before unopened (toOpen o) shut in
+        let a = opens o e in
+        let k = open-kept rs (opening o .hub) e in (
+          (λ j. kept (t j .reply ∷ replies (t j .hub) rs))
+              ∙ (λ j. kept (record { party = 0xFF; answer = printed (a j) } ∷ replies (opening o .hub) rs))
+              ∙ ap (λ (l : List Reply). record { party = 0xFF; answer = plain 0x1F } ∷ l) (k .0),
+          (λ j. after (t j .hub) rs) ∙ k .1,
+          (a, demand3 o a (callsIn rs)),
+        )
+    go false e i =
+        let t = respond-before unopened (toOpen o) shut in
+        let n = stays-shut (toOpen o) e in (
+          (λ j. kept (t j .reply ∷ replies (t j .hub) rs))
+              ∙ if-true (leftOut (printed (opening o .answer) .code)) _ _ (opens-not o e)
+              ∙ ap (λ (h : Hub). kept (replies h rs)) n
+              ∙ i .0,
+          (λ j. after (t j .hub) rs) ∙ ap (λ (h : Hub). after h rs) n ∙ i .1,
+          i .2,
+        )
+follows (toCall c ∷ rs) =
+    let t = respond-before unopened (toCall c) shut in
+    let i = follows rs in (
+      (λ j. kept (t j .reply ∷ replies (t j .hub) rs)) ∙ i .0,
+      (λ j. after (t j .hub) rs) ∙ i .1,
+      i .2,
+    )
+
+pub every-input : EveryInput
+unfolding EveryInput outputOf
+every-input input =
+    let rs = map requestOf (linesOf input) in
+    let f = follows rs in
+    (ap (λ (h : Hub). rendered asText (replies unopened rs) ++ closing h) (f .1), f .0, f .2)
