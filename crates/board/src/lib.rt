@@ -2,8 +2,10 @@
 // function over them, which calls the by-value core, and stores the record that comes back.
 
 use hub::Answer;
+use hub::Figures;
 use hub::Hub;
 use hub::Op;
+use hub::Opening;
 use hub::Outcome;
 use hub::PartySlot;
 use hub::PlaceSlot;
@@ -16,27 +18,19 @@ ghost use Rattle.board.specs.Fields.{ofFields};
 fn call_fields(
     op: Op,
     party: u8,
-    permits: u8,
-    parties: u8,
-    counter: i32,
-    issued: u32,
-    resumed: u32,
-    begun: u32,
+    opening: Opening,
+    figures: Figures,
     oldest: u32,
     places: [PlaceSlot; 256],
     slots: [PartySlot; 32],
 ) -> Outcome
     ensures { λ r. ⌜ r ≡ called
-        (ofFields permits parties counter issued resumed begun oldest places slots)
+        (ofFields opening figures oldest places slots)
         (record { op = op; party = party }) ⌝ }
 {
     let hub = Hub {
-        permits,
-        parties,
-        counter,
-        issued,
-        resumed,
-        begun,
+        opening,
+        figures,
         oldest,
         places,
         slots,
@@ -51,12 +45,8 @@ pub fn acquire(hub: &mut Hub, party: u8) -> Answer
     let o = call_fields(
         Op::Acquire,
         party,
-        hub.permits,
-        hub.parties,
-        hub.counter,
-        hub.issued,
-        hub.resumed,
-        hub.begun,
+        hub.opening,
+        hub.figures,
         hub.oldest,
         hub.places,
         hub.slots,
@@ -72,12 +62,8 @@ pub fn step(hub: &mut Hub, party: u8) -> Answer
     let o = call_fields(
         Op::Step,
         party,
-        hub.permits,
-        hub.parties,
-        hub.counter,
-        hub.issued,
-        hub.resumed,
-        hub.begun,
+        hub.opening,
+        hub.figures,
         hub.oldest,
         hub.places,
         hub.slots,
@@ -93,12 +79,8 @@ pub fn cancel(hub: &mut Hub, party: u8) -> Answer
     let o = call_fields(
         Op::Cancel,
         party,
-        hub.permits,
-        hub.parties,
-        hub.counter,
-        hub.issued,
-        hub.resumed,
-        hub.begun,
+        hub.opening,
+        hub.figures,
         hub.oldest,
         hub.places,
         hub.slots,
@@ -114,12 +96,8 @@ pub fn release(hub: &mut Hub, party: u8) -> Answer
     let o = call_fields(
         Op::Release,
         party,
-        hub.permits,
-        hub.parties,
-        hub.counter,
-        hub.issued,
-        hub.resumed,
-        hub.begun,
+        hub.opening,
+        hub.figures,
         hub.oldest,
         hub.places,
         hub.slots,
