@@ -147,6 +147,7 @@ use Rattle.hub.specs.declared.answers.Answer.{Answer}
 use Rattle.hub.specs.declared.moves.Op.{Op}
 use Rattle.hub.specs.declared.record.Hub.{Hub}
 use Rattle.hub.specs.declared.record.Outcome.{Outcome}
+use Rattle.hub.specs.Answers.{printed}
 use Rattle.hub.specs.Calls.{called}
 use Rattle.hub.proofs.answers.Answer as P
 use Rattle.hub.proofs.answers.Answer.Laws as P′
@@ -228,6 +229,15 @@ module _ {M : Type 1} (𝓤 : URA M) (D : Hub → Op → ℕ → Outcome) where
     ensures = λ g r e. ⌜ r ≡ D (T.struct .make (a .1 .1) tt) (a .0) (a .1 .0) ⌝;
   }
 
+-- what a shell shows of an outcome: its answer, what the paper prints for that, and its record
+abbrev pub Does : Outcome → Answer → Hub → Type 0
+Does o r h = (r ≡ o .answer) × (printed r ≡ printed (o .answer)) × (h ≡ o .hub)
+
+pub does : {o r : Outcome} → r ≡ o → Does o (r .answer) (r .hub)
+does e =
+    let a = ap (λ (y : Outcome). y .answer) e in
+    (a, ap printed a, ap (λ (y : Outcome). y .hub) e)
+
 module _ {M : Type 1} (𝓤 : URA M) (f : Hub → ℕ → Outcome) where
   open Notation.Connectives (Notation.connectives 𝓤) using (⌜_⌝, ⊤ₛ)
 
@@ -235,8 +245,7 @@ module _ {M : Type 1} (𝓤 : URA M) (f : Hub → ℕ → Outcome) where
   shellClauses = λ κs a. record {
     ghost = Unit {0};
     requires = λ g. ⊤ₛ;
-    ensures = λ g r e.
-        ⌜ (r ≡ f (a .0 .now) (a .1 .0) .answer) × (e .0 .now ≡ f (a .0 .now) (a .1 .0) .hub) ⌝;
+    ensures = λ g r e. ⌜ Does (f (a .0 .now) (a .1 .0)) r (e .0 .now) ⌝;
   }
 
 abbrev stayed : Stays (shell.ended .signature .params) (shell.ended .kept)
@@ -321,8 +330,7 @@ module _ {M : Type 1} (𝓤 : URA M) (H : Heap 𝓤) (A : Atoms 𝓤) (W : Given
       ∷ ‵ (flft κ q) ∷ []) ∵
       suffices ! _ (ends-at 𝓤 H A shell.ended stayed (shellClauses 𝓤 f) W bound (answerVal (r .answer))
       (r .answer) (r .hub, (tt, tt)) (tt, (tt, tt))) $
-      says ! (ap (λ (y : Outcome). y .answer) e, ap (λ (y : Outcome). y .hub) e) $
-      nothing ! $ move ! (3 ∷ 0 ∷ []) $ join ! $ frame ! $
+      says ! (does e) $ nothing ! $ move ! (3 ∷ 0 ∷ []) $ join ! $ frame ! $
       feqI ! (List Val) (vptr b o ∷ []) (vptr b o ∷ []) refl $ fjoin3 ! $
       nothing ! $ owned ! u8 (Is u8) (uint-makes 𝓤 H A W w8) n _ (refl, fits) $ fjoin ! $
       move ! (1 ∷ 0 ∷ []) $ fjoin ! $ frame ! $

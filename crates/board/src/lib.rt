@@ -1,5 +1,6 @@
 // The four calls on a record in place. A shell takes the hub by reference, hands its fields to a
-// function over them, which calls the by-value core, and stores the record that comes back.
+// function over them, which calls the by-value core, and stores the record that comes back. Its
+// contract names `printed` beside the answer, since that is where the paper's codes are.
 
 use hub::Answer;
 use hub::Figures;
@@ -12,6 +13,7 @@ use hub::PlaceSlot;
 use step::calls::call;
 ghost use mathlib.Core.Path.{_≡_};
 ghost use Rattle.hub.specs.declared.moves.Op.{Op};
+ghost use Rattle.hub.specs.Answers.{printed};
 ghost use Rattle.hub.specs.Calls.{called};
 ghost use Rattle.board.specs.Fields.{ofFields};
 
@@ -40,6 +42,7 @@ fn call_fields(
 
 pub fn acquire(hub: &mut Hub, party: u8) -> Answer
     ensures { λ r. ⌜ (r ≡ called (now (hub .entry)) (record { op = Op.Acquire; party = party }) .answer)
+        × (printed r ≡ printed (called (now (hub .entry)) (record { op = Op.Acquire; party = party }) .answer))
         × (now (hub .exit) ≡ called (now (hub .entry)) (record { op = Op.Acquire; party = party }) .hub) ⌝ }
 {
     let o = call_fields(
@@ -57,6 +60,7 @@ pub fn acquire(hub: &mut Hub, party: u8) -> Answer
 
 pub fn step(hub: &mut Hub, party: u8) -> Answer
     ensures { λ r. ⌜ (r ≡ called (now (hub .entry)) (record { op = Op.Step; party = party }) .answer)
+        × (printed r ≡ printed (called (now (hub .entry)) (record { op = Op.Step; party = party }) .answer))
         × (now (hub .exit) ≡ called (now (hub .entry)) (record { op = Op.Step; party = party }) .hub) ⌝ }
 {
     let o = call_fields(
@@ -74,6 +78,7 @@ pub fn step(hub: &mut Hub, party: u8) -> Answer
 
 pub fn cancel(hub: &mut Hub, party: u8) -> Answer
     ensures { λ r. ⌜ (r ≡ called (now (hub .entry)) (record { op = Op.Cancel; party = party }) .answer)
+        × (printed r ≡ printed (called (now (hub .entry)) (record { op = Op.Cancel; party = party }) .answer))
         × (now (hub .exit) ≡ called (now (hub .entry)) (record { op = Op.Cancel; party = party }) .hub) ⌝ }
 {
     let o = call_fields(
@@ -91,6 +96,7 @@ pub fn cancel(hub: &mut Hub, party: u8) -> Answer
 
 pub fn release(hub: &mut Hub, party: u8) -> Answer
     ensures { λ r. ⌜ (r ≡ called (now (hub .entry)) (record { op = Op.Release; party = party }) .answer)
+        × (printed r ≡ printed (called (now (hub .entry)) (record { op = Op.Release; party = party }) .answer))
         × (now (hub .exit) ≡ called (now (hub .entry)) (record { op = Op.Release; party = party }) .hub) ⌝ }
 {
     let o = call_fields(
@@ -108,7 +114,8 @@ pub fn release(hub: &mut Hub, party: u8) -> Answer
 
 // A call for those who have the record by value: what calls this needs no walk by hand.
 pub fn call_on_board(hub: Hub, op: Op, party: u8) -> Outcome
-    ensures { λ r. ⌜ r ≡ called hub (record { op = op; party = party }) ⌝ }
+    ensures { λ r. ⌜ (r ≡ called hub (record { op = op; party = party }))
+        × (printed (r .answer) ≡ printed (called hub (record { op = op; party = party }) .answer)) ⌝ }
 {
     let mut h = hub;
     let answer = match op {
