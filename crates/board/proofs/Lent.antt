@@ -64,7 +64,7 @@ use Rattle.hub.proofs.record.Hub as T
 use Rattle.hub.proofs.record.Hub.Laws as T′
 use Rattle.hub.proofs.record.Outcome as R
 use Rattle.hub.proofs.record.Outcome.Laws as R′
-use Rattle.board.proofs.Shell.{answerVal, hubVal, outcomeVal, shellClauses, Shell}
+use Rattle.board.proofs.Shell.{answerVal, hubVal, outcomeVal, Does, shellClauses, Shell}
 use Rattle.board.proofs.acquire as shell
 
 module _ {M : Type 1} (𝓤 : URA M) (H : Heap 𝓤) (A : Atoms 𝓤) (W : Given 𝓤 H A)
@@ -134,15 +134,15 @@ module _ {M : Type 1} (𝓤 : URA M) (H : Heap 𝓤) (A : Atoms 𝓤) (W : Given
       await ! tt $ pick ! (λ r. split ! $ move ! (1 ∷ []) $
       use1 W (some (λ (ws : Hub × (Unit {0} × Unit {0})).
       ‵ (lasts shell.ended (α ∷ [], tt) (x γ) ws)
-      ⊛ raw (fact 𝓤 ((r ≡ f h n .answer) × (ws .0 ≡ f h n .hub))))) (id⊢ 𝓤 _) $
+      ⊛ raw (fact 𝓤 (Does (f h n) r (ws .0))))) (id⊢ 𝓤 _) $
       pick ! (λ ws. split ! $ move ! (1 ∷ []) $
-      heard ! ((r ≡ f h n .answer) × (ws .0 ≡ f h n .hub)) (λ e.
+      heard ! (Does (f h n) r (ws .0)) (λ e.
       fsplit ! $ move ! (2 ∷ []) $ split ! $ split ! $
       -- [the token; true; the answer; the last value; true; the loan]
       lft-end ! tt $ move ! (0 ∷ 5 ∷ 3 ∷ []) $
       use3 W (later (‵ (mem T.the-row .lies (ws .0) l 0)))
       (ref-back 𝓤 H A W T.the-row (α ∷ []) γ (ws .0) l 0) $ await ! tt $
-      rewrite ! 0 (λ (z : Hub). ‵ (mem T.the-row .lies z l 0)) (e .1) refl $ fpick ! (λ vs. fsplit ! $
+      rewrite ! 0 (λ (z : Hub). ‵ (mem T.the-row .lies z l 0)) (e .2) refl $ fpick ! (λ vs. fsplit ! $
       spelt ! T.the-row (Is T.the-row) (shows 𝓤 H A T.the-row) (LL.vals T.the-type T′.the-laws)
       (LL.tells T.the-type T′.the-laws) fullShare (f h n .hub) vs l 0 $
       use1 W (‵ (fat fullShare T′.mir l 0 (hubVal (f h n .hub))))

@@ -1,4 +1,3 @@
 -- What the four shells and their callers share.
-pub mod Fields  -- a record that is made of its fields
 pub mod Shell  -- the walk of a shell
 pub mod Lent  -- a record that is lent to a shell

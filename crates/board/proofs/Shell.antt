@@ -20,7 +20,6 @@ use mir.Syntax.{
   tyInt,
   tyRef,
   tyArray,
-  Local,
   local,
   valueLocal,
   place,
@@ -36,7 +35,7 @@ use mir.Syntax.{
   return,
 }
 use mir.Fields.{getV}
-use mir.Val.{Val, Vals, WT, hasTy, ofList, vint, vptr, vstruct}
+use mir.Val.{Val, Vals, ofList, vint, vptr, vstruct}
 use base.Logic.{SProp, ent, sep, emp, via, fst∗, snd∗, exE, id⊢}
 use base.Fml.{GName, Lft, Share, ftrue, fat, flft, fobs, fbor}
 use prog.Model.{Model}
@@ -108,21 +107,20 @@ use types.Run.{
 use types.Part.{agg, whole, sub, look-in, store-in}
 use types.SemTy.{Body as Held}
 use sound.WpLaws.{FmC, fmOf, WpFn-mono}
-use denote.RattleType.{owns}
+use denote.RattleType.{Valss, flat, mirs, owns}
 use denote.Shadow.{shadow}
-use denote.Laws.{Is, shows, valss}
+use denote.Laws.{Is, Typed, shows, valss}
 use denote.Memory.{mem, pointee, cellAt}
 use denote.Plain.{uint-vals, uint-tells, uint-makes}
-use denote.Signed.{sint-makes}
 use denote.Array.{Array, each, array-makes}
-use denote.Builtin.{u8, u32, i32}
+use denote.Builtin.{u8, u32}
 use denote.Ref.{RefT, MutRef, ptr-vals, mut-tells}
 use denote.Signature.{plain}
 use denote.Steps.{only, opens, closes, owned, peeks, heard, nothing}
 use denote.Struct.Declared.{Declared, fields, shape, row}
 use denote.Struct.Laws as LL
 use denote.Struct.Steps.{spelt}
-use denote.Struct.Struct.{Struct}
+use denote.Struct.Struct.{Struct, typeds}
 use denote.Enum.Laws as EL
 use denote.Triple.Statement.{Contract, Triple}
 use denote.Triple.Call.{calls-at}
@@ -149,11 +147,16 @@ use Rattle.hub.specs.declared.answers.Answer.{Answer}
 use Rattle.hub.specs.declared.moves.Op.{Op}
 use Rattle.hub.specs.declared.record.Hub.{Hub}
 use Rattle.hub.specs.declared.record.Outcome.{Outcome}
+use Rattle.hub.specs.Answers.{printed}
 use Rattle.hub.specs.Calls.{called}
 use Rattle.hub.proofs.answers.Answer as P
 use Rattle.hub.proofs.answers.Answer.Laws as P′
 use Rattle.hub.proofs.moves.Op as O
 use Rattle.hub.proofs.moves.Op.Laws as O′
+use Rattle.hub.proofs.opening.Opening as Opening
+use Rattle.hub.proofs.opening.Opening.Laws as Opening′
+use Rattle.hub.proofs.record.Figures as Figures
+use Rattle.hub.proofs.record.Figures.Laws as Figures′
 use Rattle.hub.proofs.record.Hub as T
 use Rattle.hub.proofs.record.Hub.Laws as T′
 use Rattle.hub.proofs.record.Outcome as R
@@ -188,12 +191,6 @@ reads i k = seq (assign (place i []) (rvOpd (copy (place 1 (deref T′.mir ∷ f
 abbrev ref : Ty
 ref = tyRef (named 0) mut (pointee (T.the-row .written))
 
-abbrev byte : Local
-byte = local (tyInt w8) valueLocal
-
-abbrev word : Local
-word = local (tyInt w32) valueLocal
-
 abbrev pub shellFn : Name → ℕ → Fn
 shellFn key k = record {
   lifetimes = 1;
@@ -202,22 +199,23 @@ shellFn key k = record {
   locals =
       local P′.mir valueLocal
       ∷ local ref valueLocal
-      ∷ byte
+      ∷ local (tyInt w8) valueLocal
       ∷ local R′.mir valueLocal
       ∷ local O′.mir valueLocal
-      ∷ byte ∷ byte ∷ word ∷ word ∷ word ∷ word ∷ word
+      ∷ local Opening′.mir valueLocal
+      ∷ local Figures′.mir valueLocal
+      ∷ local (tyInt w32) valueLocal
       ∷ local (tyArray PlaceSlot′.mir 256) valueLocal
       ∷ local (tyArray PartySlot′.mir 32) valueLocal
       ∷ [];
   body =
       seq (assign (place 4 []) (aggregate (int w8 k ∷ [])))
-      (reads 5 0 (reads 6 1 (reads 7 2 (reads 8 3 (reads 9 4 (reads 10 5 (reads 11 6 (reads 12 7 (reads 13 8
+      (reads 5 0 (reads 6 1 (reads 7 2 (reads 8 3 (reads 9 4
       (seq (call key
       (copy (place 4 []) ∷ copy (place 2 []) ∷ copy (place 5 []) ∷ copy (place 6 []) ∷ copy (place 7 [])
-      ∷ copy (place 8 []) ∷ copy (place 9 []) ∷ copy (place 10 []) ∷ copy (place 11 [])
-      ∷ copy (place 12 []) ∷ copy (place 13 []) ∷ []) (place 3 []))
+      ∷ copy (place 8 []) ∷ copy (place 9 []) ∷ []) (place 3 []))
       (seq (assign (place 1 (deref T′.mir ∷ [])) (rvOpd (copy (place 3 (field 1 ∷ [])))))
-      (seq (assign (place 0 []) (rvOpd (copy (place 3 (field 0 ∷ []))))) return))))))))))));
+      (seq (assign (place 0 []) (rvOpd (copy (place 3 (field 0 ∷ []))))) return))))))));
 }
 
 -- what a function over the fields ensures that answers D, and what a shell does that answers f
@@ -231,6 +229,15 @@ module _ {M : Type 1} (𝓤 : URA M) (D : Hub → Op → ℕ → Outcome) where
     ensures = λ g r e. ⌜ r ≡ D (T.struct .make (a .1 .1) tt) (a .0) (a .1 .0) ⌝;
   }
 
+-- what a shell shows of an outcome: its answer, what the paper prints for that, and its record
+abbrev pub Does : Outcome → Answer → Hub → Type 0
+Does o r h = (r ≡ o .answer) × (printed r ≡ printed (o .answer)) × (h ≡ o .hub)
+
+pub does : {o r : Outcome} → r ≡ o → Does o (r .answer) (r .hub)
+does e =
+    let a = ap (λ (y : Outcome). y .answer) e in
+    (a, ap printed a, ap (λ (y : Outcome). y .hub) e)
+
 module _ {M : Type 1} (𝓤 : URA M) (f : Hub → ℕ → Outcome) where
   open Notation.Connectives (Notation.connectives 𝓤) using (⌜_⌝, ⊤ₛ)
 
@@ -238,8 +245,7 @@ module _ {M : Type 1} (𝓤 : URA M) (f : Hub → ℕ → Outcome) where
   shellClauses = λ κs a. record {
     ghost = Unit {0};
     requires = λ g. ⊤ₛ;
-    ensures = λ g r e.
-        ⌜ (r ≡ f (a .0 .now) (a .1 .0) .answer) × (e .0 .now ≡ f (a .0 .now) (a .1 .0) .hub) ⌝;
+    ensures = λ g r e. ⌜ Does (f (a .0 .now) (a .1 .0)) r (e .0 .now) ⌝;
   }
 
 abbrev stayed : Stays (shell.ended .signature .params) (shell.ended .kept)
@@ -324,46 +330,46 @@ module _ {M : Type 1} (𝓤 : URA M) (H : Heap 𝓤) (A : Atoms 𝓤) (W : Given
       ∷ ‵ (flft κ q) ∷ []) ∵
       suffices ! _ (ends-at 𝓤 H A shell.ended stayed (shellClauses 𝓤 f) W bound (answerVal (r .answer))
       (r .answer) (r .hub, (tt, tt)) (tt, (tt, tt))) $
-      says ! (ap (λ (y : Outcome). y .answer) e, ap (λ (y : Outcome). y .hub) e) $
-      nothing ! $ move ! (3 ∷ 0 ∷ []) $ join ! $ frame ! $
+      says ! (does e) $ nothing ! $ move ! (3 ∷ 0 ∷ []) $ join ! $ frame ! $
       feqI ! (List Val) (vptr b o ∷ []) (vptr b o ∷ []) refl $ fjoin3 ! $
       nothing ! $ owned ! u8 (Is u8) (uint-makes 𝓤 H A W w8) n _ (refl, fits) $ fjoin ! $
       move ! (1 ∷ 0 ∷ []) $ fjoin ! $ frame ! $
       owned ! P.the-row (Is P.the-row) (EL.makes P.the-type P′.the-plain 𝓤 H A) (r .answer) _ is $ done !
 
+  -- the machine's values of the fields
+  abbrev held : Valss (fields T.the-type)
+  held = valss (fields T.the-type) (LL.spells (T.the-type .parts) T′.the-laws) (T.the-type .to h)
+
+  -- which are of their types
+  typed : Is T.the-row h (hubVal h ∷ []) → Typed (mirs (fields T.the-type)) (flat (fields T.the-type) held)
+  typed is =
+      typeds 𝓤 H A (fields T.the-type) (LL.lawfuls 𝓤 H A W (T.the-type .parts) T′.the-laws)
+      (T.the-type .to h) held (LL.owed T.the-type T′.the-laws h _ is)
+
   -- the call of the function over the fields
   abbrev to-core : Core 𝓤 H A D .Ghost
   to-core =
-      let vs = valss (fields T.the-type) (LL.spells (T.the-type .parts) T′.the-laws) (T.the-type .to h) in
-      ((tt, tt, tt, (a, (n, T.struct .as-values h)), (tagVal k ∷ [], (vint w8 n ∷ [], vs))), tt)
+      ((tt, tt, tt, (a, (n, T.struct .as-values h)), (tagVal k ∷ [], (vint w8 n ∷ [], held))), tt)
 
   goes-core :
       n < 2 ^ 8 → Is T.the-row h (hubVal h ∷ []) → ent 𝓤 (sem 𝓤 H A ftrue) (Core 𝓤 H A D .pre to-core)
   goes-core fits is =
       let e = LL.owed T.the-type T′.the-laws h _ is in
-      let m8 = uint-makes 𝓤 H A W w8 in
-      let m32 = uint-makes 𝓤 H A W w32 in
       qed W (‵ ftrue ∷ []) ∵
       owned ! (Array PartySlot.the-row 32) (Is (Array PartySlot.the-row 32))
       (array-makes 𝓤 H A W PartySlot.the-row (LL.makes PartySlot.the-type PartySlot′.the-plain 𝓤 H A) 32)
-      (h .slots) _ (of-records PartySlot.the-type 32 (h .slots) _ (e .1 .1 .1 .1 .1 .1 .1 .1 .0)) $ fjoin ! $
+      (h .slots) _ (of-records PartySlot.the-type 32 (h .slots) _ (e .1 .1 .1 .1 .0)) $ fjoin ! $
       owned ! (Array PlaceSlot.the-row 256) (Is (Array PlaceSlot.the-row 256))
       (array-makes 𝓤 H A W PlaceSlot.the-row (LL.makes PlaceSlot.the-type PlaceSlot′.the-plain 𝓤 H A) 256)
-      (h .places) _ (of-records PlaceSlot.the-type 256 (h .places) _ (e .1 .1 .1 .1 .1 .1 .1 .0)) $ fjoin ! $
-      owned ! u32 (Is u32) m32 (h .oldest) _ (e .1 .1 .1 .1 .1 .1 .0) $ fjoin ! $
-      owned ! u32 (Is u32) m32 (h .begun) _ (e .1 .1 .1 .1 .1 .0) $ fjoin ! $
-      owned ! u32 (Is u32) m32 (h .resumed) _ (e .1 .1 .1 .1 .0) $ fjoin ! $
-      owned ! u32 (Is u32) m32 (h .issued) _ (e .1 .1 .1 .0) $ fjoin ! $
-      owned ! i32 (Is i32) (sint-makes 𝓤 H A W w32) (h .counter) _ (e .1 .1 .0) $ fjoin ! $
-      owned ! u8 (Is u8) m8 (h .parties) _ (e .1 .0) $ fjoin ! $
-      owned ! u8 (Is u8) m8 (h .permits) _ (e .0) $ fjoin ! $
-      owned ! u8 (Is u8) m8 n _ (refl, fits) $ fjoin ! $
+      (h .places) _ (of-records PlaceSlot.the-type 256 (h .places) _ (e .1 .1 .1 .0)) $ fjoin ! $
+      owned ! u32 (Is u32) (uint-makes 𝓤 H A W w32) (h .oldest) _ (e .1 .1 .0) $ fjoin ! $
+      owned ! Figures.the-row (Is Figures.the-row) (LL.makes Figures.the-type Figures′.the-plain 𝓤 H A)
+      (h .figures) _ (e .1 .0) $ fjoin ! $
+      owned ! Opening.the-row (Is Opening.the-row) (LL.makes Opening.the-type Opening′.the-plain 𝓤 H A)
+      (h .opening) _ (e .0) $ fjoin ! $
+      owned ! u8 (Is u8) (uint-makes 𝓤 H A W w8) n _ (refl, fits) $ fjoin ! $
       owned ! O.the-row (Is O.the-row) (EL.makes O.the-type O′.the-plain 𝓤 H A) a _ is-op $ fjoin ! $
       nothing ! $ join ! $ frame ! $ done !
-
-  -- the record that is behind the reference is of its type
-  typed : Is T.the-row h (hubVal h ∷ []) → Holds (hasTy T′.mir (hubVal h)) × WT (hubVal h)
-  typed is = LL.lawful T.the-type T′.the-laws 𝓤 H A W .typed h _ is .0
 
   -- field k behind the reference, where the record is the head of the context and entry m the reference
   behind :
@@ -389,63 +395,46 @@ module _ {M : Type 1} (𝓤 : URA M) (H : Heap 𝓤) (A : Atoms 𝓤) (W : Given
         enter ! C Λ (shellFn key k) (vptr b o ∷ vint w8 n ∷ []) _ $
         alloc1 ! (λ l₀. alloc1 ! (λ l₁. alloc1 ! (λ l₂. alloc1 ! (λ l₃. alloc1 ! (λ l₄.
         alloc1 ! (λ l₅. alloc1 ! (λ l₆. alloc1 ! (λ l₇. alloc1 ! (λ l₈. alloc1 ! (λ l₉.
-        alloc1 ! (λ l₁₀. alloc1 ! (λ l₁₁. alloc1 ! (λ l₁₂. alloc1 ! (λ l₁₃. alloc0 ! $ params1 ! $
-        pass1 ! (init ! 24 refl (tt, tt)) $ pass1 ! (init ! 22 refl (tt, record { fits = fits })) $ pass0 ! $
-        move ! (28 ∷ 29 ∷ 30 ∷ []) $ opens ! tt T.the-row {h = h} b o (λ vs.
+        alloc0 ! $ params1 ! $
+        pass1 ! (init ! 16 refl (tt, tt)) $ pass1 ! (init ! 14 refl (tt, record { fits = fits })) $ pass0 ! $
+        move ! (20 ∷ 21 ∷ 22 ∷ []) $ opens ! tt T.the-row {h = h} b o (λ vs.
         spelt ! T.the-row (Is T.the-row) (shows 𝓤 H A T.the-row) (LL.vals T.the-type T′.the-laws)
         (LL.tells T.the-type T′.the-laws) fullShare h vs b o $
         use1 W (‵ (fat fullShare T′.mir b o (hubVal h))) (W .laws .raw-at fullShare T′.mir b o (hubVal h)) $
         move ! (1 ∷ []) $ peeks ! T.the-row (Is T.the-row) (shows 𝓤 H A T.the-row) h (hubVal h ∷ []) (λ is.
         move ! (1 ∷ 0 ∷ []) $
-        -- [the record; what it owns; the open borrow; both its names; _13; …; _12; …; _0; …]
+        -- [the record; what it owns; the open borrow; both its names; _9; …; _8; …; _0; …]
         assigns ! (agg ! (and-then ! (lit ! small) (no-more !))) (from ! (stop !))
-        (init ! 23 refl (EL.lawful O.the-type O′.the-laws 𝓤 H A W tt .typed a _ is-op .0)) $
-        assigns ! (behind ! 29 0 refl refl) (from ! (stop !)) (init ! 21 refl (tt, typed is .1 .0)) $
-        assigns ! (behind ! 29 1 refl refl) (from ! (stop !)) (init ! 19 refl (tt, typed is .1 .1 .0)) $
-        assigns ! (behind ! 29 2 refl refl) (from ! (stop !)) (init ! 17 refl (tt, typed is .1 .1 .1 .0)) $
-        assigns ! (behind ! 29 3 refl refl) (from ! (stop !)) (init ! 15 refl (tt, typed is .1 .1 .1 .1 .0)) $
-        assigns ! (behind ! 29 4 refl refl) (from ! (stop !))
-        (init ! 13 refl (tt, typed is .1 .1 .1 .1 .1 .0)) $
-        assigns ! (behind ! 29 5 refl refl) (from ! (stop !))
-        (init ! 11 refl (tt, typed is .1 .1 .1 .1 .1 .1 .0)) $
-        assigns ! (behind ! 29 6 refl refl) (from ! (stop !))
-        (init ! 9 refl (tt, typed is .1 .1 .1 .1 .1 .1 .1 .0)) $
-        assigns ! (behind ! 29 7 refl refl) (from ! (stop !)) (init ! 7 refl
-        (T′.the-laws .1 .1 .1 .1 .1 .1 .1 .0 .lawful 𝓤 H A W .typed
-        (T.the-type .to h .1 .1 .1 .1 .1 .1 .1 .0) _
-        (LL.owed T.the-type T′.the-laws h _ is .1 .1 .1 .1 .1 .1 .1 .0) .0)) $
-        assigns ! (behind ! 29 8 refl refl) (from ! (stop !)) (init ! 5 refl
-        (T′.the-laws .1 .1 .1 .1 .1 .1 .1 .1 .0 .lawful 𝓤 H A W .typed
-        (T.the-type .to h .1 .1 .1 .1 .1 .1 .1 .1 .0) _
-        (LL.owed T.the-type T′.the-laws h _ is .1 .1 .1 .1 .1 .1 .1 .1 .0) .0)) $
+        (init ! 15 refl (EL.lawful O.the-type O′.the-laws 𝓤 H A W tt .typed a _ is-op .0)) $
+        assigns ! (behind ! 21 0 refl refl) (from ! (stop !)) (init ! 13 refl (typed is .0)) $
+        assigns ! (behind ! 21 1 refl refl) (from ! (stop !)) (init ! 11 refl (typed is .1 .0)) $
+        assigns ! (behind ! 21 2 refl refl) (from ! (stop !)) (init ! 9 refl (typed is .1 .1 .0)) $
+        assigns ! (behind ! 21 3 refl refl) (from ! (stop !)) (init ! 7 refl (typed is .1 .1 .1 .0)) $
+        assigns ! (behind ! 21 4 refl refl) (from ! (stop !)) (init ! 5 refl (typed is .1 .1 .1 .1 .0)) $
         nothing ! $ use1 W (raw (Core 𝓤 H A D .pre to-core)) (goes-core fits is) $
         calls-at ! fm (Core 𝓤 H A D) known to-core
-        (and-then ! (load ! (from ! (stop !)) (look ! 24 refl))
-        (and-then ! (load ! (from ! (stop !)) (look ! 28 refl))
-        (and-then ! (load ! (from ! (stop !)) (look ! 22 refl))
-        (and-then ! (load ! (from ! (stop !)) (look ! 20 refl))
-        (and-then ! (load ! (from ! (stop !)) (look ! 18 refl))
         (and-then ! (load ! (from ! (stop !)) (look ! 16 refl))
+        (and-then ! (load ! (from ! (stop !)) (look ! 20 refl))
         (and-then ! (load ! (from ! (stop !)) (look ! 14 refl))
         (and-then ! (load ! (from ! (stop !)) (look ! 12 refl))
         (and-then ! (load ! (from ! (stop !)) (look ! 10 refl))
         (and-then ! (load ! (from ! (stop !)) (look ! 8 refl))
-        (and-then ! (load ! (from ! (stop !)) (look ! 6 refl)) (no-more !)))))))))))) (λ v.
+        (and-then ! (load ! (from ! (stop !)) (look ! 6 refl)) (no-more !)))))))) (λ v.
         use1 W (later (some (λ (r : Outcome). (‵ ftrue ⊛ ‵ (R.the-row .own r (v ∷ [])))
         ⊛ raw (ensured 𝓤 H A core.ended (coreClauses 𝓤 D) tt (a, (n, T.struct .as-values h)) tt r)))) (id⊢ 𝓤 _) $
         await ! tt $ pick ! (λ r. split ! $ move ! (1 ∷ []) $
         use1 W (raw (fact 𝓤 (r ≡ f h n))) (answered 𝓤 H A D h a n r) $ heard ! (r ≡ f h n) (λ e.
         split ! $ drop ! $ peeks ! R.the-row (Is R.the-row) (shows 𝓤 H A R.the-row) r (v ∷ []) (λ is′.
-        -- [what the outcome owns; the record; what it owned; the open borrow; …; _13; …]
+        -- [what the outcome owns; the record; what it owned; the open borrow; …; _9; …]
         land ! (from ! (stop !))
-        (init ! 26 refl (LL.lawful R.the-type R′.the-laws 𝓤 H A W .typed r _ is′ .0)) $
-        rewrite ! 26 (λ (u : Val). ‵ (fat fullShare R′.mir l₃ 0 u))
+        (init ! 18 refl (LL.lawful R.the-type R′.the-laws 𝓤 H A W .typed r _ is′ .0)) $
+        rewrite ! 18 (λ (u : Val). ‵ (fat fullShare R′.mir l₃ 0 u))
         (ap only (LL.tells R.the-type R′.the-laws r _ is′)) refl $
-        assigns ! (of-opd ! (load ! (from ! (fld ! refl (stop !))) (look-in ! 26 (sub ! 1 refl (whole !)))))
-        (from ! (hop ! (look ! 30 refl) (stop !))) (store-in ! 1 (whole !)
+        assigns ! (of-opd ! (load ! (from ! (fld ! refl (stop !))) (look-in ! 18 (sub ! 1 refl (whole !)))))
+        (from ! (hop ! (look ! 22 refl) (stop !))) (store-in ! 1 (whole !)
         (LL.lawful T.the-type T′.the-laws 𝓤 H A W .typed (r .hub) _ (parts r v is′ .1 .0) .0)) $
-        assigns ! (of-opd ! (load ! (from ! (fld ! refl (stop !))) (look-in ! 26 (sub ! 0 refl (whole !)))))
-        (from ! (stop !)) (init ! 32 refl
+        assigns ! (of-opd ! (load ! (from ! (fld ! refl (stop !))) (look-in ! 18 (sub ! 0 refl (whole !)))))
+        (from ! (stop !)) (init ! 24 refl
         (EL.lawful P.the-type P′.the-laws 𝓤 H A W tt .typed (r .answer) _ (parts r v is′ .0) .0)) $
         drop ! $ move ! (1 ∷ []) $ drop ! $
         owned ! T.the-row (Is T.the-row) (LL.makes T.the-type T′.the-plain 𝓤 H A) (r .hub) _
@@ -453,16 +442,14 @@ module _ {M : Type 1} (𝓤 : URA M) (H : Heap 𝓤) (A : Atoms 𝓤) (W : Given
         use1 W (‵ (cellAt fullShare (T.the-row .mir) (hubVal (r .hub) ∷ []) b o))
         (W .laws .at-raw fullShare T′.mir b o (hubVal (r .hub))) $
         closes ! tt T.the-row (r .hub) (hubVal (r .hub) ∷ []) b o $
-        returns ! (look ! 29 refl) $ forget ! 3 refl $ forget ! 5 refl $ forget ! 7 refl $ forget ! 9 refl $
+        returns ! (look ! 21 refl) $ forget ! 3 refl $ forget ! 5 refl $ forget ! 7 refl $ forget ! 9 refl $
         forget ! 11 refl $ forget ! 13 refl $ forget ! 15 refl $ forget ! 17 refl $ forget ! 19 refl $
-        forget ! 21 refl $ forget ! 23 refl $ forget ! 25 refl $ forget ! 27 refl $ forget ! 29 refl $
-        move ! (29 ∷ 30 ∷ []) $ free1 ! $ move ! (27 ∷ 28 ∷ []) $ free1 ! $ move ! (25 ∷ 26 ∷ []) $ free1 ! $
-        move ! (23 ∷ 24 ∷ []) $ free1 ! $
+        forget ! 21 refl $
         move ! (21 ∷ 22 ∷ []) $ free1 ! $ move ! (19 ∷ 20 ∷ []) $ free1 ! $ move ! (17 ∷ 18 ∷ []) $ free1 ! $
         move ! (15 ∷ 16 ∷ []) $ free1 ! $ move ! (13 ∷ 14 ∷ []) $ free1 ! $ move ! (11 ∷ 12 ∷ []) $ free1 ! $
         move ! (9 ∷ 10 ∷ []) $ free1 ! $ move ! (7 ∷ 8 ∷ []) $ free1 ! $ move ! (5 ∷ 6 ∷ []) $ free1 ! $
         move ! (3 ∷ 4 ∷ []) $ free1 ! $ free0 ! $
-        by ! (exits fits r (parts r v is′ .0) e)))))))))))))))))))))
+        by ! (exits fits r (parts r v is′ .0) e)))))))))))))))))
 
 module _ {M : Type 1} (𝓤 : URA M) (H : Heap 𝓤) (A : Atoms 𝓤) (W : Given 𝓤 H A)
     (D : Hub → Op → ℕ → Outcome) (a : Op) (k : ℕ) (is-op : Is O.the-row a (tagVal k ∷ []))

@@ -1,42 +1,38 @@
 // The four calls on a record in place. A shell takes the hub by reference, hands its fields to a
-// function over them, which calls the by-value core, and stores the record that comes back.
+// function over them, which calls the by-value core, and stores the record that comes back. Its
+// contract names `printed` beside the answer, since that is where the paper's codes are.
 
 use hub::Answer;
+use hub::Figures;
 use hub::Hub;
 use hub::Op;
+use hub::Opening;
 use hub::Outcome;
 use hub::PartySlot;
 use hub::PlaceSlot;
 use step::calls::call;
 ghost use mathlib.Core.Path.{_≡_};
 ghost use Rattle.hub.specs.declared.moves.Op.{Op};
+ghost use Rattle.hub.specs.Answers.{printed};
 ghost use Rattle.hub.specs.Calls.{called};
 ghost use Rattle.board.specs.Fields.{ofFields};
 
 fn call_fields(
     op: Op,
     party: u8,
-    permits: u8,
-    parties: u8,
-    counter: i32,
-    issued: u32,
-    resumed: u32,
-    begun: u32,
+    opening: Opening,
+    figures: Figures,
     oldest: u32,
     places: [PlaceSlot; 256],
     slots: [PartySlot; 32],
 ) -> Outcome
     ensures { λ r. ⌜ r ≡ called
-        (ofFields permits parties counter issued resumed begun oldest places slots)
+        (ofFields opening figures oldest places slots)
         (record { op = op; party = party }) ⌝ }
 {
     let hub = Hub {
-        permits,
-        parties,
-        counter,
-        issued,
-        resumed,
-        begun,
+        opening,
+        figures,
         oldest,
         places,
         slots,
@@ -46,17 +42,14 @@ fn call_fields(
 
 pub fn acquire(hub: &mut Hub, party: u8) -> Answer
     ensures { λ r. ⌜ (r ≡ called (now (hub .entry)) (record { op = Op.Acquire; party = party }) .answer)
+        × (printed r ≡ printed (called (now (hub .entry)) (record { op = Op.Acquire; party = party }) .answer))
         × (now (hub .exit) ≡ called (now (hub .entry)) (record { op = Op.Acquire; party = party }) .hub) ⌝ }
 {
     let o = call_fields(
         Op::Acquire,
         party,
-        hub.permits,
-        hub.parties,
-        hub.counter,
-        hub.issued,
-        hub.resumed,
-        hub.begun,
+        hub.opening,
+        hub.figures,
         hub.oldest,
         hub.places,
         hub.slots,
@@ -67,17 +60,14 @@ pub fn acquire(hub: &mut Hub, party: u8) -> Answer
 
 pub fn step(hub: &mut Hub, party: u8) -> Answer
     ensures { λ r. ⌜ (r ≡ called (now (hub .entry)) (record { op = Op.Step; party = party }) .answer)
+        × (printed r ≡ printed (called (now (hub .entry)) (record { op = Op.Step; party = party }) .answer))
         × (now (hub .exit) ≡ called (now (hub .entry)) (record { op = Op.Step; party = party }) .hub) ⌝ }
 {
     let o = call_fields(
         Op::Step,
         party,
-        hub.permits,
-        hub.parties,
-        hub.counter,
-        hub.issued,
-        hub.resumed,
-        hub.begun,
+        hub.opening,
+        hub.figures,
         hub.oldest,
         hub.places,
         hub.slots,
@@ -88,17 +78,14 @@ pub fn step(hub: &mut Hub, party: u8) -> Answer
 
 pub fn cancel(hub: &mut Hub, party: u8) -> Answer
     ensures { λ r. ⌜ (r ≡ called (now (hub .entry)) (record { op = Op.Cancel; party = party }) .answer)
+        × (printed r ≡ printed (called (now (hub .entry)) (record { op = Op.Cancel; party = party }) .answer))
         × (now (hub .exit) ≡ called (now (hub .entry)) (record { op = Op.Cancel; party = party }) .hub) ⌝ }
 {
     let o = call_fields(
         Op::Cancel,
         party,
-        hub.permits,
-        hub.parties,
-        hub.counter,
-        hub.issued,
-        hub.resumed,
-        hub.begun,
+        hub.opening,
+        hub.figures,
         hub.oldest,
         hub.places,
         hub.slots,
@@ -109,17 +96,14 @@ pub fn cancel(hub: &mut Hub, party: u8) -> Answer
 
 pub fn release(hub: &mut Hub, party: u8) -> Answer
     ensures { λ r. ⌜ (r ≡ called (now (hub .entry)) (record { op = Op.Release; party = party }) .answer)
+        × (printed r ≡ printed (called (now (hub .entry)) (record { op = Op.Release; party = party }) .answer))
         × (now (hub .exit) ≡ called (now (hub .entry)) (record { op = Op.Release; party = party }) .hub) ⌝ }
 {
     let o = call_fields(
         Op::Release,
         party,
-        hub.permits,
-        hub.parties,
-        hub.counter,
-        hub.issued,
-        hub.resumed,
-        hub.begun,
+        hub.opening,
+        hub.figures,
         hub.oldest,
         hub.places,
         hub.slots,
@@ -130,7 +114,8 @@ pub fn release(hub: &mut Hub, party: u8) -> Answer
 
 // A call for those who have the record by value: what calls this needs no walk by hand.
 pub fn call_on_board(hub: Hub, op: Op, party: u8) -> Outcome
-    ensures { λ r. ⌜ r ≡ called hub (record { op = op; party = party }) ⌝ }
+    ensures { λ r. ⌜ (r ≡ called hub (record { op = op; party = party }))
+        × (printed (r .answer) ≡ printed (called hub (record { op = op; party = party }) .answer)) ⌝ }
 {
     let mut h = hub;
     let answer = match op {

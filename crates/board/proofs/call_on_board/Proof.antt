@@ -137,6 +137,7 @@ use denote.Exit.{yes}
 use Rattle.hub.specs.declared.moves.Op.{Op}
 use Rattle.hub.specs.declared.record.Hub.{Hub}
 use Rattle.hub.specs.declared.record.Outcome.{Outcome}
+use Rattle.hub.specs.Answers.{printed}
 use Rattle.hub.proofs.answers.Answer as P
 use Rattle.hub.proofs.answers.Answer.Laws as P′
 use Rattle.hub.proofs.moves.Op as O
@@ -234,7 +235,9 @@ module _ {M : Type 1} (𝓤 : URA M) (D : Hub → Op → ℕ → Outcome) where
   clauses = λ κs a. record {
     ghost = Unit {0};
     requires = λ g. ⊤ₛ;
-    ensures = λ g r e. ⌜ r ≡ D (a .0) (a .1 .0) (a .1 .1 .0) ⌝;
+    ensures = λ g r e.
+        ⌜ (r ≡ D (a .0) (a .1 .0) (a .1 .1 .0))
+        × (printed (r .answer) ≡ printed (D (a .0) (a .1 .0) (a .1 .1 .0) .answer)) ⌝;
   }
 
 module _ {M : Type 1} (𝓤 : URA M) (H : Heap 𝓤) (A : Atoms 𝓤) (W : Given 𝓤 H A)
@@ -258,7 +261,7 @@ module _ {M : Type 1} (𝓤 : URA M) (H : Heap 𝓤) (A : Atoms 𝓤) (W : Given
   exits o iso r =
       qed W [] ∵
       suffices ! _ (ends-at 𝓤 H A on.ended stayed (clauses 𝓤 D) W (bound o) (outcomeVal (D h o n)) (D h o n)
-      (tt, (tt, (tt, tt))) (tt, (tt, (tt, tt)))) $ says ! refl $ nothing ! $ frame ! $
+      (tt, (tt, (tt, tt))) (tt, (tt, (tt, tt)))) $ says ! (refl, refl) $ nothing ! $ frame ! $
       nothing ! $ owned ! u8 (Is u8) (uint-makes 𝓤 H A W w8) n _ (refl, fits) $ fjoin ! $
       owned ! O.the-row (Is O.the-row) (EL.makes O.the-type O′.the-plain 𝓤 H A) o _ iso $ fjoin ! $
       owned ! T.the-row (Is T.the-row) (LL.makes T.the-type T′.the-plain 𝓤 H A) h _ is $ fjoin ! $ frame ! $
