@@ -26,8 +26,7 @@ fn call_fields(
     places: [PlaceSlot; 256],
     slots: [PartySlot; 32],
 ) -> Outcome
-    ensures { λ r. ⌜ r ≡ called
-        (ofFields opening figures oldest places slots)
+    ensures { λ r. ⌜ r ≡ called (ofFields opening figures oldest places slots)
         (record { op = op; party = party }) ⌝ }
 {
     let hub = Hub {
