@@ -6,6 +6,7 @@ use board::call_on_board;
 use hub::answers::Answer;
 use hub::moves::Op;
 use hub::opening::Opening;
+use hub::record::Figures;
 use hub::record::Hub;
 use hub::record::Outcome;
 use hub::record::PartySlot;
@@ -86,6 +87,19 @@ fn opened(permits: u8, parties: u8) -> Hub {
     Hub::open(Opening { permits, parties })
 }
 
+// A hub of 32 permits with this counter.
+fn counting(counter: i32) -> Hub {
+    let mut h = opened(32, 3);
+    let figures = Figures {
+        counter,
+        issued: 0,
+        resumed: 0,
+        begun: 0,
+    };
+    h.figures = figures;
+    h
+}
+
 // Calls on records that no opening reaches.
 fn made_by_hand() {
     // 1,000,000 asks begun, and one fewer
@@ -101,11 +115,8 @@ fn made_by_hand() {
     h.figures.issued = 255;
     told(0, acquire(h, 0));
     // a counter of 33 does not fit, and one of 32 does
-    let mut h = opened(32, 3);
-    h.figures.counter = 33;
-    told(0, release(h, 0));
-    h.figures.counter = 32;
-    told(0, release(h, 0));
+    told(0, release(counting(33), 0));
+    told(0, release(counting(32), 0));
     // a waiting place of a party that is free does not fit
     let mut h = opened(1, 3);
     h.places[200] = PlaceSlot {

@@ -8,3 +8,4 @@ pub mod Seats
 pub mod Ring
 pub mod Opening
 pub mod Table
+pub mod Printed

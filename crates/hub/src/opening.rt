@@ -8,6 +8,7 @@ use crate::record::Outcome;
 use crate::slots::empty_seat;
 use crate::slots::free_slot;
 ghost use mathlib.Core.Path.{_≡_};
+ghost use Rattle.hub.specs.Answers.{printed};
 ghost use Rattle.hub.specs.Basics.{upTo32};
 ghost use Rattle.hub.specs.Opening.{figuresAt, fresh, notOpened, opening};
 
@@ -71,7 +72,7 @@ pub fn up_to_32(n: u8) -> bool
 
 // Opens a hub.
 pub fn open_hub(o: Opening) -> Outcome
-    ensures { λ r. ⌜ r ≡ opening o ⌝ }
+    ensures { λ r. ⌜ (r ≡ opening o) × (printed (r .answer) ≡ printed (opening o .answer)) ⌝ }
 {
     if !up_to_32(o.permits) {
         return refused(Refusal::BadPermits);

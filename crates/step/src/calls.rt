@@ -88,28 +88,32 @@ pub fn call(mut hub: Hub, op: Op, party: u8) -> Outcome
 
 // Ask (10).
 pub fn acquire(hub: Hub, party: u8) -> Outcome
-    ensures { λ r. ⌜ r ≡ called hub (record { op = Op.Acquire; party = party }) ⌝ }
+    ensures { λ r. ⌜ (r ≡ called hub (record { op = Op.Acquire; party = party }))
+        × (printed (r .answer) ≡ printed (called hub (record { op = Op.Acquire; party = party }) .answer)) ⌝ }
 {
     call(hub, Op::Acquire, party)
 }
 
 // Step (11).
 pub fn step(hub: Hub, party: u8) -> Outcome
-    ensures { λ r. ⌜ r ≡ called hub (record { op = Op.Step; party = party }) ⌝ }
+    ensures { λ r. ⌜ (r ≡ called hub (record { op = Op.Step; party = party }))
+        × (printed (r .answer) ≡ printed (called hub (record { op = Op.Step; party = party }) .answer)) ⌝ }
 {
     call(hub, Op::Step, party)
 }
 
 // Give up (12).
 pub fn cancel(hub: Hub, party: u8) -> Outcome
-    ensures { λ r. ⌜ r ≡ called hub (record { op = Op.Cancel; party = party }) ⌝ }
+    ensures { λ r. ⌜ (r ≡ called hub (record { op = Op.Cancel; party = party }))
+        × (printed (r .answer) ≡ printed (called hub (record { op = Op.Cancel; party = party }) .answer)) ⌝ }
 {
     call(hub, Op::Cancel, party)
 }
 
 // Give back (13).
 pub fn release(hub: Hub, party: u8) -> Outcome
-    ensures { λ r. ⌜ r ≡ called hub (record { op = Op.Release; party = party }) ⌝ }
+    ensures { λ r. ⌜ (r ≡ called hub (record { op = Op.Release; party = party }))
+        × (printed (r .answer) ≡ printed (called hub (record { op = Op.Release; party = party }) .answer)) ⌝ }
 {
     call(hub, Op::Release, party)
 }

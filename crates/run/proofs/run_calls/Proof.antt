@@ -17,7 +17,7 @@ returns : tie.Need-returns
 returns c =
     let o = c .before .before .before in
     let a = o .before .before .before .args in
-    refused (a .o) (a .calls .now) _ _ _ (o .open-hub .ensures)
+    refused (a .o) (a .calls .now) _ _ _ (o .open-hub .ensures .0)
     (c .before .answer .given .1)
 
 well-formed-requires : tie.Need-well-formed-requires
@@ -28,7 +28,7 @@ returns-2 c =
     let w = c .before in
     let o = w .before .before in
     let a = o .before .before .before .args in
-    malformed (a .o) _ _ _ (o .open-hub .ensures) (w .before .match .keys2)
+    malformed (a .o) _ _ _ (o .open-hub .ensures .0) (w .before .match .keys2)
     (sym (w .well-formed .ensures) ∙ not-true _ (c .if1 .taken))
 
 returns-3 : tie.Need-returns-3
@@ -36,7 +36,7 @@ returns-3 c =
     let w = c .before .before in
     let o = w .before .before in
     let a = o .before .before .before .args in
-    no-room (a .o) _ _ _ (o .open-hub .ensures) (w .before .match .keys2)
+    no-room (a .o) _ _ _ (o .open-hub .ensures .0) (w .before .match .keys2)
     (sym (w .well-formed .ensures) ∙ not-false _ (c .before .if1 .left)) (c .if2 .taken)
 
 answer-requests-requires : tie.Need-answer-requests-requires
@@ -45,7 +45,7 @@ answer-requests-requires c κs =
     let w = e .before .before in
     let o = w .before .before in
     let a = o .before .before .before .args in (
-      reachable (a .o) (a .calls .now) (a .out .now) _ (o .open-hub .ensures)
+      reachable (a .o) (a .calls .now) (a .out .now) _ (o .open-hub .ensures .0)
           (w .before .match .keys2),
       (omega arith, omega (arith, e .if2 .left)),
     )
@@ -59,7 +59,7 @@ returns-4 c =
     let w = e .before .before in
     let o = w .before .before in
     let a = o .before .before .before .args in
-    done (a .o) _ _ _ (o .open-hub .ensures) (w .before .match .keys2) _
+    done (a .o) _ _ _ (o .open-hub .ensures .0) (w .before .match .keys2) _
     (sym (w .well-formed .ensures) ∙ not-false _ (e .before .if1 .left)) (e .if2 .left)
     (c .before .before .answer-requests .ensures .1)
 

@@ -32,10 +32,10 @@ returns c =
     let w = c .before .before .before in
     let o = w .before .before .before in
     let e = o .before .read-opening .ensures in (
-      ap (λ (x : Outcome). x .hub) (o .open-hub .ensures) ∙ ap (λ (q : Request). beforeOpen q .hub) e,
+      ap (λ (x : Outcome). x .hub) (o .open-hub .ensures .0) ∙ ap (λ (q : Request). beforeOpen q .hub) e,
       w .put-line .ensures
           ∙ ap (λ (x : Printed). textOf (frameOf 0xFF x))
-          (w .before .print-of .ensures ∙ ap (λ (x : Outcome). printed (x .answer)) (o .open-hub .ensures))
+          (w .before .print-of .ensures ∙ ap (λ (x : Outcome). printed (x .answer)) (o .open-hub .ensures .0))
           ∙ ap (λ (q : Request). replyIn asText (beforeOpen q .reply)) e,
     )
 

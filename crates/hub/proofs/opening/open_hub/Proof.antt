@@ -6,6 +6,7 @@ use Rattle.hub.specs.declared.answers.Answer.{Answer}
 use Rattle.hub.specs.declared.record.Hub.{Hub}
 use Rattle.hub.specs.declared.record.Outcome.{Outcome}
 use Rattle.hub.proofs.Laws.Opening.{refused-2, refused-3, accepted}
+use Rattle.hub.proofs.Laws.Printed.{with-printed}
 use Rattle.hub.proofs.opening.open_hub.Statement.{statement}
 use Rattle.hub.proofs.opening.open_hub.Tie as tie
 
@@ -20,9 +21,9 @@ refused-requires c κs = search needs
 
 returns : tie.Need-returns
 returns c =
-    c .refused .ensures
+    with-printed (c .refused .ensures
     ∙ sym (refused-2 _ _ _
-    (sym (c .before .before .up-to-32 .ensures) ∙ not-true _ (c .before .if1 .taken)))
+    (sym (c .before .before .up-to-32 .ensures) ∙ not-true _ (c .before .if1 .taken))))
 
 up-to-32-requires-2 : tie.Need-up-to-32-requires-2
 up-to-32-requires-2 c κs = search needs
@@ -32,22 +33,22 @@ refused-requires-2 c κs = search needs
 
 returns-2 : tie.Need-returns-2
 returns-2 c =
-    c .refused2 .ensures
+    with-printed (c .refused2 .ensures
     ∙ sym (refused-3 _ _ _
     (sym (c .before .before .before .before .up-to-32 .ensures)
     ∙ not-false _ (c .before .before .before .if1 .left))
-    (sym (c .before .before .up-to-322 .ensures) ∙ not-true _ (c .before .if2 .taken)))
+    (sym (c .before .before .up-to-322 .ensures) ∙ not-true _ (c .before .if2 .taken))))
 
 open-requires : tie.Need-open-requires
 open-requires c κs = search needs
 
 returns-3 : tie.Need-returns-3
 returns-3 c =
-    ap opened (c .«open» .ensures)
+    with-printed (ap opened (c .«open» .ensures)
     ∙ sym (accepted _ _ _
     (sym (c .before .before .before .before .up-to-32 .ensures)
     ∙ not-false _ (c .before .before .before .if1 .left))
-    (sym (c .before .before .up-to-322 .ensures) ∙ not-false _ (c .before .if2 .left)))
+    (sym (c .before .before .up-to-322 .ensures) ∙ not-false _ (c .before .if2 .left))))
 
 pub open-hub-spec : {M : Type 1} → statement M
 open-hub-spec =
