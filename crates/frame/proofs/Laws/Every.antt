@@ -1,6 +1,6 @@
 -- Every input: what is left out is 12, 13 and refused openings, and the rest is a schedule's.
 use Prim.Native.Nat.{ℕ}
-use mathlib.Core.Path.{_≡_, refl, sym, ap, _∙_}
+use mathlib.Core.Path.{_≡_, refl, ap, _∙_}
 use mathlib.Core.Bool.{Bool, true, false, cond}
 use mathlib.Core.List.{List, [], _∷_, _++_, map}
 use native.Mathlib.Omega.{arith}
@@ -33,7 +33,7 @@ use Rattle.line.specs.Program.{unopened, isOpen, Reply, replyOf, whenOpen, befo
 use Rattle.line.specs.Program.{replies, after, rendered, closing, linesOf, outputOf}
 use Rattle.line.specs.Requests.{Request, malformed, toOpen, toCall, requestOf}
 use Rattle.line.proofs.Laws.Schedules.{respond-open, respond-before, still-open}
-use Rattle.frame.specs.Schedule.{Schedule, unstarted, started, repliesOf, leftBy, Holds}
+use Rattle.frame.specs.Schedule.{Schedule, started, repliesOf, leftBy, Holds}
 use Rattle.frame.specs.Schedule.{callsIn, scheduleOf, leftOut, kept, EveryInput}
 use Rattle.frame.proofs.Laws.Opening.{shut, stays-shut}
 

@@ -1,44 +1,39 @@
 -- Sessions stay sound, and what a piece asks is read back from the buffer.
 use Prim.Native.Nat.{ℕ, suc, _+_, _-_, _*_, _≤_}
-use mathlib.Core.Path.{_≡_, refl, sym, ap, ap₂, _∙_, subst}
+use mathlib.Core.Path.{_≡_, refl, sym, ap, _∙_, subst}
 use mathlib.Core.Bool.{Bool, true, false, cond}
 use mathlib.Core.List.{List, [], _∷_, _++_, map, append-assoc, append-nil}
-use mathlib.Core.Logic.{inl, inr}
+use mathlib.Core.Logic.{inl}
 use native.Mathlib.Omega.{arith}
-use borrow.Author.Tests.{ltb-true, eq-eqb, ne-eqb}
+use borrow.Author.Tests.{eq-eqb, ne-eqb}
 use borrow.Rule.Slice.PartMut.{putMid, post-is}
 use lib.Seq.{take-at, drop-at, drop-drop, take-all, length-take-le}
-use lib.Dec.{eqb, ltb}
-use lib.ListN.{length, take, drop, set, length-append, length-drop, length-set, length-replicate}
+use lib.Dec.{eqb}
+use lib.ListN.{length, take, drop, length-append, length-drop, length-replicate}
 use lib.ListN.{take-append-drop, drop-of-length-le}
 use native.Mathlib.Nat.{le-of-eq}
-use Rattle.hub.specs.declared.answers.Answer.{Answer}
-use Rattle.hub.specs.declared.opening.Opening.{Opening}
 use Rattle.hub.specs.declared.record.Hub.{Hub}
-use Rattle.hub.specs.declared.record.Outcome.{Outcome}
-use Rattle.hub.specs.Basics.{upTo32}
-use Rattle.hub.specs.Opening.{fresh, openingIf}
 use Rattle.hub.proofs.Laws.Bools.{if-true, if-false}
 use Rattle.line.specs.Form.{asText}
-use Rattle.line.specs.Program.{unopened, isOpen, Reply, Response, whenOpen, beforeOpen}
-use Rattle.line.specs.Program.{respond, replies, after, rendered, repliesIn, closing}
+use Rattle.line.specs.Program.{isOpen, Reply, Response, whenOpen}
+use Rattle.line.specs.Program.{respond, replies, after, rendered, closing}
 use Rattle.line.specs.Requests.{Request, malformed, toOpen, toCall, requestOf, headerOf}
 use Rattle.line.proofs.Laws.Codes.{is-call, op-back}
 use Rattle.line.proofs.Laws.Parts.{parts, put-length}
-use Rattle.line.proofs.Laws.Schedules.{respond-open, respond-before, still-open}
+use Rattle.line.proofs.Laws.Schedules.{respond-open, still-open}
 use Rattle.batch.specs.Batch.{requestFor, requestsIn, replied, Reachable}
-use Rattle.batch.proofs.Laws.Reachable.{reachable-open, opening-reachable, response-reachable}
+use Rattle.batch.proofs.Laws.Reachable.{reachable-open}
 use Rattle.frame.specs.declared.reader.Read.{Read}
 use Rattle.frame.specs.declared.reader.Reader.{Reader}
 use Rattle.frame.specs.declared.session.Fed.{Fed}
 use Rattle.frame.specs.declared.session.Session.{Session}
 use Rattle.frame.specs.declared.opening.Begun.{Begun}
 use Rattle.frame.specs.Opening.{openAt, early, late, begunBy, askedOpen}
-use Rattle.frame.specs.Reading.{KEPT, lineIn, pushed, emptied, next, past, asked}
+use Rattle.frame.specs.Reading.{KEPT, lineIn, past, asked}
 use Rattle.frame.specs.Reading.{requestBytes, written}
 use Rattle.frame.specs.Session.{atStart, fed, told, rest, finished, Sound}
 use Rattle.frame.proofs.Laws.Opening.{session-open, after-session, open-few, all-read}
-use Rattle.frame.proofs.Laws.Pieces.{Kept, past-kept}
+use Rattle.frame.proofs.Laws.Pieces.{past-kept}
 use Rattle.frame.proofs.Laws.Sessions.{lines, asked-append, fed-append, told-append}
 use Rattle.frame.proofs.Laws.Sizes.{replies-size, asked-few}
 
@@ -187,19 +182,23 @@ module _ (out part : List ℕ) (at end : ℕ) (l : at ≤ length out) (m : lengt
   tail-size = length-append (take at out) part ∙ omega (arith, e, length-take-le at out l)
 
 -- Fed, as the code does it: b is what the early part came to, and out₁ the buffer then.
-module _ (s : Session) (k : Sound s) (piece out₀ : List ℕ)
-    (room : 15 * length (asked (s .reader) piece) ≤ length out₀) (b : Begun)
-    (e : b ≡ begunBy (s .hub) (s .reader) piece) (out₁ : List ℕ)
-    (f : out₁ ≡ lines (s .hub) (asked (s .reader) (part s piece))
-    ++ drop (15 * length (asked (s .reader) (part s piece))) out₀) where
+pub record Early (s : Session) (piece out₀ : List ℕ) (b : Begun) (out₁ : List ℕ) : Type 0 where
+  pub sound : Sound s
+  pub room : 15 * length (asked (s .reader) piece) ≤ length out₀
+  pub begun : b ≡ begunBy (s .hub) (s .reader) piece
+  pub said : out₁ ≡ lines (s .hub) (asked (s .reader) (part s piece))
+      ++ drop (15 * length (asked (s .reader) (part s piece))) out₀
+
+module _ {s : Session} {piece out₀ : List ℕ} {b : Begun} {out₁ : List ℕ}
+    (k : Early s piece out₀ b out₁) where
   abbrev now-open : Session
   now-open = record { hub = b .hub; reader = b .reader }
 
   is-between : now-open ≡ fed s (part s piece)
-  is-between = between s piece b e
+  is-between = between s piece b (k .begun)
 
   lines-is : b .lines ≡ length (asked (s .reader) (part s piece))
-  lines-is = ap (λ (x : Begun). x .lines) e
+  lines-is = ap (λ (x : Begun). x .lines) (k .begun)
 
   early-size : length (told s (part s piece)) ≡ 15 * b .lines
   early-size = told-size s (part s piece) ∙ ap (λ (n : ℕ). 15 * n) (sym lines-is)
@@ -207,7 +206,8 @@ module _ (s : Session) (k : Sound s) (piece out₀ : List ℕ)
   out₁-is : out₁ ≡ told s (part s piece) ++ drop (15 * b .lines) out₀
   unfolding told
   out₁-is =
-      f ∙ ap (λ (n : ℕ). lines (s .hub) (asked (s .reader) (part s piece)) ++ drop (15 * n) out₀)
+      k .said
+      ∙ ap (λ (n : ℕ). lines (s .hub) (asked (s .reader) (part s piece)) ++ drop (15 * n) out₀)
       (sym lines-is)
 
   pub lines-few : 15 * b .lines ≤ length out₁
@@ -226,14 +226,14 @@ module _ (s : Session) (k : Sound s) (piece out₀ : List ℕ)
         arith,
         early-size,
         length-drop (15 * b .lines) out₀,
-        room,
+        k .room,
         lines-is,
         asked-count s piece,
       )
 
   pub read-few : b .read ≤ length piece
   read-few =
-      subst (λ (x : Begun). x .read ≤ length piece) (sym e)
+      subst (λ (x : Begun). x .read ≤ length piece) (sym (k .begun))
       (open-few (s .hub) (s .reader) piece)
 
   -- What `feed` gives, and what it leaves in the two buffers.
@@ -249,7 +249,8 @@ module _ (s : Session) (k : Sound s) (piece out₀ : List ℕ)
   unfolding requestBytes asked
   feeds-early o spare =
       let n : openAt (s .hub) (s .reader) piece ≡ length piece =
-      all-read (s .hub) (s .reader) piece (k .hub) (ap (λ (x : Begun). isOpen (x .hub)) (sym e) ∙ o) in
+      all-read (s .hub) (s .reader) piece (k .sound .hub)
+      (ap (λ (x : Begun). isOpen (x .hub)) (sym (k .begun)) ∙ o) in
       let all : part s piece ≡ piece =
       ap (λ (m : ℕ). take m piece) n ∙ take-all (length piece) piece (le-of-eq refl) in
       let nothing : others s piece ≡ [] =
@@ -262,7 +263,7 @@ module _ (s : Session) (k : Sound s) (piece out₀ : List ℕ)
 
   module _ (o : isOpen (b .hub) ≡ true) where
     sound-now : Sound now-open
-    sound-now = subst Sound (sym is-between) (fed-sound s (part s piece) k)
+    sound-now = subst Sound (sym is-between) (fed-sound s (part s piece) (k .sound))
 
     pub reachable-now : Reachable (b .hub)
     reachable-now = session-open (b .hub) (sound-now .hub) o
@@ -277,7 +278,7 @@ module _ (s : Session) (k : Sound s) (piece out₀ : List ℕ)
     rest-is : rest-of ≡ others s piece
     rest-is =
         take-all (length piece - b .read) (drop (b .read) piece) (le-of-eq (length-drop (b .read) piece))
-        ∙ ap (λ (x : Begun). drop (x .read) piece) e
+        ∙ ap (λ (x : Begun). drop (x .read) piece) (k .begun)
 
     abbrev lent : List ℕ
     lent = take (length out₁ - 15 * b .lines) (drop (15 * b .lines) out₁)
@@ -288,7 +289,7 @@ module _ (s : Session) (k : Sound s) (piece out₀ : List ℕ)
         (le-of-eq (length-drop (15 * b .lines) out₁))
 
     asked-rest : asked (b .reader) rest-of ≡ askedOpen (s .hub) (s .reader) piece
-    asked-rest = (λ i. asked (e i .reader) (rest-is i))
+    asked-rest = (λ i. asked (k .begun i .reader) (rest-is i))
 
     pub late-few : (m : ℕ) → 2 * length piece ≤ m → 2 * length (asked (b .reader) rest-of) ≤ m
     late-few m l =
@@ -300,7 +301,7 @@ module _ (s : Session) (k : Sound s) (piece out₀ : List ℕ)
           arith,
           ap length asked-rest,
           asked-count s piece,
-          room,
+          k .room,
           lines-is,
           same-size,
           ap length lent-is,
@@ -308,7 +309,7 @@ module _ (s : Session) (k : Sound s) (piece out₀ : List ℕ)
         )
 
     -- The rest is fed to the open hub.
-    module _ (r : Fed) (spare spare′ printed : List ℕ)
+    module _ (spare : List ℕ) {r : Fed} {spare′ printed : List ℕ}
         (x : r ≡ record { session = fed now-open rest-of; lines = length (asked (b .reader) rest-of) })
         (y : spare′ ≡ written (asked (b .reader) rest-of) spare)
         (z : printed ≡ told now-open rest-of ++ drop (15 * length (asked (b .reader) rest-of)) lent)
@@ -324,7 +325,7 @@ module _ (s : Session) (k : Sound s) (piece out₀ : List ℕ)
             )
 
         pub all-few : b .lines + r .lines ≤ length out₀
-        all-few = omega (arith, count, room)
+        all-few = omega (arith, count, k .room)
 
         late-told : told now-open rest-of ≡ told (fed s (part s piece)) (others s piece)
         late-told = (λ i. told (is-between i) (rest-is i))

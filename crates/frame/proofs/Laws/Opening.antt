@@ -1,14 +1,13 @@
 -- Lines before a hub is open, read a character at a time.
-use Prim.Native.Nat.{ℕ, zero, suc, _+_, _-_, _*_, _≤_, _<_}
+use Prim.Native.Nat.{ℕ, suc, _+_, _-_, _*_, _≤_, _<_}
 use mathlib.Core.Path.{_≡_, refl, sym, ap, _∙_, subst}
 use mathlib.Core.Bool.{Bool, true, false, cond, _&&_}
-use mathlib.Core.List.{List, [], _∷_, _++_, append-assoc, append-nil}
+use mathlib.Core.List.{List, [], _∷_, _++_, append-nil}
 use mathlib.Core.Logic.{inl, inr}
 use native.Mathlib.Omega.{arith}
-use borrow.Author.Tests.{ltb-true}
 use borrow.Rule.Slice.PartMut.{putMid}
-use lib.Dec.{eqb, ltb}
-use lib.ListN.{length, getD, take, drop, set, length-append, take-append-drop, drop-of-length-le}
+use lib.Dec.{eqb}
+use lib.ListN.{length, getD, take, drop, length-append, take-append-drop, drop-of-length-le}
 use lib.Seq.{drop-cons, take-suc, take-at, drop-at, drop-drop}
 use Rattle.hub.specs.declared.answers.Answer.{Answer}
 use Rattle.hub.specs.declared.moves.Op.{Op}
@@ -33,7 +32,7 @@ use Rattle.frame.specs.declared.opening.Begun.{Begun}
 use Rattle.frame.specs.declared.reader.Read.{Read}
 use Rattle.frame.specs.declared.reader.Reader.{Reader}
 use Rattle.frame.specs.Opening.{SessionHub, refusal, opensHub, untilOpen, openAt, early, begunBy}
-use Rattle.frame.specs.Reading.{KEPT, lineIn, pushed, emptied, next, past, asked}
+use Rattle.frame.specs.Reading.{lineIn, next, past, asked}
 use Rattle.frame.specs.Reading.{headerBytes, requestBytes, written}
 use Rattle.frame.proofs.Laws.Pieces.{Kept, past-kept}
 use Rattle.frame.proofs.Laws.Sessions.{lines, replies-append, after-append}
@@ -257,7 +256,7 @@ stops r₀ piece out₀ n e =
           ++ drop (15 * length (asked r₀ (take (f i) piece))) out₀),
     )
 
-module _ (r₀ : Reader) (piece out₀ : List ℕ) (r : Reader) (out : List ℕ) (n i : ℕ)
+module _ {r₀ : Reader} {piece out₀ : List ℕ} {r : Reader} {out : List ℕ} {n i : ℕ}
     (u : Upto r₀ piece out₀ r out n i) where
   -- At the end of the piece.
   pub ended : length piece ≤ i → (h : Hub) → h ≡ unopened
@@ -342,7 +341,7 @@ module _ (r₀ : Reader) (piece out₀ : List ℕ) (r : Reader) (out : List ℕ)
     unfolding untilOpen
     ahead-is = ap (λ (l : List ℕ). i + untilOpen r l) here ∙ omega arith
 
-    module _ (read : Read) (header header′ : List ℕ)
+    module _ (header : List ℕ) {read : Read} {header′ : List ℕ}
         (e : read ≡ record { reader = past r chunk; count = length (asked r chunk) })
         (f : header′ ≡ written (asked r chunk) header) where
       counted : read .count ≡ length (cond (eqb c 0x0A) (requestOf (lineIn r) ∷ []) [])
@@ -419,7 +418,7 @@ module _ (r₀ : Reader) (piece out₀ : List ℕ) (r : Reader) (out : List ℕ)
         party-is = ap (λ (l : List ℕ). getD l 1 0) header-is
 
         -- Its reply is written.
-        module _ (part : List ℕ) (p : part ≡ replyIn asText (beforeOpen q .reply)) where
+        module _ {part : List ℕ} (p : part ≡ replyIn asText (beforeOpen q .reply)) where
           abbrev out′ : List ℕ
           out′ = putMid (15 * n) (15 * n + 15 - 15 * n) out part
 

@@ -16,7 +16,7 @@ use Rattle.line.specs.Program.{replies, after, rendered, closing, linesFrom, li
 use Rattle.line.specs.Requests.{toOpen, toCall, requestOf}
 use Rattle.line.proofs.Laws.Schedules.{schedule-replies, schedule-after}
 use Rattle.batch.proofs.Laws.Reachable.{reachable-open, opening-reachable}
-use Rattle.frame.specs.Schedule.{repliesOf, started, leftBy, callLines, inputOf, PartyBytes}
+use Rattle.frame.specs.Schedule.{callLines, inputOf, PartyBytes}
 use Rattle.frame.specs.Schedule.{PrintsSchedule}
 use Rattle.frame.proofs.Laws.Written.{line-read, call-back, opening-back}
 

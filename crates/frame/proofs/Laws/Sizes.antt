@@ -1,6 +1,6 @@
 -- How long the output is: fifteen characters for each line, and as many for the closing line.
 use Prim.Native.Nat.{ℕ, zero, suc, _+_, _*_, _≤_, _<_}
-use mathlib.Core.Path.{_≡_, refl, sym, ap, _∙_}
+use mathlib.Core.Path.{_≡_, refl, ap, _∙_}
 use mathlib.Core.Bool.{Bool, true, false, cond}
 use mathlib.Core.List.{List, [], _∷_, _++_, map}
 use native.Mathlib.Omega.{arith}
@@ -16,7 +16,7 @@ use Rattle.line.specs.Program.{unopened, respond, replies, after, rendered, rep
 use Rattle.line.specs.Program.{linesFrom, linesOf, outputOf}
 use Rattle.line.specs.Requests.{Request, requestOf}
 use Rattle.frame.specs.declared.reader.Reader.{Reader}
-use Rattle.frame.specs.Reading.{next, past, asked}
+use Rattle.frame.specs.Reading.{next, asked}
 
 pub replies-size : (rs : List Request) (h : Hub) → length (repliesIn asText h rs) ≡ 15 * length rs
 unfolding replies rendered

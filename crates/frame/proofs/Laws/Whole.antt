@@ -2,18 +2,18 @@
 use Prim.Native.Nat.{ℕ, suc, _+_, _-_, _*_, _/_, _≤_, _<_}
 use mathlib.Core.Path.{_≡_, refl, sym, ap, _∙_, subst}
 use mathlib.Core.Bool.{true, false}
-use mathlib.Core.List.{List, [], _++_, map, append-assoc, append-nil}
+use mathlib.Core.List.{List, _++_, append-assoc}
 use native.Mathlib.Omega.{arith}
 use borrow.Author.Tests.{le-leb, lt-leb}
-use borrow.Rule.Slice.PartMut.{putMid, post-is}
-use lib.ListN.{length, take, drop, length-append, length-drop, length-map, take-append-drop}
+use borrow.Rule.Slice.PartMut.{putMid}
+use lib.ListN.{length, take, drop, length-append, length-drop, take-append-drop}
 use lib.ListN.{drop-of-length-le}
 use lib.Seq.{drop-drop, take-at, drop-at, take-all, length-take-le}
 use Rattle.line.specs.Program.{after, closing, linesOf, outputOf}
 use Rattle.frame.specs.declared.session.Fed.{Fed}
 use Rattle.frame.specs.declared.session.Session.{Session}
 use Rattle.frame.specs.Opening.{askedOpen}
-use Rattle.frame.specs.Reading.{past, asked}
+use Rattle.frame.specs.Reading.{asked}
 use Rattle.frame.specs.Session.{atStart, fed, told, rest, finished, Sound}
 use Rattle.frame.specs.Whole.{hasRoom, size, filled}
 use Rattle.hub.proofs.Laws.Bools.{if-true, if-false}

@@ -9,10 +9,10 @@ use lib.Dec.{eqb}
 use Rattle.hub.specs.declared.moves.Call.{Call}
 use Rattle.hub.specs.declared.moves.Op.{Op}
 use Rattle.hub.specs.Basics.{allFrom}
-use Rattle.hub.proofs.Laws.Bools.{first, second, if-true, if-false}
 use Rattle.hub.specs.declared.opening.Opening.{Opening}
+use Rattle.hub.proofs.Laws.Bools.{first, second, if-false}
 use Rattle.line.specs.Frame.{isCall, opOf, codeOf}
-use Rattle.line.specs.Hex.{digitOf, spelled, byteOf, charOf, hexOf, textOf}
+use Rattle.line.specs.Hex.{digitOf, byteOf, charOf, hexOf, textOf}
 use Rattle.line.specs.Program.{linesFrom}
 use Rattle.line.specs.Requests.{toOpen, toCall, requestOf}
 use Rattle.line.proofs.Laws.Codes.{is-call, op-back}

@@ -2,25 +2,19 @@
 -- line that opens a hub.
 use borrow.Author.Needs.{needs}
 use Prim.Native.Nat.{ℕ, _+_, _*_, _-_, _≤_}
-use mathlib.Core.Path.{_≡_, refl, sym, ap, _∙_, subst}
-use mathlib.Core.Bool.{Bool, true, false}
-use mathlib.Core.List.{List, _++_}
+use mathlib.Core.Path.{_≡_, sym, ap, _∙_}
+use mathlib.Core.List.{List}
 use native.Mathlib.Omega.{arith}
-use lib.ListN.{length, getD, drop}
-use Rattle.hub.specs.declared.record.Hub.{Hub}
+use lib.ListN.{length}
 use Rattle.line.specs.Form.{asText}
-use Rattle.line.specs.Program.{unopened, isOpen, Reply, beforeOpen, replyIn}
-use Rattle.line.specs.Requests.{Request, requestOf, headerOf, isOpening}
-use Rattle.frame.specs.declared.opening.Begun.{Begun}
-use Rattle.frame.specs.declared.reader.Reader.{Reader}
-use Rattle.frame.specs.Opening.{opensHub, early, begunBy}
-use Rattle.frame.specs.Reading.{lineIn, asked}
+use Rattle.line.specs.Program.{unopened, isOpen, beforeOpen, replyIn}
+use Rattle.line.specs.Requests.{Request, requestOf, isOpening}
+use Rattle.frame.specs.Reading.{lineIn}
 use Rattle.frame.proofs.Laws.Opening.{session-shut, refused-line, opening-header}
 use Rattle.frame.proofs.Laws.Opening.{already-open, Upto, start, ended, at-most-one}
 use Rattle.frame.proofs.Laws.Opening.{within-line, room-for-one, code-is, party-is}
 use Rattle.frame.proofs.Laws.Opening.{onward, opened}
 use Rattle.frame.proofs.Laws.Pieces.{whole}
-use Rattle.frame.proofs.Laws.Sessions.{lines}
 use Rattle.frame.proofs.opening.until_open.Statement.{statement}
 use Rattle.frame.proofs.opening.until_open.Tie as tie
 
@@ -65,7 +59,7 @@ line-room : (c : Ending)
     → let l = head (reading c) in 15 * l .loop .lines + 15 ≤ length (l .loop .out)
 line-room c =
     let r = reading c in
-    room-for-one _ _ _ _ _ _ _ (head r .loop .inv) (r .before .before .before .loop-test .taken) _ _ _
+    room-for-one (head r .loop .inv) (r .before .before .before .loop-test .taken) _
     (r .read-piece .ensures .0) (r .read-piece .ensures .1) (c .if2 .left)
 
 is-open-requires : tie.Need-is-open-requires Inv-loop μ-loop
@@ -101,7 +95,7 @@ read-piece-requires : tie.Need-read-piece-requires Inv-loop μ-loop
 read-piece-requires c κs =
     let l = c .before .before .before in (
       l .loop .inv .kept .short,
-      at-most-one _ _ _ _ _ _ _ (l .loop .inv) (c .before .before .loop-test .taken),
+      at-most-one (l .loop .inv) (c .before .before .loop-test .taken),
     )
 
 loop-less : tie.Need-loop-less Inv-loop μ-loop
@@ -111,7 +105,7 @@ loop-again : tie.Need-loop-again Inv-loop μ-loop
 loop-again c =
     let r = c .before .before .before .before in
     let l = head r in
-    within-line _ _ _ _ _ _ _ (l .loop .inv) (r .before .before .before .loop-test .taken) _ _ _
+    within-line (l .loop .inv) (r .before .before .before .loop-test .taken) _
     (r .read-piece .ensures .0) (r .read-piece .ensures .1) (c .if2 .taken)
 
 mul-at : tie.Need-mul-at Inv-loop μ-loop
@@ -155,9 +149,9 @@ loop-again-2 c =
     let f = r .read-piece .ensures in
     let z =
     refused-line (asks e) _ _
-    (code-is _ _ _ _ _ _ _ (l .inv) more _ _ _ (f .0) (f .1) (e .if2 .left))
-    (party-is _ _ _ _ _ _ _ (l .inv) more _ _ _ (f .0) (f .1) (e .if2 .left)) (t .if3 .taken) in
-    onward _ _ _ _ _ _ _ (l .inv) more _ _ _ (f .0) (f .1) (e .if2 .left) _
+    (code-is (l .inv) more _ (f .0) (f .1) (e .if2 .left))
+    (party-is (l .inv) more _ (f .0) (f .1) (e .if2 .left)) (t .if3 .taken) in
+    onward (l .inv) more _ (f .0) (f .1) (e .if2 .left)
     (w .refuse .ensures ∙ ap (replyIn asText) (z .0)) (z .1)
 
 sub-open-as : tie.Need-sub-open-as Inv-loop μ-loop
@@ -186,7 +180,7 @@ open-as-requires c κs =
     let l = head r .loop in
     let f = r .read-piece .ensures in
     let code =
-    code-is _ _ _ _ _ _ _ (l .inv) (r .before .before .before .loop-test .taken) _ _ _ (f .0) (f .1)
+    code-is (l .inv) (r .before .before .before .loop-test .taken) _ (f .0) (f .1)
     (e .if2 .left) in (
       ap (λ (x : List ℕ). isOpening (requestOf x)) (whole (l .current))
           ∙ opening-header (asks e) (sym code ∙ t .if3 .left),
@@ -209,8 +203,8 @@ returns-2 c =
     let hub =
     o .open-as .ensures .0
     ∙ ap (λ (x : List ℕ). beforeOpen (requestOf x) .hub) (whole (l .current)) in
-    opened _ _ _ _ _ _ _ (l .inv) (r .before .before .before .loop-test .taken) _ _ _ (f .0) (f .1)
-    (e .if2 .left) _
+    opened (l .inv) (r .before .before .before .loop-test .taken) _ (f .0) (f .1)
+    (e .if2 .left)
     (o .open-as .ensures .1
     ∙ ap (λ (x : List ℕ). replyIn asText (beforeOpen (requestOf x) .reply)) (whole (l .current)))
     (ap isOpen (sym hub) ∙ sym (c .before .is-open2 .ensures) ∙ c .if4 .taken) _ (none (head r)) _ hub
@@ -228,8 +222,8 @@ loop-again-3 c =
     let hub =
     o .open-as .ensures .0
     ∙ ap (λ (x : List ℕ). beforeOpen (requestOf x) .hub) (whole (l .current)) in
-    onward _ _ _ _ _ _ _ (l .inv) (r .before .before .before .loop-test .taken) _ _ _ (f .0) (f .1)
-    (e .if2 .left) _
+    onward (l .inv) (r .before .before .before .loop-test .taken) _ (f .0) (f .1)
+    (e .if2 .left)
     (o .open-as .ensures .1
     ∙ ap (λ (x : List ℕ). replyIn asText (beforeOpen (requestOf x) .reply)) (whole (l .current)))
     (ap isOpen (sym hub) ∙ sym (c .before .is-open2 .ensures) ∙ c .if4 .left)
@@ -240,7 +234,7 @@ same-length-2 c = search needs
 returns-3 : tie.Need-returns-3 Inv-loop μ-loop
 returns-3 c =
     let l = c .before in
-    ended _ _ _ _ _ _ _ (l .loop .inv) (c .loop-test .left) _ (none l)
+    ended (l .loop .inv) (c .loop-test .left) _ (none l)
 
 pub until-open-spec : {M : Type 1} → statement M
 until-open-spec =

@@ -6,7 +6,7 @@ use lib.ListN.{length}
 use mathlib.Core.Path.{_≡_, refl, sym, ap, _∙_, subst}
 use Rattle.frame.specs.declared.session.Session.{Session}
 use Rattle.frame.proofs.Laws.Feeding.{written-size}
-use Rattle.frame.proofs.Laws.Whole.{Printing, nothing-printed, before-end, piece-room}
+use Rattle.frame.proofs.Laws.Whole.{Printing, nothing-printed, piece-room}
 use Rattle.frame.proofs.Laws.Whole.{piece-fits, asked-fits, printed-on, few-lines, end-room}
 use Rattle.frame.proofs.Laws.Whole.{all-printed}
 use Rattle.frame.proofs.whole.write_output.Statement.{statement}

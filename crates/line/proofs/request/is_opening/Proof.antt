@@ -2,7 +2,7 @@
 -- definition has them.
 use borrow.Author.Needs.{needs}
 use Prim.Native.Nat.{ℕ, _≤_, _<_}
-use mathlib.Core.Path.{_≡_, sym, ap, _∙_, subst}
+use mathlib.Core.Path.{sym, ap, _∙_, subst}
 use Rattle.line.specs.Hex.{byteOf}
 use Rattle.line.specs.Requests.{isOpening}
 use Rattle.line.proofs.Laws.Lines.{from, not-six, six-code, six-first, six-second, six}

@@ -1,7 +1,6 @@
 -- `read_opening` meets its contract: a line that is an opening has the length and the bytes of one.
 use borrow.Author.Needs.{needs}
-use Prim.Native.Nat.{ℕ, _<_}
-use mathlib.Core.Path.{_≡_, ap, _∙_, subst}
+use mathlib.Core.Path.{ap, _∙_}
 use native.Mathlib.Omega.{arith}
 use Rattle.line.specs.Hex.{byteOf}
 use Rattle.line.specs.Requests.{toOpen}
