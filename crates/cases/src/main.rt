@@ -9,10 +9,13 @@ use hub::opening::Opening;
 use hub::record::Figures;
 use hub::record::Hub;
 use hub::record::Outcome;
-use hub::record::PartySlot;
 use hub::record::Phase;
 use hub::record::Place;
 use hub::record::PlaceSlot;
+use hub::slots::empty_seat;
+use hub::slots::free_slot;
+use hub::slots::with_phase;
+use hub::slots::with_place;
 use line::answer::print_of;
 use line::answer::put;
 use run::Ran;
@@ -100,6 +103,11 @@ fn counting(counter: i32) -> Hub {
     h
 }
 
+// A place where a party waits.
+fn waiting(party: u32) -> PlaceSlot {
+    with_place(Place::Waiting(party), empty_seat())
+}
+
 // Calls on records that no opening reaches.
 fn made_by_hand() {
     // 1,000,000 asks begun, and one fewer
@@ -119,20 +127,14 @@ fn made_by_hand() {
     told(0, release(counting(32), 0));
     // a waiting place of a party that is free does not fit
     let mut h = opened(1, 3);
-    h.places[200] = PlaceSlot {
-        place: Place::Waiting(2),
-    };
+    h.places[200] = waiting(2);
     told(2, cancel(h, 2));
     // nor does one of a party that there is not
-    h.places[200] = PlaceSlot {
-        place: Place::Waiting(4000000000),
-    };
+    h.places[200] = waiting(4000000000);
     told(2, cancel(h, 2));
     // a party gives back at counter 32: the answer is the table's, and the next call is refused
     let mut h = opened(32, 3);
-    h.slots[0] = PartySlot {
-        phase: Phase::Releasing,
-    };
+    h.slots[0] = with_phase(Phase::Releasing, free_slot());
     let next = told(0, step(h, 0));
     told(1, acquire(next, 1));
 }

@@ -11,6 +11,10 @@ use hub::record::PartySlot;
 use hub::record::Phase;
 use hub::record::Place;
 use hub::record::PlaceSlot;
+use hub::slots::empty_seat;
+use hub::slots::free_slot;
+use hub::slots::with_phase;
+use hub::slots::with_place;
 use libc::STDIN_FILENO;
 use libc::STDOUT_FILENO;
 use line::answer::print_of;
@@ -57,13 +61,12 @@ fn bytes_of(hub: Hub) -> [u8; 1462] {
 }
 
 fn places_of(bytes: &[u8; 1462]) -> [PlaceSlot; 256] {
-    let mut places = [PlaceSlot {
-        place: Place::Empty,
-    }; 256];
+    let empty = empty_seat();
+    let mut places = [empty; 256];
     let mut i: usize = 0;
     while i < 256 {
         let place = place_of(cell_at(bytes, 22 + 5 * i));
-        places[i] = PlaceSlot { place };
+        places[i] = with_place(place, empty);
         i += 1;
     }
     places
@@ -80,11 +83,12 @@ fn put_places(out: &mut [u8; 1462], places: [PlaceSlot; 256]) {
 }
 
 fn slots_of(bytes: &[u8; 1462]) -> [PartySlot; 32] {
-    let mut slots = [PartySlot { phase: Phase::Free }; 32];
+    let free = free_slot();
+    let mut slots = [free; 32];
     let mut p: usize = 0;
     while p < 32 {
         let phase = phase_of(cell_at(bytes, 1302 + 5 * p));
-        slots[p] = PartySlot { phase };
+        slots[p] = with_phase(phase, free);
         p += 1;
     }
     slots

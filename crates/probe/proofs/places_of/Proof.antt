@@ -5,10 +5,13 @@ use Rattle.probe.proofs.places_of.Statement.{statement}
 use Rattle.probe.proofs.places_of.Tie as tie
 
 abbrev Inv-loop : tie.InvT-loop
-Inv-loop bytes places₀ i₀ places i = Unit {0}
+Inv-loop bytes empty places₀ i₀ places i = Unit {0}
 
 abbrev μ-loop : tie.MeasureT-loop
-μ-loop bytes places₀ i₀ places i = 256 - i
+μ-loop bytes empty places₀ i₀ places i = 256 - i
+
+empty-seat-requires : tie.Need-empty-seat-requires Inv-loop μ-loop
+empty-seat-requires c κs = search needs
 
 loop-holds : tie.Need-loop-holds Inv-loop μ-loop
 loop-holds c = tt
@@ -24,6 +27,9 @@ cell-at-requires c κs = search needs
 
 place-of-requires : tie.Need-place-of-requires Inv-loop μ-loop
 place-of-requires c κs = search needs
+
+with-place-requires : tie.Need-with-place-requires Inv-loop μ-loop
+with-place-requires c κs = search needs
 
 mul-places : tie.Need-mul-places Inv-loop μ-loop
 mul-places c = search needs
@@ -49,11 +55,13 @@ places-of-spec =
     (tie.spec
     Inv-loop
     μ-loop
+    empty-seat-requires
     loop-holds
     mul-cell-at
     add-cell-at
     cell-at-requires
     place-of-requires
+    with-place-requires
     mul-places
     array-set-from-places
     add-i

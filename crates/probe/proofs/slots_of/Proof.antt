@@ -5,10 +5,13 @@ use Rattle.probe.proofs.slots_of.Statement.{statement}
 use Rattle.probe.proofs.slots_of.Tie as tie
 
 abbrev Inv-loop : tie.InvT-loop
-Inv-loop bytes slots₀ p₀ slots p = Unit {0}
+Inv-loop bytes free slots₀ p₀ slots p = Unit {0}
 
 abbrev μ-loop : tie.MeasureT-loop
-μ-loop bytes slots₀ p₀ slots p = 32 - p
+μ-loop bytes free slots₀ p₀ slots p = 32 - p
+
+free-slot-requires : tie.Need-free-slot-requires Inv-loop μ-loop
+free-slot-requires c κs = search needs
 
 loop-holds : tie.Need-loop-holds Inv-loop μ-loop
 loop-holds c = tt
@@ -24,6 +27,9 @@ cell-at-requires c κs = search needs
 
 phase-of-requires : tie.Need-phase-of-requires Inv-loop μ-loop
 phase-of-requires c κs = search needs
+
+with-phase-requires : tie.Need-with-phase-requires Inv-loop μ-loop
+with-phase-requires c κs = search needs
 
 mul-slots : tie.Need-mul-slots Inv-loop μ-loop
 mul-slots c = search needs
@@ -49,11 +55,13 @@ slots-of-spec =
     (tie.spec
     Inv-loop
     μ-loop
+    free-slot-requires
     loop-holds
     mul-cell-at
     add-cell-at
     cell-at-requires
     phase-of-requires
+    with-phase-requires
     mul-slots
     array-set-from-slots
     add-p
