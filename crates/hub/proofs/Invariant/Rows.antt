@@ -214,26 +214,26 @@ module _ (k : ℕ) (m : Queue) (p : ℕ) (l : p < m .opening .parties) (inv : In
       }
 
   -- On the cell of ticket t; the figures stay.
-  pub place-row : {o : Op} {f : Phase} {s : PartySlot} {b : Place} {a : PlaceSlot} {r : Answer} (t : ℕ)
+  pub place-row : {o : Op} {f : Phase} {b : Place} {r : Answer} (s : PartySlot) (a : PlaceSlot) (t : ℕ)
       → phaseIn (phases m) p ≡ f → places m t ≡ b → t < TICKETS
       → LocalIn m (m .figures) f (s .phase) t b (a .place)
       → BesideIn m (m .figures) f (s .phase) t → Names p t (s .phase) b (a .place)
       → Says o f (s .phase) b (a .place) r (m .figures .begun) (m .figures .begun)
       → Tells o f (s .phase) r (m .figures .counter) → Serves (m .figures .resumed) r
       → Next k o p r m (set-in m p s (write (m .cells) t a) (m .figures))
-  place-row {o} {f} {s} {b} {a} {r} t e e′ j lo be nm sa te sv =
+  place-row {o} {f} {b} {r} s a t e e′ j lo be nm sa te sv =
       row _ r (shift-place m p f s t (inside (inv .tickets) p l) e b a (m .figures) e′ j)
       (write-phase (m .slots) p s) refl lo be nm sa te sv
 
   -- On no cell. The ticket t is one that the row says something of.
-  pub phase-row : {o : Op} {f : Phase} {s : PartySlot} {h : Figures} {r : Answer} (t : ℕ)
+  pub phase-row : {o : Op} {f : Phase} {h : Figures} {r : Answer} (s : PartySlot) (t : ℕ)
       → phaseIn (phases m) p ≡ f
       → LocalIn m h f (s .phase) t (places m t) (places m t) → BesideIn m h f (s .phase) t
       → Names p t (s .phase) (places m t) (places m t)
       → Says o f (s .phase) (places m t) (places m t) r (m .figures .begun) (h .begun)
       → Tells o f (s .phase) r (h .counter) → Serves (h .resumed) r
       → Next k o p r m (set-in m p s (m .cells) h)
-  phase-row {o} {f} {s} {h} {r} t e lo be nm sa te sv =
+  phase-row {o} {f} {h} {r} s t e lo be nm sa te sv =
       row _ r (shift-phase m p f s t (inside (inv .tickets) p l) e (places m t) h refl)
       (write-phase (m .slots) p s) refl lo be nm sa te sv
 

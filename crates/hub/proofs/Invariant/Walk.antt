@@ -74,13 +74,13 @@ module _ (k : ℕ) (m : Queue) (p : ℕ) (l : p < m .opening .parties) (inv : In
       → Good k Step p m Acquiring (stepAcquiring u (look m p))
   unfolding stepAcquiring pick isOneOf isPlaceOf seenBy phaseAfter phasesAfter counterAfter servedAfter
   asked true e f =
-      phase-row k m p l inv issued f
+      phase-row k m p l inv _ issued f
       (omega (arith, inv .tickets .at issued, took-above (m .figures .counter) e))
       (omega (arith, took-above (m .figures .counter) e))
       (names-kept k m p l inv issued _ _ f (omega arith))
       (omega arith) (refl, refl, refl, refl) (λ xs a. a)
   asked false e f =
-      phase-row k m p l inv issued f
+      phase-row k m p l inv _ issued f
       (omega (arith, inv .tickets .at issued, took-below (m .figures .counter) e))
       (omega (arith, took-below (m .figures .counter) e))
       (names-kept k m p l inv issued _ _ f (omega arith))
@@ -91,13 +91,13 @@ module _ (k : ℕ) (m : Queue) (p : ℕ) (l : p < m .opening .parties) (inv : In
       → Good k Step p m Releasing (stepReleasing u (look m p))
   unfolding stepReleasing pick isOneOf isPlaceOf seenBy phaseAfter phasesAfter counterAfter servedAfter
   giving-back true e f =
-      phase-row k m p l inv issued f
+      phase-row k m p l inv _ issued f
       (omega (arith, inv .tickets .at issued, gave-below (m .figures .counter) e))
       (omega (arith, gave-below (m .figures .counter) e))
       (names-kept k m p l inv issued _ _ f (omega arith))
       (omega arith) (refl, refl, refl, refl) (λ xs a. a)
   giving-back false e f =
-      phase-row k m p l inv issued f
+      phase-row k m p l inv _ issued f
       (omega (arith, inv .tickets .at issued, gave-above (m .figures .counter) e))
       (omega (arith, gave-above (m .figures .counter) e))
       (names-kept k m p l inv issued _ _ f (omega arith))
@@ -130,7 +130,7 @@ module _ (k : ℕ) (m : Queue) (p : ℕ) (l : p < m .opening .parties) (inv : In
       → Good k Step p m Suspending (stepSuspending (look m p))
   unfolding stepSuspending pick isOneOf isPlaceOf seenBy phaseAfter phasesAfter counterAfter servedAfter
   unnumbered f =
-      phase-row k m p l inv issued f
+      phase-row k m p l inv _ issued f
       (omega (
         arith,
         same-self issued,
@@ -149,7 +149,7 @@ module _ (k : ℕ) (m : Queue) (p : ℕ) (l : p < m .opening .parties) (inv : In
       → Good k Step p m Resuming (stepResuming (look m p))
   unfolding stepResuming pick isOneOf isPlaceOf seenBy phaseAfter phasesAfter counterAfter servedAfter
   carrying f =
-      phase-row k m p l inv resumed f
+      phase-row k m p l inv _ resumed f
       (omega (
         arith,
         same-self resumed,
@@ -182,12 +182,12 @@ module _ (k : ℕ) (m : Queue) (p : ℕ) (l : p < m .opening .parties) (inv : In
       → Good k Step p m (Ticketed t) (stepTicketed t a (look m p))
   unfolding stepTicketed pick isOneOf isPlaceOf seenBy phaseAfter phasesAfter counterAfter servedAfter AllBelow
   numbered t Empty i e =
-      place-row k m p l inv t e i (few t _ e (owns t))
+      place-row k m p l inv _ _ t e i (few t _ e (owns t))
       (omega (arith, same-self t, known t _ e (owns t) _ i)) (omega arith)
       (λ y. same-self t, λ y. absurd (y refl)) (omega arith) (refl, refl, refl, refl) (λ xs a. a)
   numbered t Permit i e =
       let b = permit-below (inv .tickets) t i in
-      place-row k m p l inv t e i (few t _ e (owns t))
+      place-row k m p l inv _ _ t e i (few t _ e (owns t))
       (omega (arith, same-self t, known t _ e (owns t) _ i))
       (record {
         numbers = λ v y. (refl, refl);
@@ -207,11 +207,11 @@ module _ (k : ℕ) (m : Queue) (p : ℕ) (l : p < m .opening .parties) (inv : In
       → Good k Step p m (Cancelling t) (stepCancelling t a (look m p))
   unfolding stepCancelling pick isOneOf isPlaceOf seenBy phaseAfter phasesAfter counterAfter servedAfter
   cancelling t (WaitedBy q) i e =
-      place-row k m p l inv t e i (few t _ e (owns t))
+      place-row k m p l inv _ _ t e i (few t _ e (owns t))
       (omega (arith, same-self t, known t _ e (owns t) _ i)) (omega arith)
       tt (omega arith) (refl, refl, refl, refl) (λ xs a. a)
   cancelling t Permit i e =
-      place-row k m p l inv t e i (few t _ e (owns t))
+      place-row k m p l inv _ _ t e i (few t _ e (owns t))
       (omega (arith, same-self t, known t _ e (owns t) _ i)) (omega arith)
       tt (omega arith) (refl, refl, refl, refl) (λ xs a. a)
   cancelling t Empty i e =
@@ -227,11 +227,11 @@ module _ (k : ℕ) (m : Queue) (p : ℕ) (l : p < m .opening .parties) (inv : In
       → Good k Step p m (Refusing t) (stepRefusing t a (look m p))
   unfolding stepRefusing pick isOneOf isPlaceOf seenBy phaseAfter phasesAfter counterAfter servedAfter
   refusing t (WaitedBy q) i e =
-      place-row k m p l inv t e i (few t _ e (owns t))
+      place-row k m p l inv _ _ t e i (few t _ e (owns t))
       (omega (arith, same-self t, known t _ e (owns t) _ i)) (omega arith)
       tt (omega arith) (refl, refl, refl, refl) (λ xs a. a)
   refusing t Permit i e =
-      place-row k m p l inv t e i (few t _ e (owns t))
+      place-row k m p l inv _ _ t e i (few t _ e (owns t))
       (omega (arith, same-self t, known t _ e (owns t) _ i)) (omega arith)
       tt (omega arith) (refl, refl, refl, refl) (λ xs a. a)
   refusing t Empty i e =
@@ -248,7 +248,7 @@ module _ (k : ℕ) (m : Queue) (p : ℕ) (l : p < m .opening .parties) (inv : In
       → Good k Step p m (Aborting t) (stepAborting t z (look m p))
   unfolding stepAborting pick isOneOf isPlaceOf seenBy phaseAfter phasesAfter counterAfter servedAfter
   giving-up t true c e =
-      phase-row k m p l inv t e
+      phase-row k m p l inv _ t e
       (omega (arith, same-self t, known t _ e (owns t) _ refl, gave-below (m .figures .counter) c))
       (record {
         numbers = λ v y. (refl, refl);
@@ -257,7 +257,7 @@ module _ (k : ℕ) (m : Queue) (p : ℕ) (l : p < m .opening .parties) (inv : In
       (names-kept k m p l inv t _ _ e (omega arith)) (omega arith) (refl, refl, refl, refl)
       (λ xs a. a)
   giving-up t false c e =
-      phase-row k m p l inv t e
+      phase-row k m p l inv _ t e
       (omega (arith, same-self t, known t _ e (owns t) _ refl, gave-above (m .figures .counter) c))
       (record {
         numbers = λ v y. (refl, refl);
@@ -289,7 +289,7 @@ module _ (k : ℕ) (m : Queue) (p : ℕ) (l : p < m .opening .parties) (inv : In
         → Good k Step p m (ResumingAt t) (resumeWaiter false q t (look m p))
     unfolding resumeWaiter pick isOneOf isPlaceOf seenBy phaseAfter phasesAfter counterAfter servedAfter
     delegated q i w =
-        place-row k m p l inv t e i reach
+        place-row k m p l inv _ _ t e i reach
         (omega (arith, same-self t, here (inv .tickets) t (WaitedBy q) i, still)) (omega arith)
         tt (omega arith) (refl, refl, refl, refl) (λ xs a. a)
       where
@@ -469,7 +469,7 @@ module _ (k : ℕ) (m : Queue) (p : ℕ) (l : p < m .opening .parties) (inv : In
         → Good k Step p m (ResumingAt t) (stepResumingAt t a (look m p))
     unfolding stepResumingAt pick isOneOf isPlaceOf seenBy phaseAfter phasesAfter counterAfter servedAfter
     handing Empty i j =
-        place-row k m p l inv t e i reach (omega (arith, same-self t, held Empty i))
+        place-row k m p l inv _ _ t e i reach (omega (arith, same-self t, held Empty i))
         (omega arith) tt (omega arith) (refl, refl, refl, refl) (λ xs a. a)
     handing (WaitedBy q) i j = go (isWaiting (look m p .waiter .phase)) refl
       where
@@ -486,10 +486,10 @@ module _ (k : ℕ) (m : Queue) (p : ℕ) (l : p < m .opening .parties) (inv : In
             (inv .tickets .named t q i))
         go false y = delegated q i (sym (ap isWaiting same-waiter) ∙ y)
     handing Cancelled i j =
-        place-row k m p l inv t e i reach (omega (arith, same-self t, held Cancelled i))
+        place-row k m p l inv _ _ t e i reach (omega (arith, same-self t, held Cancelled i))
         (omega arith) tt (omega arith) (refl, refl, refl, refl) (λ xs a. a)
     handing Refused i j =
-        place-row k m p l inv t e i reach (omega (arith, same-self t, held Refused i))
+        place-row k m p l inv _ _ t e i reach (omega (arith, same-self t, held Refused i))
         (omega arith) tt (omega arith) (refl, refl, refl, refl) (λ xs a. a)
     handing Permit i j =
         let b : ⊥ = omega (arith, held Permit i, lt-le t resumed) in absurd b
@@ -533,7 +533,7 @@ module _ (k : ℕ) (m : Queue) (p : ℕ) (l : p < m .opening .parties) (inv : In
   acquire-good true false e i =
       let j = leb-false MAX-BEGUN (m .figures .begun) i in
       let f = is-of Free (one-of Free phase e) in
-      phase-row k m p l inv issued f (omega (arith, inv .tickets .at issued))
+      phase-row k m p l inv _ issued f (omega (arith, inv .tickets .at issued))
       (omega arith) (names-kept k m p l inv issued _ _ f (omega arith)) (omega arith)
       (refl, refl, refl, refl) (λ xs a. a)
 
@@ -545,7 +545,7 @@ module _ (k : ℕ) (m : Queue) (p : ℕ) (l : p < m .opening .parties) (inv : In
   cancel-good true false e =
       let t = ticketOf phase in
       let f = is-of (Waiting t) (one-of (Waiting 0) phase e) in
-      phase-row k m p l inv t f
+      phase-row k m p l inv _ t f
       (omega (arith, same-self t, known t _ f (owns t) _ refl, least-le (places m t)))
       (omega arith) (names-kept k m p l inv t _ _ f (omega arith)) (omega arith)
       (refl, refl, refl, refl) (λ xs a. a)
@@ -556,7 +556,7 @@ module _ (k : ℕ) (m : Queue) (p : ℕ) (l : p < m .opening .parties) (inv : In
   release-good false e = refl
   release-good true e =
       let f = is-of Holding (one-of Holding phase e) in
-      phase-row k m p l inv issued f (omega (arith, inv .tickets .at issued))
+      phase-row k m p l inv _ issued f (omega (arith, inv .tickets .at issued))
       (omega arith) (names-kept k m p l inv issued _ _ f (omega arith)) (omega arith)
       (refl, refl, refl, refl) (λ xs a. a)
 
