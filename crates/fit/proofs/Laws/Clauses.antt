@@ -84,14 +84,14 @@ module _ (h : Hub) (p : ℕ) where
 
   -- From n up only a free one does.
   pub past-parties : h .opening .parties ≤ p
-      → OneOf (allBut 0) (tagOf phase.the-type (readSlot (h .slots) p .phase))
+      → OneOf (allBut (0 ∷ [])) (tagOf phase.the-type (readSlot (h .slots) p .phase))
       → partyFits h p ≡ false
   unfolding isOneOf
   past-parties l o =
       rw (
         sym by-clauses,
         le-ltb p (h .opening .parties) l,
-        sym (phase-arm (allBut 0) isFree (readSlot (h .slots) p .phase) refl o),
+        sym (phase-arm (allBut (0 ∷ [])) isFree (readSlot (h .slots) p .phase) refl o),
       )
 
 -- What lies at index i, and the clause of its place, whose ticket is the window's at i.

@@ -14,7 +14,7 @@ use Rattle.hub.specs.Fits.{placeListed}
 use Rattle.hub.specs.Phases.{isOneOf, isPlaceOf, ticketOf}
 use Rattle.hub.proofs.record.Phase as phase
 use Rattle.hub.proofs.record.Place as place
-use Rattle.hub.proofs.Laws.Phases.{phase-arm, place-arm, phasesWith, placesWith, waiterOf}
+use Rattle.hub.proofs.Laws.Phases.{allBut, phase-arm, place-arm, phasesWith, placesWith, waiterOf}
 use Rattle.fit.proofs.listed.Statement.{statement}
 use Rattle.fit.proofs.listed.Tie as tie
 
@@ -78,7 +78,7 @@ returns-6 c =
 returns-7 : tie.Need-returns-7
 unfolding placeListed allOf isOneOf
 returns-7 c =
-    phase-arm (0 ∷ 1 ∷ 2 ∷ 3 ∷ 4 ∷ 6 ∷ 9 ∷ 10 ∷ []) (λ f. placeListed f (c .before .args .place))
+    phase-arm (allBut (5 ∷ 7 ∷ 8 ∷ 11 ∷ [])) (λ f. placeListed f (c .before .args .place))
     (c .before .args .phase) refl (c .match .keys4)
 
 pub listed-spec : {M : Type 1} → statement M

@@ -4,7 +4,7 @@ use mathlib.Core.Path.{refl}
 use mathlib.Core.List.{[], _∷_}
 use Rattle.hub.specs.Fits.{standsAt}
 use Rattle.hub.specs.Phases.{isOneOf}
-use Rattle.hub.proofs.Laws.Phases.{phase-arm}
+use Rattle.hub.proofs.Laws.Phases.{allBut, phase-arm}
 use Rattle.fit.proofs.stands_at.Statement.{statement}
 use Rattle.fit.proofs.stands_at.Tie as tie
 
@@ -23,7 +23,7 @@ returns-2 : tie.Need-returns-2
 unfolding isOneOf
 returns-2 c =
     let s = c .before .args in
-    phase-arm (0 ∷ 1 ∷ 3 ∷ 4 ∷ 5 ∷ 9 ∷ 10 ∷ 11 ∷ []) (λ f. standsAt f (s .t)) (s .phase) refl
+    phase-arm (allBut (2 ∷ 6 ∷ 7 ∷ 8 ∷ [])) (λ f. standsAt f (s .t)) (s .phase) refl
     (c .match .keys2)
 
 pub stands-at-spec : {M : Type 1} → statement M

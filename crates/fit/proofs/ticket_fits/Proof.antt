@@ -6,7 +6,7 @@ use mathlib.Core.List.{[], _∷_}
 use Rattle.hub.specs.Basics.{allOf}
 use Rattle.hub.specs.Fits.{ticketFits}
 use Rattle.hub.specs.Phases.{isOneOf}
-use Rattle.hub.proofs.Laws.Phases.{phase-arm}
+use Rattle.hub.proofs.Laws.Phases.{allBut, phase-arm}
 use Rattle.fit.proofs.ticket_fits.Statement.{statement}
 use Rattle.fit.proofs.ticket_fits.Tie as tie
 
@@ -76,7 +76,7 @@ returns-5 : tie.Need-returns-5
 unfolding ticketFits allOf isOneOf
 returns-5 c =
     let s = c .before .args in
-    phase-arm (0 ∷ 1 ∷ 3 ∷ 9 ∷ []) (ticketFits (s .figures) (s .oldest)) (s .phase) refl
+    phase-arm (allBut (2 ∷ 4 ∷ 5 ∷ 6 ∷ 7 ∷ 8 ∷ 10 ∷ 11 ∷ [])) (ticketFits (s .figures) (s .oldest)) (s .phase) refl
     (c .match .keys5)
 
 pub ticket-fits-spec : {M : Type 1} → statement M

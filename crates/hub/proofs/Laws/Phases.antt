@@ -3,11 +3,11 @@
 use Prim.Native.Nat.{ℕ, zero, suc}
 use mathlib.Core.Path.{_≡_, refl, sym, ap, subst, _∙_}
 use mathlib.Core.Bool.{Bool, true, false, cond, _||_}
-use mathlib.Core.List.{List, [], _∷_, _++_, map}
+use mathlib.Core.List.{List, [], _∷_, map}
 use mathlib.Core.Logic.{inl, inr}
 use borrow.Author.Tests.{eqb-true}
 use lib.Dec.{eqb}
-use lib.ListN.{length, replicate, getD, take, drop}
+use lib.ListN.{length, replicate, getD}
 use types.Run.{OneOf}
 use denote.Enum.Declared.{tagOf}
 use Rattle.hub.proofs.record.Phase as phase
@@ -116,11 +116,13 @@ pub by-ticket : {A : Type 0} (z : A) (g : ℕ → A) (x : Phase)
 by-ticket z g =
     phases-alike (byTicket z g) (λ x. cond (ticketed x) (g (ticketOf x)) z) (λ t. refl)
 
--- The tags of all phases but one.
-abbrev pub allBut : ℕ → List ℕ
-allBut k =
-    let ks : List ℕ = 0 ∷ 1 ∷ 2 ∷ 3 ∷ 4 ∷ 5 ∷ 6 ∷ 7 ∷ 8 ∷ 9 ∷ 10 ∷ 11 ∷ [] in
-    take k ks ++ drop (suc k) ks
+-- The tags of all phases but these.
+abbrev without : List ℕ → List ℕ → List ℕ
+without ks [] = []
+without ks (x ∷ l) = cond (among ks x) (without ks l) (x ∷ without ks l)
+
+abbrev pub allBut : List ℕ → List ℕ
+allBut ks = without ks (map rank (phasesWith 0))
 
 -- The places, with party q where somebody waits; that party.
 abbrev pub placesWith : ℕ → List Place

@@ -3,7 +3,7 @@ use mathlib.Core.Path.{refl}
 use mathlib.Core.Bool.{true, false}
 use mathlib.Core.List.{[], _∷_}
 use Rattle.hub.specs.Phases.{byTicket}
-use Rattle.hub.proofs.Laws.Phases.{phase-arm}
+use Rattle.hub.proofs.Laws.Phases.{allBut, phase-arm}
 use Rattle.hub.proofs.phases.has_ticket.Statement.{statement}
 use Rattle.hub.proofs.phases.has_ticket.Tie as tie
 
@@ -14,7 +14,7 @@ returns c =
 
 returns-2 : tie.Need-returns-2
 returns-2 c =
-    phase-arm (0 ∷ 1 ∷ 3 ∷ 4 ∷ 9 ∷ 10 ∷ []) (byTicket false (λ t. true)) (c .before .args .phase)
+    phase-arm (allBut (2 ∷ 5 ∷ 6 ∷ 7 ∷ 8 ∷ 11 ∷ [])) (byTicket false (λ t. true)) (c .before .args .phase)
     refl (c .match .keys2)
 
 pub has-ticket-spec : {M : Type 1} → statement M

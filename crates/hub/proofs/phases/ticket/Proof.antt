@@ -3,7 +3,7 @@ use borrow.Author.Needs.{needs}
 use mathlib.Core.Path.{refl}
 use mathlib.Core.List.{[], _∷_}
 use Rattle.hub.specs.Phases.{ticketOf}
-use Rattle.hub.proofs.Laws.Phases.{phase-arm}
+use Rattle.hub.proofs.Laws.Phases.{allBut, phase-arm}
 use Rattle.hub.proofs.phases.ticket.Statement.{statement}
 use Rattle.hub.proofs.phases.ticket.Tie as tie
 
@@ -27,7 +27,7 @@ enum-known-phase-6 c = search needs
 
 returns : tie.Need-returns
 returns c =
-    phase-arm (0 ∷ 1 ∷ 3 ∷ 4 ∷ 9 ∷ 10 ∷ []) ticketOf (c .before .args .phase) refl (c .match .keys7)
+    phase-arm (allBut (2 ∷ 5 ∷ 6 ∷ 7 ∷ 8 ∷ 11 ∷ [])) ticketOf (c .before .args .phase) refl (c .match .keys7)
 
 returns-2 : tie.Need-returns-2
 returns-2 c = search needs

@@ -2,6 +2,7 @@
 use borrow.Author.Needs.{needs}
 use borrow.Author.Tests.{le-leb, lt-leb}
 use mathlib.Core.Path.{refl, sym, ap, _∙_}
+use mathlib.Core.List.{[], _∷_}
 use native.Mathlib.Omega.{arith}
 use Rattle.hub.proofs.Laws.Phases.{allBut, phase-arm}
 use Rattle.hub.specs.Phases.{isFree, isOneOf}
@@ -23,7 +24,7 @@ returns : tie.Need-returns
 unfolding decide acquire isOneOf
 returns c =
     let f = c .before .before .before .args .s .slot .phase in
-    let e = sym (phase-arm (allBut 0) isFree f refl (c .before .match .keys2)) in
+    let e = sym (phase-arm (allBut (0 ∷ [])) isFree f refl (c .before .match .keys2)) in
     rw e (c .refused .ensures)
 
 refused-requires-2 : tie.Need-refused-requires-2

@@ -2,6 +2,7 @@
 use borrow.Author.Needs.{needs}
 use borrow.Author.Tests.{eq-eqb, ne-eqb}
 use mathlib.Core.Path.{refl, sym, ap, _∙_}
+use mathlib.Core.List.{[], _∷_}
 use native.Mathlib.Omega.{arith}
 use Rattle.hub.proofs.Laws.Phases.{allBut, phase-arm}
 use Rattle.hub.specs.Phases.{isOneOf, isWaiting}
@@ -23,7 +24,7 @@ returns : tie.Need-returns
 unfolding decide cancel isOneOf
 returns c =
     let f = c .before .before .before .args .s .slot .phase in
-    let e = sym (phase-arm (allBut 2) isWaiting f refl (c .before .match .keys2)) in
+    let e = sym (phase-arm (allBut (2 ∷ [])) isWaiting f refl (c .before .match .keys2)) in
     rw e (c .refused .ensures)
 
 refused-requires-2 : tie.Need-refused-requires-2

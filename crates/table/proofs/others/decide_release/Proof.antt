@@ -1,6 +1,7 @@
 -- `decide_release` meets its contract: its test is that of the definition.
 use borrow.Author.Needs.{needs}
 use mathlib.Core.Path.{refl, sym}
+use mathlib.Core.List.{[], _∷_}
 use Rattle.hub.proofs.Laws.Phases.{allBut, phase-arm}
 use Rattle.hub.specs.Phases.{isOneOf, isHolding}
 use Rattle.hub.specs.Table.{decide, release}
@@ -17,7 +18,7 @@ returns : tie.Need-returns
 unfolding decide release isOneOf
 returns c =
     let f = c .before .before .before .args .s .slot .phase in
-    let e = sym (phase-arm (allBut 1) isHolding f refl (c .before .match .keys2)) in
+    let e = sym (phase-arm (allBut (1 ∷ [])) isHolding f refl (c .before .match .keys2)) in
     rw e (c .refused .ensures)
 
 turned-requires : tie.Need-turned-requires

@@ -1,6 +1,7 @@
 -- `resume_waiter` meets its contract: the waiter's phase picks the row.
 use borrow.Author.Needs.{needs}
 use mathlib.Core.Path.{refl, sym}
+use mathlib.Core.List.{[], _∷_}
 use Rattle.hub.proofs.Laws.Phases.{allBut, phase-arm}
 use Rattle.hub.specs.Phases.{isOneOf, isWaiting}
 use Rattle.hub.specs.Table.{resumeWaiter}
@@ -17,7 +18,7 @@ returns : tie.Need-returns
 unfolding resumeWaiter isOneOf
 returns c =
     let f = c .before .before .before .args .s .waiter .phase in
-    let e = sym (phase-arm (allBut 2) isWaiting f refl (c .before .match .keys2)) in
+    let e = sym (phase-arm (allBut (2 ∷ [])) isWaiting f refl (c .before .match .keys2)) in
     rw e (c .placed .ensures)
 
 woke-requires : tie.Need-woke-requires
