@@ -11,7 +11,7 @@ use Rattle.hub.specs.declared.record.Phase.{Phase}
 use Rattle.hub.specs.Basics.{count}
 use Rattle.hub.specs.Fits.{fits}
 use Rattle.hub.specs.Ledger.{Ledger, ledger, opened, phaseIn, held, atCounter, onTheWay}
-use Rattle.hub.specs.Ledger.{coming, takenBack, permitPlaces, refusedPlaces, belowBy}
+use Rattle.hub.specs.Ledger.{coming, declined, permitPlaces, refusedPlaces, belowBy}
 use Rattle.hub.specs.Opening.{opening}
 use Rattle.hub.specs.Phases.{atRest, holds, isUnserved, isPermit, isRefused}
 use Rattle.hub.specs.Record.{phasesOf, placesOf}
@@ -30,13 +30,14 @@ Calm l = (p : ℕ) → atRest (phaseIn l p) ≡ true
 pub record Accounts (k : ℕ) (e : Ledger) (h : Hub) : Type 0 where
   -- Held + at the counter + on the way = K.
   pub sum : held e + atCounter (e .counter) + onTheWay e ≡ k
-  -- Below zero, the counter's size is the number of unserved waits that no permit comes for.
+  -- The counter's size below zero and the permits on the way are together the unserved waits: so
+  -- below zero it is the number of those that no permit comes for.
   pub unserved : belowBy (e .counter) + onTheWay e ≡ count isUnserved (e .phases)
   -- None of the differences in it is cut off at 0.
   pub heldWhole : e .took ≤ e .gave
   pub permitsWhole : e .cleared ≤ e .left
   pub refusedWhole : e .met ≤ e .refused
-  pub wayWhole : takenBack e ≤ coming e
+  pub wayWhole : declined e ≤ coming e
   -- The record shows the same: its phases, its counter, its link and refused places.
   pub phases : phasesOf (h .slots) ≡ e .phases
   pub counter : h .figures .counter ≡ e .counter

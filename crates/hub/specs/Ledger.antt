@@ -178,8 +178,8 @@ refusedPlaces e = e .refused - e .met
 abbrev pub coming : Ledger → ℕ
 coming e = count resumes (e .phases) + permitPlaces e
 
-abbrev pub takenBack : Ledger → ℕ
-takenBack e = count refuses (e .phases) + refusedPlaces e
+abbrev pub declined : Ledger → ℕ
+declined e = count refuses (e .phases) + refusedPlaces e
 
 abbrev pub onTheWay : Ledger → ℕ
-onTheWay e = coming e - takenBack e
+onTheWay e = coming e - declined e

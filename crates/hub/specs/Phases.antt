@@ -80,7 +80,7 @@ holds = isOneOf (Holding ∷ Releasing ∷ [])
 abbrev pub drawsTicket : Phase → Bool
 drawsTicket = isOneOf (Acquiring ∷ Suspending ∷ [])
 
--- Unnumbered, numbered, waiting or giving up: it has not been served.
+-- Unnumbered, numbered, waiting or giving up: its wait is neither served nor taken out at the counter.
 abbrev pub isUnserved : Phase → Bool
 isUnserved = isOneOf (Suspending ∷ Ticketed 0 ∷ Waiting 0 ∷ Aborting 0 ∷ [])
 

@@ -1,6 +1,6 @@
 // The link hub of one house: a fair, abortable semaphore over a ring of waiting places.
-// Each module is a paragraph of the paper that the hub is built from (docs/PAPER.md); specs/
-// has its definitions, and every contract here cites one of them.
+// The paper that it is built from is document 01; specs/ has its definitions, and every contract
+// here cites one of them.
 
 pub mod record; // the record of a hub: phases, places, figures
 pub mod slots; // what the record keeps of a party and of a place

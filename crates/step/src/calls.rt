@@ -24,7 +24,8 @@ ghost use Rattle.hub.specs.Calls.{called};
 // Any of the four. Check, look, store and tidy stand in one function, since a record that is handed
 // on is copied; what goes to other functions is small. A refused call stores what was there.
 pub fn call(mut hub: Hub, op: Op, party: u8) -> Outcome
-    ensures { λ r. ⌜ r ≡ called hub (record { op = op; party = party }) ⌝ }
+    ensures { λ r. ⌜ (r ≡ called hub (record { op = op; party = party }))
+        × (printed (r .answer) ≡ printed (called hub (record { op = op; party = party }) .answer)) ⌝ }
 {
     if !fits(hub) {
         return Outcome {

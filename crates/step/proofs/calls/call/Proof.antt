@@ -21,6 +21,7 @@ use Rattle.hub.specs.Phases.{ticketOf}
 use Rattle.hub.specs.Record.{readSlot, writeSlot}
 use Rattle.hub.specs.Ring.{PLACES, readSeat}
 use Rattle.hub.specs.Table.{decide}
+use Rattle.hub.proofs.Laws.Printed.{with-printed}
 use Rattle.fit.proofs.Laws.Clauses.{mapped-size}
 use Rattle.table.specs.declared.effect.Effect.{Effect}
 use Rattle.table.specs.Effect.{effectOf}
@@ -173,10 +174,12 @@ fits-requires : tie.Need-fits-requires
 fits-requires c κs = search needs
 
 returns : tie.Need-returns
-returns c = unfit _ _ _ (sym (c .before .fits2 .ensures) ∙ not-true _ (c .if1 .taken))
+returns c =
+    with-printed (unfit _ _ _ (sym (c .before .fits2 .ensures) ∙ not-true _ (c .if1 .taken)))
 
 returns-2 : tie.Need-returns-2
-returns-2 c = no-such-party _ _ _ (fitting (c .before)) (le-ltb _ _ (c .if2 .taken))
+returns-2 c =
+    with-printed (no-such-party _ _ _ (fitting (c .before)) (le-ltb _ _ (c .if2 .taken)))
 
 mul-slot : tie.Need-mul-slot
 mul-slot c = search needs
@@ -272,10 +275,10 @@ unfolding readSeat writeSlot
 returns-3 c =
     let p = placed (c .before .before) in
     let h = after p in
-    leaves p _
+    with-printed (leaves p _
     (ap (withRing h)
     (tidy (decided p .decide .result .turns) (ringOf h)
-    (sym (c .before .is-untidy .ensures) ∙ not-true _ (c .if4 .taken))))
+    (sym (c .before .is-untidy .ensures) ∙ not-true _ (c .if4 .taken)))))
 
 reclaim-requires : tie.Need-reclaim-requires
 reclaim-requires c κs =
@@ -290,7 +293,7 @@ reclaim-requires c κs =
 
 returns-4 : tie.Need-returns-4
 unfolding writeSlot
-returns-4 c = leaves (placed (c .before .before .before)) _ (c .reclaim .ensures)
+returns-4 c = with-printed (leaves (placed (c .before .before .before)) _ (c .reclaim .ensures))
 
 pub call-spec : {M : Type 1} → statement M
 call-spec =
