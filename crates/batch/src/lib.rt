@@ -6,7 +6,7 @@ mod admission; // what is answered before the table is asked
 
 use admission::admit;
 use admission::op_of;
-use hub::kinds::kind;
+use hub::kinds;
 use hub::moves::Sight;
 use hub::record::Hub;
 use hub::record::Place;
@@ -44,6 +44,7 @@ pub fn answer_requests(hub: Hub, requests: &[u8], count: usize, form: bool, out:
     let mut oldest = hub.oldest;
     let mut places = hub.places;
     let mut slots = hub.slots;
+    let kinds = kinds::table();
     let width = reply_size(form);
     let mut i: usize = 0;
     while i < count {
@@ -66,9 +67,10 @@ pub fn answer_requests(hub: Hub, requests: &[u8], count: usize, form: bool, out:
         let q = waiter_at(seat);
         let near = slots[(q % 32) as usize];
         let waiter = slot_within(q, near);
+        let kind = kinds[own];
         let s = Sight {
             party,
-            kind: kind(party),
+            kind,
             slot,
             seat,
             waiter,

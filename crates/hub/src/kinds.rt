@@ -1,7 +1,7 @@
 // The kind of each party, from a constant table.
 
 ghost use mathlib.Core.Path.{_≡_};
-ghost use Rattle.hub.specs.Kinds.{kindOf};
+ghost use Rattle.hub.specs.Kinds.{kindOf, kinds};
 
 // 0 desk, 1 door, 2 replacement, 3 battery round.
 const KINDS: [u8; 32] = [
@@ -38,6 +38,13 @@ const KINDS: [u8; 32] = [
     3,
     3,
 ];
+
+// The table, for those who ask it often: a caller that has it reads it by index.
+pub fn table() -> [u8; 32]
+    ensures { λ r. ⌜ r ≡ kinds ⌝ }
+{
+    KINDS
+}
 
 // The kind of a party; past the table, a desk.
 pub fn kind(party: u8) -> u8

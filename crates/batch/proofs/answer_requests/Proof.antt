@@ -18,6 +18,7 @@ use Rattle.hub.specs.declared.record.PartySlot.{PartySlot}
 use Rattle.hub.specs.declared.record.PlaceSlot.{PlaceSlot}
 use Rattle.hub.specs.Answers.{Printed, printed}
 use Rattle.hub.specs.Calls.{answerOf, apply, isFull, ringOf}
+use Rattle.hub.specs.Kinds.{kindOf}
 use Rattle.hub.specs.Look.{look}
 use Rattle.hub.specs.Moves.{Move}
 use Rattle.hub.specs.Phases.{ticketOf}
@@ -60,32 +61,32 @@ abbrev ring : Figures → ℕ → List PlaceSlot → Ring
 ring f o l = record { resumed = f .resumed; oldest = o; places = l }
 
 abbrev Inv-loop2 : tie.InvT-loop2
-Inv-loop2 requests count form out opening figures₀ oldest places₀ slots width i from code party at end own t q woken turns limit n₀ figures places n =
+Inv-loop2 requests count form out opening figures₀ oldest places₀ slots kinds width i from code party at end own t q kind woken turns limit n₀ figures places n =
     Skipping turns (ring figures₀ oldest places₀) (ring figures oldest places) n
     × (figures ≡ withResumed (figures .resumed) figures₀) × (limit ≡ oldest + 256)
     × (oldest ≤ 1000000)
 
 abbrev μ-loop2 : tie.MeasureT-loop2
-μ-loop2 requests count form out opening figures₀ oldest places₀ slots width i from code party at end own t q woken turns limit n₀ figures places n =
+μ-loop2 requests count form out opening figures₀ oldest places₀ slots kinds width i from code party at end own t q kind woken turns limit n₀ figures places n =
     turns - n
 
 abbrev Inv-loop3 : tie.InvT-loop3
-Inv-loop3 requests count form out opening figures oldest₀ places₀ slots width i from code party at end own t q woken turns limit n m₀ oldest places m =
+Inv-loop3 requests count form out opening figures oldest₀ places₀ slots kinds width i from code party at end own t q kind woken turns limit n m₀ oldest places m =
     Retiring turns (ring figures oldest₀ places₀) (ring figures oldest places) m
     × (oldest₀ + turns ≤ 1000256)
 
 abbrev μ-loop3 : tie.MeasureT-loop3
-μ-loop3 requests count form out opening figures oldest₀ places₀ slots width i from code party at end own t q woken turns limit n m₀ oldest places m =
+μ-loop3 requests count form out opening figures oldest₀ places₀ slots kinds width i from code party at end own t q kind woken turns limit n m₀ oldest places m =
     turns - m
 
 abbrev Inv-loop : tie.InvT-loop
-Inv-loop requests count form out₀ opening figures₀ oldest₀ places₀ slots₀ width i₀ out figures oldest places slots i =
+Inv-loop requests count form out₀ opening figures₀ oldest₀ places₀ slots₀ kinds width i₀ out figures oldest places slots i =
     Upto (formOf form) width (hubOf opening figures₀ oldest₀ places₀ slots₀) count requests out₀
     (hubOf opening figures oldest places slots) out i
     × (length slots ≡ 32)
 
 abbrev μ-loop : tie.MeasureT-loop
-μ-loop requests count form out₀ opening figures₀ oldest₀ places₀ slots₀ width i₀ out figures oldest places slots i =
+μ-loop requests count form out₀ opening figures₀ oldest₀ places₀ slots₀ kinds width i₀ out figures oldest places slots i =
     count - i
 
 -- The places in the code that the facts below speak of, and the way back from each to the one
@@ -121,13 +122,13 @@ abbrev Tidying : Type 0
 Tidying = tie.At-loop2 Inv-loop2 μ-loop2 Inv-loop3 μ-loop3 Inv-loop μ-loop
 
 abbrev begun : Head → Begun
-begun c = c .before .before .before .before .before .before .before .before
+begun c = c .before .before .before .before .before .before .before .before .before
 
 abbrev turning : Entered → Turning
 turning c = c .before .before .before .before .before
 
 abbrev entered : Named → Entered
-entered c = c .before .before .before .before .before .before .before .before .before .before
+entered c = c .before .before .before .before .before .before .before .before .before
 
 abbrev printing : Placed → Printing
 printing c = c .before .before .before .before .before .before
@@ -190,27 +191,27 @@ admitted c = let-in _ _ _ (head c .loop .inv .0 .reachable) (pass c)
 
 -- What the code read for it is what the party sees.
 abbrev seat : Named → PlaceSlot
-seat c = c .before .before .before .before .before .by-ticket .result
+seat c = c .before .before .before .before .by-ticket .result
 
 abbrev waiter : Named → PartySlot
-waiter c = c .before .before .slot-within .result
+waiter c = c .before .slot-within .result
 
 index : (c : Named)
-    → c .before .before .before .before .before .before .before .before .seat-index .result
+    → c .before .before .before .before .before .before .before .seat-index .result
     ≡ ticketOf (readSlot (hub (head (entered c)) .slots) (party (head (entered c))) .phase) % PLACES
 unfolding readSlot
-index c = c .before .before .before .before .before .before .before .before .seat-index .ensures
+index c = c .before .before .before .before .before .before .before .seat-index .ensures
 
 reading : (c : Named)
     → Reads (hub (head (entered c))) (party (head (entered c))) (seat c)
-    (c .before .before .before .before .waiter-at .result) (waiter c)
+    (c .before .before .before .waiter-at .result) (waiter c)
 unfolding readSlot
 reading c =
     reads (hub (head (entered c))) (party (head (entered c))) _ (index c) _ _ _ _
     (head (entered c) .loop .inv .1)
-    (c .before .before .before .before .before .before .empty-seat .ensures)
-    (c .before .before .before .before .before .by-ticket .ensures)
-    (c .before .before .before .before .waiter-at .ensures) (c .before .before .slot-within .ensures)
+    (c .before .before .before .before .before .empty-seat .ensures)
+    (c .before .before .before .before .by-ticket .ensures)
+    (c .before .before .before .waiter-at .ensures) (c .before .slot-within .ensures)
 
 -- The effect is that of the call.
 abbrev op : Head → Op
@@ -225,13 +226,13 @@ sight c = sightOf (hub (head (entered c))) (party (head (entered c))) (seat c) (
 effect-is : (c : Decided)
     → let h = head (entering c) in
     c .decide .result ≡ effectOf (decide (op h) (full h) (sight (c .before))) (sight (c .before))
-unfolding readSlot
+unfolding readSlot kindOf
 effect-is c =
     let h = head (entering c) in
     let s : ℕ → Sight = λ k. of-kind k (sight (c .before)) in
     c .decide .ensures
     ∙ ap₂ (λ (o : Op) (k : ℕ). effectOf (decide o (full h) (s k)) (s k)) (c .before .op-of .ensures)
-    (c .before .before .kind .ensures)
+    (ap (λ (l : List ℕ). getD l (party h) 0) (h .before .before .table .ensures))
 
 abbrev move : Head → Move
 move h = decide (op h) (full h) (look (hub h) (party h))
@@ -270,7 +271,7 @@ untidied t =
     let h = head (within t) in
     hubOf (hub h .opening) (effect t .figures) (h .loop .oldest)
     (set (h .loop .places)
-    (effected t .before .before .before .before .before .before .before .before .before .seat-index .result)
+    (effected t .before .before .before .before .before .before .before .before .seat-index .result)
     (placed t .by-ticket2 .result))
     (writeSlot (woken t .if2 .slots) (party h) (effect t .slot))
 
@@ -345,13 +346,16 @@ replied-with t =
     placed t .before .before .before .before .before .put-reply2 .ensures
     ∙ ap (λ (q : Printed). inForm (formOf (begun h .args .form)) (frameOf (party h) q)) (worded t)
 
+table-requires : tie.Need-table-requires Inv-loop2 μ-loop2 Inv-loop3 μ-loop3 Inv-loop μ-loop
+table-requires c κs = search needs
+
 reply-size-requires :
     tie.Need-reply-size-requires Inv-loop2 μ-loop2 Inv-loop3 μ-loop3 Inv-loop μ-loop
 reply-size-requires c κs = search needs
 
 loop-holds : tie.Need-loop-holds Inv-loop2 μ-loop2 Inv-loop3 μ-loop3 Inv-loop μ-loop
 loop-holds c =
-    let a = c .before .before .before .before .before .before .before in (
+    let a = c .before .before .before .before .before .before .before .before in (
       start _ _ _ _ _ _ (c .reply-size .ensures) (a .pre .0) (a .pre .1 .0) (a .pre .1 .1),
       full-slots a,
     )
@@ -465,8 +469,8 @@ slot-within-requires :
     tie.Need-slot-within-requires Inv-loop2 μ-loop2 Inv-loop3 μ-loop3 Inv-loop μ-loop
 slot-within-requires c κs = search needs
 
-kind-requires : tie.Need-kind-requires Inv-loop2 μ-loop2 Inv-loop3 μ-loop3 Inv-loop μ-loop
-kind-requires c κs = search needs
+array-read-kind : tie.Need-array-read-kind Inv-loop2 μ-loop2 Inv-loop3 μ-loop3 Inv-loop μ-loop
+array-read-kind c = omega (arith, admitted (c .before .before .before .before .before .before .before .before) .party)
 
 op-of-requires : tie.Need-op-of-requires Inv-loop2 μ-loop2 Inv-loop3 μ-loop3 Inv-loop μ-loop
 op-of-requires c κs = search needs
@@ -695,6 +699,7 @@ answer-requests-spec =
     μ-loop3
     Inv-loop
     μ-loop
+    table-requires
     reply-size-requires
     loop-holds
     mul-from
@@ -725,7 +730,7 @@ answer-requests-spec =
     mul-near
     array-copy-out-near
     slot-within-requires
-    kind-requires
+    array-read-kind
     op-of-requires
     decide-requires
     sub-put-reply-2
