@@ -1,6 +1,7 @@
 // The changes that the rows of the table are made of.
 
 use crate::effect::Effect;
+use crate::figures::with_counter;
 use hub::answers::Answer;
 use hub::answers::Refusal;
 use hub::moves::Sight;
@@ -64,18 +65,18 @@ pub(crate) fn taken(phase: Phase, answer: Answer, s: Sight) -> Effect
     requires { ⌜ CounterFits (s .figures .counter) ⌝ }
     ensures { λ r. ⌜ r ≡ effectOf (take phase answer s) s ⌝ }
 {
-    let mut figures = s.figures;
-    figures.counter -= 1;
-    acted(phase, figures, answer, s)
+    let figures = s.figures;
+    let counter = figures.counter - 1;
+    acted(phase, with_counter(counter, figures), answer, s)
 }
 
 pub(crate) fn given(phase: Phase, answer: Answer, s: Sight) -> Effect
     requires { ⌜ CounterFits (s .figures .counter) ⌝ }
     ensures { λ r. ⌜ r ≡ effectOf (give phase answer s) s ⌝ }
 {
-    let mut figures = s.figures;
-    figures.counter += 1;
-    acted(phase, figures, answer, s)
+    let figures = s.figures;
+    let counter = figures.counter + 1;
+    acted(phase, with_counter(counter, figures), answer, s)
 }
 
 // The place of its ticket, too.

@@ -3,6 +3,7 @@
 
 pub mod effect; // a decision as it is stored
 mod counter; // the side of zero that the counter is on
+mod figures; // one of them changed
 mod changes; // what the rows are made of
 pub mod rows; // the step table
 pub mod others; // ask, give up, give back

@@ -4,6 +4,7 @@ use crate::changes::acted;
 use crate::changes::refused;
 use crate::changes::turned;
 use crate::effect::Effect;
+use crate::figures::with_begun;
 use hub::answers::Answer;
 use hub::answers::Refusal;
 use hub::moves::Sight;
@@ -24,15 +25,16 @@ pub fn decide_acquire(full: bool, s: Sight) -> Effect
     let Phase::Free = phase else {
         return refused(Refusal::NotFree, s);
     };
-    let mut figures = s.figures;
-    if Hub::MAX_BEGUN <= figures.begun {
+    let figures = s.figures;
+    let begun = figures.begun;
+    if Hub::MAX_BEGUN <= begun {
         return refused(Refusal::Exhausted, s);
     }
     if full {
         return refused(Refusal::Full, s);
     }
-    figures.begun += 1;
-    acted(Phase::Acquiring, figures, Answer::Accepted, s)
+    let counted = with_begun(begun + 1, figures);
+    acted(Phase::Acquiring, counted, Answer::Accepted, s)
 }
 
 pub fn decide_cancel(s: Sight) -> Effect

@@ -9,6 +9,8 @@ use crate::changes::woke;
 use crate::counter::above_zero;
 use crate::counter::below_zero;
 use crate::effect::Effect;
+use crate::figures::with_issued;
+use crate::figures::with_resumed;
 use hub::answers::Answer;
 use hub::answers::Refusal;
 use hub::moves::Sight;
@@ -36,10 +38,10 @@ fn step_suspending(s: Sight) -> Effect
     requires { ⌜ s .figures .issued ≤ 1000000 ⌝ }
     ensures { λ r. ⌜ r ≡ effectOf (stepIn Phase.Suspending s) s ⌝ }
 {
-    let mut figures = s.figures;
+    let figures = s.figures;
     let t = figures.issued;
-    figures.issued = t + 1;
-    acted(Phase::Ticketed(t), figures, Answer::DrewTicket(t), s)
+    let drawn = with_issued(t + 1, figures);
+    acted(Phase::Ticketed(t), drawn, Answer::DrewTicket(t), s)
 }
 
 fn step_ticketed(t: u32, s: Sight) -> Effect
@@ -76,10 +78,10 @@ fn step_resuming(s: Sight) -> Effect
     requires { ⌜ s .figures .resumed ≤ 1000000 ⌝ }
     ensures { λ r. ⌜ r ≡ effectOf (stepIn Phase.Resuming s) s ⌝ }
 {
-    let mut figures = s.figures;
+    let figures = s.figures;
     let t = figures.resumed;
-    figures.resumed = t + 1;
-    acted(Phase::ResumingAt(t), figures, Answer::StartedResume(t), s)
+    let drawn = with_resumed(t + 1, figures);
+    acted(Phase::ResumingAt(t), drawn, Answer::StartedResume(t), s)
 }
 
 // The waiter is woken, or has given up and is left the permit.

@@ -7,8 +7,11 @@ use native.Mathlib.Omega.{arith}
 use Rattle.hub.proofs.Laws.Phases.{allBut, phase-arm}
 use Rattle.hub.specs.Phases.{isFree, isOneOf}
 use Rattle.hub.specs.Record.{MAX-BEGUN}
-use Rattle.hub.specs.Table.{acquire, decide}
-use Rattle.hub.specs.Moves.{Move}
+use Rattle.hub.specs.declared.answers.Answer.{Answer}
+use Rattle.hub.specs.declared.record.Figures.{Figures}
+use Rattle.hub.specs.declared.record.Phase.{Phase}
+use Rattle.hub.specs.Table.{acquire, change, decide}
+use Rattle.hub.specs.Moves.{Act, Move}
 use Rattle.table.specs.Effect.{effectOf}
 use Rattle.table.proofs.Laws.Others.{exhausted, full-up}
 use Rattle.table.proofs.others.decide_acquire.Statement.{statement}
@@ -33,7 +36,7 @@ refused-requires-2 c κs = search needs
 returns-2 : tie.Need-returns-2
 unfolding decide isOneOf
 returns-2 c =
-    let b = c .before .before .before .before in
+    let b = c .before .before .before in
     let s = b .before .before .before .args .s in
     c .refused2 .ensures
     ∙ ap (λ (m : Move). effectOf m s)
@@ -46,15 +49,18 @@ refused-requires-3 c κs = search needs
 returns-3 : tie.Need-returns-3
 unfolding decide isOneOf
 returns-3 c =
-    let b = c .before .before .before .before .before in
+    let b = c .before .before .before .before in
     let s = b .before .before .before .args .s in
     c .refused3 .ensures
     ∙ ap (λ (m : Move). effectOf m s)
     (sym (full-up _ _ _ s (ap isFree (b .enum-told .given .1))
     (lt-leb MAX-BEGUN (s .figures .begun) (omega arith)) (c .before .if2 .taken)))
 
-add-figures : tie.Need-add-figures
-add-figures c = search needs
+add-with-begun : tie.Need-add-with-begun
+add-with-begun c = search needs
+
+with-begun-requires : tie.Need-with-begun-requires
+with-begun-requires c κs = search needs
 
 acted-requires : tie.Need-acted-requires
 acted-requires c κs = search needs
@@ -62,11 +68,13 @@ acted-requires c κs = search needs
 returns-4 : tie.Need-returns-4
 unfolding decide acquire isOneOf
 returns-4 c =
-    let b = c .before .before .before .before .before .before in
-    let begun = b .before .before .before .args .s .figures .begun in
+    let b = c .before .before .before .before .before in
+    let s = b .before .before .before .args .s in
     let e = b .enum-told .given .1 in
-    rw (e, lt-leb MAX-BEGUN begun (omega arith), c .before .before .if2 .left)
-    (c .acted .ensures)
+    rw (e, lt-leb MAX-BEGUN (s .figures .begun) (omega arith), c .before .before .if2 .left)
+    (c .acted .ensures
+    ∙ ap (λ (f : Figures). effectOf (Act (change Phase.Acquiring f Answer.Accepted s)) s)
+    (c .before .with-begun .ensures))
 
 pub decide-acquire-spec : {M : Type 1} → statement M
 decide-acquire-spec =
@@ -79,6 +87,7 @@ decide-acquire-spec =
     returns-2
     refused-requires-3
     returns-3
-    add-figures
+    add-with-begun
+    with-begun-requires
     acted-requires
     returns-4)
