@@ -1,6 +1,6 @@
 // What a call does, whichever of the four it is.
 
-use crate::room::is_full;
+use crate::room::full_for;
 use hub::moves::Op;
 use hub::moves::Sight;
 use hub::record::PartySlot;
@@ -16,15 +16,22 @@ ghost use Rattle.hub.specs.Table;
 ghost use Rattle.table.specs.Effect.{effectOf};
 ghost use Rattle.table.specs.Small.{Small};
 
-// Only ask has to know whether there is room.
+// `full`: is there no place for one more ticket? Only an ask looks at it.
+pub fn decide_by(op: Op, full: bool, s: Sight) -> Effect
+    requires { ⌜ Small s ⌝ }
+    ensures { λ r. ⌜ r ≡ effectOf (Table.decide op full s) s ⌝ }
+{
+    match op {
+        Op::Step => decide_step(s),
+        Op::Acquire => decide_acquire(full, s),
+        Op::Cancel => decide_cancel(s),
+        Op::Release => decide_release(s),
+    }
+}
+
 pub fn decide(op: Op, oldest: u32, slots: [PartySlot; 32], s: Sight) -> Effect
     requires { ⌜ Small s × (oldest ≤ 1000000) ⌝ }
     ensures { λ r. ⌜ r ≡ effectOf (Table.decide op (isFull oldest (s .figures .issued) slots) s) s ⌝ }
 {
-    match op {
-        Op::Step => decide_step(s),
-        Op::Acquire => decide_acquire(is_full(oldest, s.figures.issued, slots), s),
-        Op::Cancel => decide_cancel(s),
-        Op::Release => decide_release(s),
-    }
+    decide_by(op, full_for(op, oldest, s.figures.issued, slots), s)
 }

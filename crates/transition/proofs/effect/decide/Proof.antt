@@ -1,80 +1,27 @@
--- `decide` meets its contract: each arm is that of its call.
-use borrow.Author.Needs.{needs}
-use mathlib.Core.Path.{_≡_, refl, sym, ap, _∙_}
+-- `decide` meets its contract: what only an ask has to know is known for an ask.
+use mathlib.Core.Path.{ap, _∙_}
 use mathlib.Core.Bool.{Bool}
-use Rattle.hub.specs.declared.moves.Op.{Op}
+use borrow.Author.Needs.{needs}
+use Rattle.hub.specs.Moves.{Move}
 use Rattle.hub.specs.Table as table
 use Rattle.table.specs.Effect.{effectOf}
-use Rattle.transition.proofs.Laws.Ops.{by-op}
+use Rattle.transition.proofs.Laws.Ops.{as-asked}
 use Rattle.transition.proofs.effect.decide.Statement.{statement}
 use Rattle.transition.proofs.effect.decide.Tie as tie
 
-enum-told : tie.Need-enum-told
-enum-told c = search needs
+full-for-requires : tie.Need-full-for-requires
+full-for-requires c κs = search needs
 
-decide-step-requires : tie.Need-decide-step-requires
-decide-step-requires c κs = search needs
-
-enum-told-2 : tie.Need-enum-told-2
-enum-told-2 c = search needs
-
-is-full-requires : tie.Need-is-full-requires
-is-full-requires c κs = search needs
-
-decide-acquire-requires : tie.Need-decide-acquire-requires
-decide-acquire-requires c κs = search needs
-
-enum-told-3 : tie.Need-enum-told-3
-enum-told-3 c = search needs
-
-decide-cancel-requires : tie.Need-decide-cancel-requires
-decide-cancel-requires c κs = search needs
-
-enum-told-4 : tie.Need-enum-told-4
-enum-told-4 c = search needs
-
-decide-release-requires : tie.Need-decide-release-requires
-decide-release-requires c κs = search needs
+decide-by-requires : tie.Need-decide-by-requires
+decide-by-requires c κs = search needs
 
 returns : tie.Need-returns
-unfolding table.decide
 returns c =
-    let a = c .before .before .before .args in
-    by-op 1 _ (a .s) (a .op) (c .before .before .match .keys1) (c .decide-step .ensures)
-
-returns-2 : tie.Need-returns-2
-returns-2 c =
-    let a = c .before .before .before .before .args in
-    by-op 0 _ (a .s) (a .op) (c .before .before .before .match .keys2)
-    (c .decide-acquire .ensures
-    ∙ ap (λ (b : Bool). effectOf (table.decide Op.Acquire b (a .s)) (a .s)) (c .before .is-full .ensures))
-
-returns-3 : tie.Need-returns-3
-unfolding table.decide
-returns-3 c =
-    let a = c .before .before .before .args in
-    by-op 2 _ (a .s) (a .op) (c .before .before .match .keys3) (c .decide-cancel .ensures)
-
-returns-4 : tie.Need-returns-4
-unfolding table.decide
-returns-4 c =
-    let a = c .before .before .before .args in
-    by-op 3 _ (a .s) (a .op) (c .before .before .match .keys4) (c .decide-release .ensures)
+    let a = c .before .before .args in
+    c .decide-by .ensures
+    ∙ ap (λ (m : Move). effectOf m (a .s))
+    (ap (λ (b : Bool). table.decide (a .op) b (a .s)) (c .before .full-for .ensures)
+    ∙ as-asked _ (a .s) (a .op))
 
 pub decide-spec : {M : Type 1} → statement M
-decide-spec =
-    tie.close
-    (tie.spec
-    enum-told
-    decide-step-requires
-    enum-told-2
-    is-full-requires
-    decide-acquire-requires
-    enum-told-3
-    decide-cancel-requires
-    enum-told-4
-    decide-release-requires
-    returns
-    returns-2
-    returns-3
-    returns-4)
+decide-spec = tie.close (tie.spec full-for-requires decide-by-requires returns)
