@@ -2,4 +2,5 @@
 pub mod Admission
 pub mod Reachable
 pub mod Answered
+pub mod Placed
 pub mod Responses

@@ -8,6 +8,7 @@ use admission::admit;
 use admission::op_of;
 use hub::kinds;
 use hub::moves::Sight;
+use hub::phases::has_ticket;
 use hub::record::Hub;
 use hub::record::Place;
 use hub::slots::empty_seat;
@@ -16,13 +17,16 @@ use line::answer::plain;
 use line::answer::print_of;
 use line::form::put_reply;
 use line::form::reply_size;
-use transition::effect::decide;
+use line::pairs;
+use transition::effect::decide_by;
+use transition::room::full_for;
 use transition::sight::by_ticket;
 use transition::sight::seat_index;
 use transition::sight::slot_within;
 use transition::sight::waiter_at;
 use transition::tidy::can_retire;
 use transition::tidy::can_skip;
+use transition::tidy::is_untidy;
 ghost use mathlib.Core.Path.{_≡_};
 ghost use Prim.Native.Nat.{_*_, _≤_};
 ghost use lib.ListN.{length};
@@ -45,6 +49,7 @@ pub fn answer_requests(hub: Hub, requests: &[u8], count: usize, form: bool, out:
     let mut places = hub.places;
     let mut slots = hub.slots;
     let kinds = kinds::table();
+    let pairs = pairs::table();
     let width = reply_size(form);
     let mut i: usize = 0;
     while i < count {
@@ -56,7 +61,7 @@ pub fn answer_requests(hub: Hub, requests: &[u8], count: usize, form: bool, out:
         i += 1;
         let a = admit(code, party, opening.parties);
         if !a.admitted {
-            put_reply(&mut out[at..end], form, a.party, plain(a.code));
+            put_reply(&pairs, &mut out[at..end], form, a.party, plain(a.code));
             continue;
         }
         let own = party as usize;
@@ -68,6 +73,8 @@ pub fn answer_requests(hub: Hub, requests: &[u8], count: usize, form: bool, out:
         let near = slots[(q % 32) as usize];
         let waiter = slot_within(q, near);
         let kind = kinds[own];
+        let op = op_of(code);
+        let full = full_for(op, oldest, figures.issued, slots);
         let s = Sight {
             party,
             kind,
@@ -76,13 +83,14 @@ pub fn answer_requests(hub: Hub, requests: &[u8], count: usize, form: bool, out:
             waiter,
             figures,
         };
-        let e = decide(op_of(code), oldest, slots, s);
-        let answer = e.answer;
-        put_reply(&mut out[at..end], form, party, print_of(answer));
+        let e = decide_by(op, full, s);
         let next = e.figures;
         figures = next;
-        let put = e.seat;
-        places[t] = by_ticket(slot, put, there);
+        let phase = slot.phase;
+        if has_ticket(phase) {
+            let put = e.seat;
+            places[t] = put;
+        }
         let woken = e.woken;
         if woken < 32 {
             let woke = e.waiter;
@@ -90,6 +98,14 @@ pub fn answer_requests(hub: Hub, requests: &[u8], count: usize, form: bool, out:
         }
         let becomes = e.slot;
         slots[own] = becomes;
+        let answer = e.answer;
+        put_reply(&pairs, &mut out[at..end], form, party, print_of(answer));
+        // mostly there is nothing to tidy
+        let ahead = places[(figures.resumed % Hub::PLACES) as usize];
+        let behind = places[(oldest % Hub::PLACES) as usize];
+        if !is_untidy(ahead, behind) {
+            continue;
+        }
         let turns = e.turns;
         let limit = oldest + Hub::PLACES;
         let mut n: u32 = 0;

@@ -1,5 +1,6 @@
 -- What the proofs of this crate share.
 pub mod Pieces
+pub mod Calls
 pub mod Lines
 pub mod Sessions
 pub mod Closing

@@ -10,6 +10,7 @@ use line::request::MALFORMED;
 use line::request::OPENING;
 use line::request::read_opening;
 use line::text::put_line;
+use line::values;
 ghost use mathlib.Core.Path.{_≡_};
 ghost use mathlib.Core.Bool.{true};
 ghost use mathlib.Core.List.{_++_};
@@ -78,13 +79,14 @@ pub(crate) fn until_open(hub: Hub, reader: Reader, piece: &[u8], out: &mut [u8])
             lines: 0,
         };
     }
+    let table = values::table();
     let mut current = reader;
     let mut lines: usize = 0;
     let mut i: usize = 0;
     while i < piece.len() {
         let next = i + 1;
         let mut header = [0u8; 2];
-        let read = read_piece(current, &piece[i..next], &mut header);
+        let read = read_piece(&table, current, &piece[i..next], &mut header);
         let past = read.reader;
         i = next;
         if read.count == 0 {

@@ -3,9 +3,11 @@
 use line::request::Header;
 use line::request::LONGEST;
 use line::request::read_header;
+use line::values::call_by;
 ghost use mathlib.Core.Path.{_≡_};
 ghost use Prim.Native.Nat.{_*_, _≤_};
 ghost use lib.ListN.{length};
+ghost use Rattle.line.specs.Tables.{Values};
 ghost use Rattle.frame.specs.Reading.{KEPT, asked, headerBytes, past, written};
 
 // One character more than a line may have makes it too long, so that no more are kept.
@@ -31,8 +33,16 @@ fn put_header(out: &mut [u8], h: Header)
     out[1] = h.party;
 }
 
-// Reads a piece, and leaves what its lines ask, two bytes each.
-pub(crate) fn read_piece(reader: Reader, piece: &[u8], requests: &mut [u8]) -> Read
+// Reads a piece, and leaves what its lines ask, two bytes each. Behind a line, calls of four
+// characters are read by the table, five characters at a time; of the last one the characters are
+// kept, as they are of any line.
+pub(crate) fn read_piece(
+    values: &[u16; 256],
+    reader: Reader,
+    piece: &[u8],
+    requests: &mut [u8],
+) -> Read
+    requires { ⌜ Values (now values) ⌝ }
     requires { ⌜ reader .len ≤ KEPT ⌝ }
     requires { ⌜ 2 * length (asked reader (now piece)) ≤ length (now requests) ⌝ }
     ensures { λ r. ⌜ (r ≡ record {
@@ -62,6 +72,28 @@ pub(crate) fn read_piece(reader: Reader, piece: &[u8], requests: &mut [u8]) -> R
         put_header(&mut requests[at..end], header);
         len = 0;
         count += 1;
+        let from = i;
+        while 5 <= piece.len() - i {
+            if piece[i + 4] != 0x0A {
+                break;
+            }
+            let call = call_by(values, piece[i], piece[i + 1], piece[i + 2], piece[i + 3]);
+            if call.code < 0x10 {
+                break;
+            }
+            let at = 2 * count;
+            let end = at + 2;
+            put_header(&mut requests[at..end], call);
+            count += 1;
+            i += 5;
+        }
+        if i <= from {
+            continue;
+        }
+        line[0] = piece[i - 5];
+        line[1] = piece[i - 4];
+        line[2] = piece[i - 3];
+        line[3] = piece[i - 2];
     }
     Read {
         reader: Reader { line, len },

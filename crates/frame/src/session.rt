@@ -10,6 +10,7 @@ use batch::answer_requests;
 use hub::Hub;
 use hub::Opening;
 use line::form::TEXT;
+use line::values;
 ghost use mathlib.Core.Path.{_≡_};
 ghost use mathlib.Core.List.{_++_};
 ghost use Prim.Native.Nat.{suc, _*_, _≤_};
@@ -64,7 +65,8 @@ fn feed_open(session: Session, piece: &[u8], requests: &mut [u8], out: &mut [u8]
         ++ drop (15 * length (asked (session .reader) (now (piece .entry)))) (now (out .entry))) ⌝ }
 {
     let reader = session.reader;
-    let read = read_piece(reader, piece, requests);
+    let table = values::table();
+    let read = read_piece(&table, reader, piece, requests);
     let lines = read.count;
     let before = session.hub;
     let hub = answer_requests(before, requests, lines, TEXT, out);

@@ -1,4 +1,5 @@
 -- What the proofs of this crate share.
+pub mod Tables
 pub mod Filled
 pub mod Parts
 pub mod Codes

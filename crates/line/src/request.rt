@@ -20,7 +20,7 @@ pub const MALFORMED: u8 = 0x00; // a line that asks nothing
 
 pub const OPENING: u8 = 0x01; // an opening, whatever it asks for
 
-fn malformed() -> Header
+pub(crate) fn malformed() -> Header
     ensures { λ r. ⌜ r ≡ headerOf malformed ⌝ }
 {
     Header {

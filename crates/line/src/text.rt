@@ -1,56 +1,50 @@
 // An answer as a line: fourteen characters and the line feed.
 
 use crate::answer::Print;
+use crate::pairs;
 ghost use mathlib.Core.Path.{_≡_};
 ghost use lib.ListN.{length};
 ghost use Rattle.line.specs.Frame.{frameOf, paper};
 ghost use Rattle.line.specs.Hex.{textOf};
+ghost use Rattle.line.specs.Tables.{Pairs};
 
-// The characters of the digits.
-const DIGITS: [u8; 16] = [
-    0x30,
-    0x31,
-    0x32,
-    0x33,
-    0x34,
-    0x35,
-    0x36,
-    0x37,
-    0x38,
-    0x39,
-    0x41,
-    0x42,
-    0x43,
-    0x44,
-    0x45,
-    0x46,
-];
+// The line, by a table that is lent.
+pub(crate) fn put_line_by(pairs: &[u16; 256], out: &mut [u8], party: u8, p: Print)
+    requires { ⌜ Pairs (now pairs) ⌝ }
+    requires { ⌜ length (now out) ≡ 15 ⌝ }
+    ensures { λ r. ⌜ now (out .exit) ≡ textOf (frameOf party (paper p)) ⌝ }
+{
+    let code = p.code;
+    let said = pairs[code as usize];
+    out[0] = (said % 256) as u8;
+    out[1] = (said / 256 % 256) as u8;
+    let who = pairs[party as usize];
+    out[2] = (who % 256) as u8;
+    out[3] = (who / 256 % 256) as u8;
+    let woken = pairs[(p.woken % 256) as usize];
+    out[4] = (woken % 256) as u8;
+    out[5] = (woken / 256 % 256) as u8;
+    let number = p.number;
+    let first = pairs[(number / 16777216 % 256) as usize];
+    out[6] = (first % 256) as u8;
+    out[7] = (first / 256 % 256) as u8;
+    let second = pairs[(number / 65536 % 256) as usize];
+    out[8] = (second % 256) as u8;
+    out[9] = (second / 256 % 256) as u8;
+    let third = pairs[(number / 256 % 256) as usize];
+    out[10] = (third % 256) as u8;
+    out[11] = (third / 256 % 256) as u8;
+    let fourth = pairs[(number % 256) as usize];
+    out[12] = (fourth % 256) as u8;
+    out[13] = (fourth / 256 % 256) as u8;
+    out[14] = 0x0A;
+}
 
+// One line.
 pub fn put_line(out: &mut [u8], party: u8, p: Print)
     requires { ⌜ length (now out) ≡ 15 ⌝ }
     ensures { λ r. ⌜ now (out .exit) ≡ textOf (frameOf party (paper p)) ⌝ }
 {
-    let digits = DIGITS; // one copy of the table, not one for each character
-    let code = p.code;
-    out[0] = digits[(code / 16 % 16) as usize];
-    out[1] = digits[(code % 16) as usize];
-    out[2] = digits[(party / 16 % 16) as usize];
-    out[3] = digits[(party % 16) as usize];
-    let woken = (p.woken % 256) as u8;
-    out[4] = digits[(woken / 16 % 16) as usize];
-    out[5] = digits[(woken % 16) as usize];
-    let number = p.number;
-    let first = (number / 16777216 % 256) as u8;
-    out[6] = digits[(first / 16 % 16) as usize];
-    out[7] = digits[(first % 16) as usize];
-    let second = (number / 65536 % 256) as u8;
-    out[8] = digits[(second / 16 % 16) as usize];
-    out[9] = digits[(second % 16) as usize];
-    let third = (number / 256 % 256) as u8;
-    out[10] = digits[(third / 16 % 16) as usize];
-    out[11] = digits[(third % 16) as usize];
-    let fourth = (number % 256) as u8;
-    out[12] = digits[(fourth / 16 % 16) as usize];
-    out[13] = digits[(fourth % 16) as usize];
-    out[14] = 0x0A;
+    let table = pairs::table();
+    put_line_by(&table, out, party, p);
 }

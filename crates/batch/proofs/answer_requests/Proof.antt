@@ -17,7 +17,7 @@ use Rattle.hub.specs.declared.record.Hub.{Hub}
 use Rattle.hub.specs.declared.record.PartySlot.{PartySlot}
 use Rattle.hub.specs.declared.record.PlaceSlot.{PlaceSlot}
 use Rattle.hub.specs.Answers.{Printed, printed}
-use Rattle.hub.specs.Calls.{answerOf, apply, isFull, ringOf}
+use Rattle.hub.specs.Calls.{answerOf, apply, isFull, ringOf, withRing}
 use Rattle.hub.specs.Kinds.{kindOf}
 use Rattle.hub.specs.Look.{look}
 use Rattle.hub.specs.Moves.{Move}
@@ -30,17 +30,20 @@ use Rattle.line.specs.Form.{formOf, inForm}
 use Rattle.line.specs.Program.{after, respond}
 use Rattle.table.specs.declared.effect.Effect.{Effect}
 use Rattle.table.specs.Effect.{effectOf}
+use Rattle.transition.specs.Room.{fullFor}
 use Rattle.transition.specs.Tidied.{tidiedBy}
 use Rattle.transition.proofs.Laws.Called.{said, left}
 use Rattle.transition.proofs.Laws.Indexed.{reads, stores, tidies}
-use Rattle.transition.proofs.Laws.Loops.{Skipping, skipping, can-skip, in-window, skipping-on}
+use Rattle.transition.proofs.Laws.Loops.{tidy, Skipping, skipping, can-skip, in-window, skipping-on}
 use Rattle.transition.proofs.Laws.Loops.{skipping-stop, skipping-end}
 use Rattle.transition.proofs.Laws.Loops.{Retiring, retiring, retiring-on, retiring-stop, retiring-end}
+use Rattle.transition.proofs.Laws.Ops.{as-asked}
 use Rattle.transition.proofs.Laws.Sight.{Reads, of-kind, sightOf}
 use Rattle.transition.proofs.Laws.Stored.{nobody, still, few-turns}
 use Rattle.batch.specs.Batch.{Reachable, requestsIn, replied}
 use Rattle.batch.proofs.Laws.Answered.{Admitted, is-admitted, refused-response, LetIn}
 use Rattle.batch.proofs.Laws.Answered.{let-in, call-response}
+use Rattle.batch.proofs.Laws.Placed.{orThere, with-ticket, without-ticket}
 use Rattle.batch.proofs.Laws.Responses.{Upto, requestAt, start, whole-request}
 use Rattle.batch.proofs.Laws.Responses.{whole-reply, reply-part, responded, ended}
 use Rattle.batch.proofs.answer_requests.Statement.{statement}
@@ -61,32 +64,32 @@ abbrev ring : Figures → ℕ → List PlaceSlot → Ring
 ring f o l = record { resumed = f .resumed; oldest = o; places = l }
 
 abbrev Inv-loop2 : tie.InvT-loop2
-Inv-loop2 requests count form out opening figures₀ oldest places₀ slots kinds width i from code party at end own t q kind woken turns limit n₀ figures places n =
+Inv-loop2 _ _ _ _ _ figures₀ oldest places₀ _ _ _ _ _ _ _ _ _ _ _ _ _ _ _ _ turns limit _ figures places n =
     Skipping turns (ring figures₀ oldest places₀) (ring figures oldest places) n
     × (figures ≡ withResumed (figures .resumed) figures₀) × (limit ≡ oldest + 256)
     × (oldest ≤ 1000000)
 
 abbrev μ-loop2 : tie.MeasureT-loop2
-μ-loop2 requests count form out opening figures₀ oldest places₀ slots kinds width i from code party at end own t q kind woken turns limit n₀ figures places n =
+μ-loop2 _ _ _ _ _ _ _ _ _ _ _ _ _ _ _ _ _ _ _ _ _ _ _ _ turns _ _ _ _ n =
     turns - n
 
 abbrev Inv-loop3 : tie.InvT-loop3
-Inv-loop3 requests count form out opening figures oldest₀ places₀ slots kinds width i from code party at end own t q kind woken turns limit n m₀ oldest places m =
+Inv-loop3 _ _ _ _ _ figures oldest₀ places₀ _ _ _ _ _ _ _ _ _ _ _ _ _ _ _ _ turns _ _ _ oldest places m =
     Retiring turns (ring figures oldest₀ places₀) (ring figures oldest places) m
     × (oldest₀ + turns ≤ 1000256)
 
 abbrev μ-loop3 : tie.MeasureT-loop3
-μ-loop3 requests count form out opening figures oldest₀ places₀ slots kinds width i from code party at end own t q kind woken turns limit n m₀ oldest places m =
+μ-loop3 _ _ _ _ _ _ _ _ _ _ _ _ _ _ _ _ _ _ _ _ _ _ _ _ turns _ _ _ _ _ m =
     turns - m
 
 abbrev Inv-loop : tie.InvT-loop
-Inv-loop requests count form out₀ opening figures₀ oldest₀ places₀ slots₀ kinds width i₀ out figures oldest places slots i =
+Inv-loop requests count form out₀ opening figures₀ oldest₀ places₀ slots₀ _ _ width _ out figures oldest places slots i =
     Upto (formOf form) width (hubOf opening figures₀ oldest₀ places₀ slots₀) count requests out₀
     (hubOf opening figures oldest places slots) out i
     × (length slots ≡ 32)
 
 abbrev μ-loop : tie.MeasureT-loop
-μ-loop requests count form out₀ opening figures₀ oldest₀ places₀ slots₀ kinds width i₀ out figures oldest places slots i =
+μ-loop _ count _ _ _ _ _ _ _ _ _ _ _ _ _ _ _ _ i =
     count - i
 
 -- The places in the code that the facts below speak of, and the way back from each to the one
@@ -107,22 +110,25 @@ abbrev Named : Type 0
 Named = tie.After-op-of Inv-loop2 μ-loop2 Inv-loop3 μ-loop3 Inv-loop μ-loop
 
 abbrev Decided : Type 0
-Decided = tie.After-decide Inv-loop2 μ-loop2 Inv-loop3 μ-loop3 Inv-loop μ-loop
+Decided = tie.After-decide-by Inv-loop2 μ-loop2 Inv-loop3 μ-loop3 Inv-loop μ-loop
+
+abbrev Placed : Type 0
+Placed = tie.Joined2 Inv-loop2 μ-loop2 Inv-loop3 μ-loop3 Inv-loop μ-loop
+
+abbrev Woken : Type 0
+Woken = tie.Joined3 Inv-loop2 μ-loop2 Inv-loop3 μ-loop3 Inv-loop μ-loop
 
 abbrev Printing : Type 0
 Printing = tie.After-print-of Inv-loop2 μ-loop2 Inv-loop3 μ-loop3 Inv-loop μ-loop
 
-abbrev Placed : Type 0
-Placed = tie.After-by-ticket2 Inv-loop2 μ-loop2 Inv-loop3 μ-loop3 Inv-loop μ-loop
-
-abbrev Woken : Type 0
-Woken = tie.Joined2 Inv-loop2 μ-loop2 Inv-loop3 μ-loop3 Inv-loop μ-loop
+abbrev Settled : Type 0
+Settled = tie.After-is-untidy Inv-loop2 μ-loop2 Inv-loop3 μ-loop3 Inv-loop μ-loop
 
 abbrev Tidying : Type 0
 Tidying = tie.At-loop2 Inv-loop2 μ-loop2 Inv-loop3 μ-loop3 Inv-loop μ-loop
 
 abbrev begun : Head → Begun
-begun c = c .before .before .before .before .before .before .before .before .before
+begun c = c .before .before .before .before .before .before .before .before .before .before
 
 abbrev turning : Entered → Turning
 turning c = c .before .before .before .before .before
@@ -130,29 +136,35 @@ turning c = c .before .before .before .before .before
 abbrev entered : Named → Entered
 entered c = c .before .before .before .before .before .before .before .before .before
 
-abbrev printing : Placed → Printing
-printing c = c .before .before .before .before .before .before
+abbrev named : Decided → Named
+named c = c .before .before
 
 abbrev decided : Placed → Decided
-decided c = printing c .before .before
+decided c = c .before .before .before
 
-abbrev woken : Tidying → Woken
-woken c = c .before .before
+abbrev woken : Printing → Woken
+woken c = c .before .before .before .before
+
+abbrev printing : Settled → Printing
+printing c = c .before .before .before .before .before .before .before
+
+abbrev settled : Tidying → Settled
+settled c = c .before .before
 
 -- The same from further on.
 abbrev head : Entered → Head
 head c = turning c .before
 
 abbrev entering : Decided → Entered
-entering c = entered (c .before)
+entering c = entered (named c)
 
-abbrev placed : Tidying → Placed
-placed c = woken c .before
+abbrev placed : Settled → Placed
+placed c = woken (printing c) .before
 
-abbrev effected : Tidying → Decided
+abbrev effected : Settled → Decided
 effected c = decided (placed c)
 
-abbrev within : Tidying → Entered
+abbrev within : Settled → Entered
 within c = entering (effected c)
 
 -- The record at the head of a turn, and the request.
@@ -225,14 +237,17 @@ sight c = sightOf (hub (head (entered c))) (party (head (entered c))) (seat c) (
 
 effect-is : (c : Decided)
     → let h = head (entering c) in
-    c .decide .result ≡ effectOf (decide (op h) (full h) (sight (c .before))) (sight (c .before))
+    c .decide-by .result ≡ effectOf (decide (op h) (full h) (sight (named c))) (sight (named c))
 unfolding readSlot kindOf
 effect-is c =
     let h = head (entering c) in
-    let s : ℕ → Sight = λ k. of-kind k (sight (c .before)) in
-    c .decide .ensures
-    ∙ ap₂ (λ (o : Op) (k : ℕ). effectOf (decide o (full h) (s k)) (s k)) (c .before .op-of .ensures)
-    (ap (λ (l : List ℕ). getD l (party h) 0) (h .before .before .table .ensures))
+    let s : ℕ → Sight = λ k. of-kind k (sight (named c)) in
+    let k = getD (h .before .before .before .table .result) (party h) 0 in
+    c .decide-by .ensures
+    ∙ ap₂ (λ (o : Op) (b : Bool). effectOf (decide o b (s k)) (s k)) (named c .op-of .ensures)
+    (c .before .full-for .ensures ∙ ap (λ (o : Op). fullFor o (full h)) (named c .op-of .ensures))
+    ∙ ap₂ (λ (m : Sight → Move) (k : ℕ). effectOf (m (s k)) (s k)) (λ i. λ z. as-asked (full h) z (op h) i)
+    (ap (λ (l : List ℕ). getD l (party h) 0) (h .before .before .before .table .ensures))
 
 abbrev move : Head → Move
 move h = decide (op h) (full h) (look (hub h) (party h))
@@ -254,45 +269,79 @@ full-slots : (s : Begun) → length (s .args .hub .slots) ≡ 32
 full-slots s = search (needs, long-unmapped)
 
 -- The effect, and the record that the tidying starts from.
-abbrev effect : Tidying → Effect
-effect t = effected t .decide .result
+abbrev effect : Settled → Effect
+effect s = effected s .decide-by .result
 
 low : (c : Decided) → head (entering c) .loop .oldest ≤ 1000000
 low c = omega (arith, admitted (entering c) .counts .oldest)
 
-turns-most : (c : Decided) → c .decide .result .turns ≤ 256
+turns-most : (c : Decided) → c .decide-by .result .turns ≤ 256
 turns-most c =
     let h = head (entering c) in
-    let s = sight (c .before) in
-    few-turns (decide (op h) (full h) s) s (c .decide .result) (effect-is c)
+    let s = sight (named c) in
+    few-turns (decide (op h) (full h) s) s (c .decide-by .result) (effect-is c)
 
-abbrev untidied : Tidying → Hub
-untidied t =
-    let h = head (within t) in
-    hubOf (hub h .opening) (effect t .figures) (h .loop .oldest)
-    (set (h .loop .places)
-    (effected t .before .before .before .before .before .before .before .before .seat-index .result)
-    (placed t .by-ticket2 .result))
-    (writeSlot (woken t .if2 .slots) (party h) (effect t .slot))
+abbrev untidied : Settled → Hub
+untidied s =
+    let h = head (within s) in
+    hubOf (hub h .opening) (effect s .figures) (h .loop .oldest) (placed s .if2 .places)
+    (writeSlot (woken (printing s) .if3 .slots) (party h) (effect s .slot))
 
-woken-slots : (t : Tidying)
-    → woken t .if2 .slots
-    ≡ writeSlot (head (within t) .loop .slots) (effect t .woken) (effect t .waiter)
+abbrev ticketAt : Named → ℕ
+ticketAt c = c .before .before .before .before .before .before .before .seat-index .result
+
+placed-places : (s : Settled)
+    → let h = head (within s) in
+    let i = ticketAt (named (effected s)) in
+    placed s .if2 .places
+    ≡ set (h .loop .places) i
+    (orThere (h .loop .places) i (effect s .seat) (readSlot (h .loop .slots) (party h) .phase))
+unfolding readSlot
+placed-places s =
+    let h = head (within s) in
+    let i = ticketAt (named (effected s)) in
+    let phase = readSlot (h .loop .slots) (party h) .phase in
+    let has = placed s .before .has-ticket .ensures in
+    ⊎-elim
+    (λ w. w .2 ∙ with-ticket (h .loop .places) i (effect s .seat) phase (sym has ∙ w .0 .taken))
+    (λ w. w .1 ∙ without-ticket (h .loop .places) i (effect s .seat) phase (sym has ∙ w .0 .left))
+    (placed s .if2 .came)
+
+woken-slots : (s : Settled)
+    → woken (printing s) .if3 .slots
+    ≡ writeSlot (head (within s) .loop .slots) (effect s .woken) (effect s .waiter)
 unfolding writeSlot
-woken-slots t =
-    let h = head (within t) in
+woken-slots s =
+    let h = head (within s) in
     ⊎-elim (λ w. w .2)
     (λ w. w .1
-    ∙ nobody (h .loop .slots) (effect t .woken) (effect t .waiter)
+    ∙ nobody (h .loop .slots) (effect s .woken) (effect s .waiter)
     (omega (arith, h .loop .inv .1, w .0 .left)))
-    (woken t .if2 .came)
+    (woken (printing s) .if3 .came)
+
+-- What is left, once it is tidied, is what the call leaves.
+leaves : (s : Settled) (u : Hub) → u ≡ tidiedBy (effect s .turns) (untidied s)
+    → let h = head (within s) in
+    u ≡ apply (hub h) (look (hub h) (party h)) (move h)
+unfolding readSlot
+leaves s u e =
+    let d = effected s in
+    let h = head (within s) in
+    let places : List PlaceSlot → Hub = λ l.
+    hubOf (hub h .opening) (effect s .figures) (h .loop .oldest) l (untidied s .slots) in
+    e
+    ∙ ap (tidiedBy (effect s .turns))
+    (ap places (placed-places s)
+    ∙ stores (hub h) (party h) _ (index (named d)) (effect s) _ _ refl (woken-slots s))
+    ∙ left _ _ _ _ _ (reading (named d)) (op h) (effect s) (effect-is d)
 
 -- The ring between the tidying's loops.
 abbrev between : Tidying → Ring
-between t = ring (t .loop2 .figures) (head (within t) .loop .oldest) (t .loop2 .places)
+between t = ring (t .loop2 .figures) (head (within (settled t)) .loop .oldest) (t .loop2 .places)
 
 skipped-all : (c : tie.Left-loop2 Inv-loop2 μ-loop2 Inv-loop3 μ-loop3 Inv-loop μ-loop)
-    → between (c .before) ≡ skip (effect (c .before) .turns) (ringOf (untidied (c .before)))
+    → let s = settled (c .before) in
+    between (c .before) ≡ skip (effect s .turns) (ringOf (untidied s))
 unfolding readSeat writeSeat
 skipped-all c =
     let s = c .before .loop2 .inv in
@@ -301,53 +350,52 @@ skipped-all c =
     (can-skip _ _ _ _ (s .0) _ _ (s .2) (w .2 .ensures) ∙ not-true _ (w .3 .taken)))
     (c .loop2-test .came)
 
--- What the tidying leaves is what the call leaves, and the reply says what it answers.
 done : (c : tie.Left-loop2 Inv-loop2 μ-loop2 Inv-loop3 μ-loop3 Inv-loop μ-loop) (o : ℕ) (l : List PlaceSlot)
     → let t = c .before in
-    let h = head (within t) in
-    ring (t .loop2 .figures) o l ≡ retire (effect t .turns) (between t)
-    → hubOf (hub h .opening) (t .loop2 .figures) o l (untidied t .slots)
+    let s = settled t in
+    let h = head (within s) in
+    ring (t .loop2 .figures) o l ≡ retire (effect s .turns) (between t)
+    → hubOf (hub h .opening) (t .loop2 .figures) o l (untidied s .slots)
     ≡ apply (hub h) (look (hub h) (party h)) (move h)
-unfolding readSlot
 done c o l e =
     let t = c .before in
-    let d = effected t in
-    let h = head (within t) in
-    tidies (untidied t) (effect t .turns) (t .loop2 .figures) (between t) (ring (t .loop2 .figures) o l)
-    (t .loop2 .inv .1) (skipped-all c) e
-    ∙ ap (tidiedBy (effect t .turns))
-    (stores (hub h) (party h) _ (index (d .before)) (effect t) _ _ (placed t .by-ticket2 .ensures)
-    (woken-slots t))
-    ∙ left _ _ _ _ _ (reading (d .before)) (op h) (effect t) (effect-is d)
+    let s = settled t in
+    leaves s _
+    (tidies (untidied s) (effect s .turns) (t .loop2 .figures) (between t)
+    (ring (t .loop2 .figures) o l) (t .loop2 .inv .1) (skipped-all c) e)
 
-worded : (t : Tidying)
-    → paper (printing (placed t) .print-of .result)
-    ≡ printed (answerOf (move (head (within t))))
-worded t =
-    let d = effected t in
-    printing (placed t) .print-of .ensures
-    ∙ ap printed (said _ _ _ _ _ (reading (d .before)) (op (head (within t))) (effect t) (effect-is d))
+-- The reply says what the call answers.
+worded : (s : Settled)
+    → paper (printing s .print-of .result) ≡ printed (answerOf (move (head (within s))))
+worded s =
+    let d = effected s in
+    printing s .print-of .ensures
+    ∙ ap printed (said _ _ _ _ _ (reading (named d)) (op (head (within s))) (effect s) (effect-is d))
 
 -- The slots stay as many.
-still-32 : (t : Tidying) → length (untidied t .slots) ≡ 32
-still-32 t =
-    let h = head (within t) in
-    still (h .loop .slots) _ (effect t .woken) (party h) (effect t .waiter) (effect t .slot) (woken-slots t)
+still-32 : (s : Settled) → length (untidied s .slots) ≡ 32
+still-32 s =
+    let h = head (within s) in
+    still (h .loop .slots) _ (effect s .woken) (party h) (effect s .waiter) (effect s .slot) (woken-slots s)
     ∙ h .loop .inv .1
 
 -- What was written.
-replied-with : (t : Tidying)
-    → let h = head (within t) in
-    placed t .before .before .before .before .before .put-reply2 .last .0
+replied-with : (s : Settled)
+    → let h = head (within s) in
+    s .before .before .before .before .before .before .put-reply2 .last .1 .0
     ≡ inForm (formOf (begun h .args .form))
     (frameOf (party h) (printed (answerOf (move h))))
-replied-with t =
-    let h = head (within t) in
-    placed t .before .before .before .before .before .put-reply2 .ensures
-    ∙ ap (λ (q : Printed). inForm (formOf (begun h .args .form)) (frameOf (party h) q)) (worded t)
+replied-with s =
+    let h = head (within s) in
+    s .before .before .before .before .before .before .put-reply2 .ensures
+    ∙ ap (λ (q : Printed). inForm (formOf (begun h .args .form)) (frameOf (party h) q)) (worded s)
 
 table-requires : tie.Need-table-requires Inv-loop2 μ-loop2 Inv-loop3 μ-loop3 Inv-loop μ-loop
 table-requires c κs = search needs
+
+table-requires-2 :
+    tie.Need-table-requires-2 Inv-loop2 μ-loop2 Inv-loop3 μ-loop3 Inv-loop μ-loop
+table-requires-2 c κs = search needs
 
 reply-size-requires :
     tie.Need-reply-size-requires Inv-loop2 μ-loop2 Inv-loop3 μ-loop3 Inv-loop μ-loop
@@ -355,7 +403,7 @@ reply-size-requires c κs = search needs
 
 loop-holds : tie.Need-loop-holds Inv-loop2 μ-loop2 Inv-loop3 μ-loop3 Inv-loop μ-loop
 loop-holds c =
-    let a = c .before .before .before .before .before .before .before .before in (
+    let a = c .before .before .before .before .before .before .before .before .before in (
       start _ _ _ _ _ _ (c .reply-size .ensures) (a .pre .0) (a .pre .1 .0) (a .pre .1 .1),
       full-slots a,
     )
@@ -394,15 +442,17 @@ part-put-reply-start :
 part-put-reply-start c = search needs
 
 part-put-reply-end : tie.Need-part-put-reply-end Inv-loop2 μ-loop2 Inv-loop3 μ-loop3 Inv-loop μ-loop
-part-put-reply-end c = omega (arith, room (c .before .before .before .before .before))
+part-put-reply-end c = omega (arith, room (c .before .before .before .before .before .before))
 
 plain-requires : tie.Need-plain-requires Inv-loop2 μ-loop2 Inv-loop3 μ-loop3 Inv-loop μ-loop
 plain-requires c κs = search needs
 
 put-reply-requires : tie.Need-put-reply-requires Inv-loop2 μ-loop2 Inv-loop3 μ-loop3 Inv-loop μ-loop
 put-reply-requires c κs =
-    let e = c .before .before .before .before .before .before .before in
-    reply-part _ _ _ _ _ _ _ _ _ (e .before .loop .inv .0) (e .loop-test .taken)
+    let e = c .before .before .before .before .before .before .before .before in (
+      e .before .before .before .table2 .ensures,
+      reply-part _ _ _ _ _ _ _ _ _ (e .before .loop .inv .0) (e .loop-test .taken),
+    )
 
 loop-less : tie.Need-loop-less Inv-loop2 μ-loop2 Inv-loop3 μ-loop3 Inv-loop μ-loop
 loop-less c = search needs
@@ -410,7 +460,7 @@ loop-less c = search needs
 loop-again : tie.Need-loop-again Inv-loop2 μ-loop2 Inv-loop3 μ-loop3 Inv-loop μ-loop
 loop-again c =
     let w = c .before .before .before in
-    let p = w .before .before in
+    let p = w .before .before .before in
     let d = p .before .before in
     let h = d .before .before .before .before in
     let u = h .loop .inv .0 in
@@ -475,41 +525,27 @@ array-read-kind c = omega (arith, admitted (c .before .before .before .before .b
 op-of-requires : tie.Need-op-of-requires Inv-loop2 μ-loop2 Inv-loop3 μ-loop3 Inv-loop μ-loop
 op-of-requires c κs = search needs
 
-decide-requires : tie.Need-decide-requires Inv-loop2 μ-loop2 Inv-loop3 μ-loop3 Inv-loop μ-loop
-decide-requires c κs =
-    let n = admitted (entered c) .counts in
-    (record { counter = n .counter; issued = n .issued; resumed = n .resumed }, n .oldest)
+full-for-requires :
+    tie.Need-full-for-requires Inv-loop2 μ-loop2 Inv-loop3 μ-loop3 Inv-loop μ-loop
+full-for-requires c κs = let n = admitted (entered c) .counts in (n .oldest, n .issued)
 
-sub-put-reply-2 : tie.Need-sub-put-reply-2 Inv-loop2 μ-loop2 Inv-loop3 μ-loop3 Inv-loop μ-loop
-sub-put-reply-2 c = search needs
+decide-by-requires :
+    tie.Need-decide-by-requires Inv-loop2 μ-loop2 Inv-loop3 μ-loop3 Inv-loop μ-loop
+decide-by-requires c κs =
+    let n = admitted (entered (c .before)) .counts in
+    record { counter = n .counter; issued = n .issued; resumed = n .resumed }
 
-part-put-reply-start-2 :
-    tie.Need-part-put-reply-start-2 Inv-loop2 μ-loop2 Inv-loop3 μ-loop3 Inv-loop μ-loop
-part-put-reply-start-2 c = search needs
+has-ticket-requires :
+    tie.Need-has-ticket-requires Inv-loop2 μ-loop2 Inv-loop3 μ-loop3 Inv-loop μ-loop
+has-ticket-requires c κs = search needs
 
-part-put-reply-end-2 :
-    tie.Need-part-put-reply-end-2 Inv-loop2 μ-loop2 Inv-loop3 μ-loop3 Inv-loop μ-loop
-part-put-reply-end-2 c = omega (arith, room (turning (entering c)))
-
-print-of-requires : tie.Need-print-of-requires Inv-loop2 μ-loop2 Inv-loop3 μ-loop3 Inv-loop μ-loop
-print-of-requires c κs = search needs
-
-put-reply-requires-2 :
-    tie.Need-put-reply-requires-2 Inv-loop2 μ-loop2 Inv-loop3 μ-loop3 Inv-loop μ-loop
-put-reply-requires-2 c κs =
-    let e = turning (entering (c .before .before)) in
-    reply-part _ _ _ _ _ _ _ _ _ (e .before .loop .inv .0) (e .loop-test .taken)
-
-by-ticket-requires-2 :
-    tie.Need-by-ticket-requires-2 Inv-loop2 μ-loop2 Inv-loop3 μ-loop3 Inv-loop μ-loop
-by-ticket-requires-2 c κs = search needs
-
-mul-places : tie.Need-mul-places Inv-loop2 μ-loop2 Inv-loop3 μ-loop3 Inv-loop μ-loop
-mul-places c = omega (arith, index (decided c .before))
+mul-places :
+    tie.Need-mul-places Inv-loop2 μ-loop2 Inv-loop3 μ-loop3 Inv-loop μ-loop
+mul-places c = omega (arith, index (named (c .before .before .before .before)))
 
 array-set-from-places :
     tie.Need-array-set-from-places Inv-loop2 μ-loop2 Inv-loop3 μ-loop3 Inv-loop μ-loop
-array-set-from-places c = omega (arith, index (decided c .before))
+array-set-from-places c = omega (arith, index (named (c .before .before .before .before)))
 
 cast-slots : tie.Need-cast-slots Inv-loop2 μ-loop2 Inv-loop3 μ-loop3 Inv-loop μ-loop
 cast-slots c = search needs
@@ -528,12 +564,83 @@ array-set-from-slots-2 :
     tie.Need-array-set-from-slots-2 Inv-loop2 μ-loop2 Inv-loop3 μ-loop3 Inv-loop μ-loop
 array-set-from-slots-2 c = omega (arith, admitted (entering (decided (c .before .before))) .party)
 
-add-limit : tie.Need-add-limit Inv-loop2 μ-loop2 Inv-loop3 μ-loop3 Inv-loop μ-loop
-add-limit c = omega (arith, low (decided (c .before .before)))
+sub-put-reply-2 :
+    tie.Need-sub-put-reply-2 Inv-loop2 μ-loop2 Inv-loop3 μ-loop3 Inv-loop μ-loop
+sub-put-reply-2 c = search needs
 
-loop2-holds : tie.Need-loop2-holds Inv-loop2 μ-loop2 Inv-loop3 μ-loop3 Inv-loop μ-loop
-loop2-holds c =
-    (skipping _ _, refl, refl, low (decided (c .before .before)))
+part-put-reply-start-2 :
+    tie.Need-part-put-reply-start-2 Inv-loop2 μ-loop2 Inv-loop3 μ-loop3 Inv-loop μ-loop
+part-put-reply-start-2 c = search needs
+
+part-put-reply-end-2 :
+    tie.Need-part-put-reply-end-2 Inv-loop2 μ-loop2 Inv-loop3 μ-loop3 Inv-loop μ-loop
+part-put-reply-end-2 c = omega (arith, room (turning (entering (decided (c .before .before .before)))))
+
+print-of-requires :
+    tie.Need-print-of-requires Inv-loop2 μ-loop2 Inv-loop3 μ-loop3 Inv-loop μ-loop
+print-of-requires c κs = search needs
+
+put-reply-requires-2 :
+    tie.Need-put-reply-requires-2 Inv-loop2 μ-loop2 Inv-loop3 μ-loop3 Inv-loop μ-loop
+put-reply-requires-2 c κs =
+    let e = turning (entering (decided (woken c .before))) in (
+      e .before .before .before .table2 .ensures,
+      reply-part _ _ _ _ _ _ _ _ _ (e .before .loop .inv .0) (e .loop-test .taken),
+    )
+
+cast-ahead :
+    tie.Need-cast-ahead Inv-loop2 μ-loop2 Inv-loop3 μ-loop3 Inv-loop μ-loop
+cast-ahead c = search needs
+
+mul-ahead :
+    tie.Need-mul-ahead Inv-loop2 μ-loop2 Inv-loop3 μ-loop3 Inv-loop μ-loop
+mul-ahead c = search needs
+
+array-copy-out-ahead :
+    tie.Need-array-copy-out-ahead Inv-loop2 μ-loop2 Inv-loop3 μ-loop3 Inv-loop μ-loop
+array-copy-out-ahead c = search needs
+
+cast-behind :
+    tie.Need-cast-behind Inv-loop2 μ-loop2 Inv-loop3 μ-loop3 Inv-loop μ-loop
+cast-behind c = search needs
+
+mul-behind :
+    tie.Need-mul-behind Inv-loop2 μ-loop2 Inv-loop3 μ-loop3 Inv-loop μ-loop
+mul-behind c = search needs
+
+array-copy-out-behind :
+    tie.Need-array-copy-out-behind Inv-loop2 μ-loop2 Inv-loop3 μ-loop3 Inv-loop μ-loop
+array-copy-out-behind c = search needs
+
+is-untidy-requires :
+    tie.Need-is-untidy-requires Inv-loop2 μ-loop2 Inv-loop3 μ-loop3 Inv-loop μ-loop
+is-untidy-requires c κs = search needs
+
+loop-less-2 :
+    tie.Need-loop-less-2 Inv-loop2 μ-loop2 Inv-loop3 μ-loop3 Inv-loop μ-loop
+loop-less-2 c = omega (arith, turning (within (c .before)) .loop-test .taken)
+
+loop-again-2 :
+    tie.Need-loop-again-2 Inv-loop2 μ-loop2 Inv-loop3 μ-loop3 Inv-loop μ-loop
+unfolding readSeat writeSlot
+loop-again-2 c =
+    let s = c .before in
+    let e = within s in
+    let nothing =
+    tidy (effect s .turns) (ringOf (untidied s))
+    (sym (s .is-untidy .ensures) ∙ not-true _ (c .if4 .taken)) in (
+      responded _ _ _ _ _ _ _ _ _ (head e .loop .inv .0) (turning e .loop-test .taken) _ _ _
+          (answered e) (replied-with s) (leaves s _ (ap (withRing (untidied s)) nothing)),
+      still-32 s,
+    )
+
+add-limit :
+    tie.Need-add-limit Inv-loop2 μ-loop2 Inv-loop3 μ-loop3 Inv-loop μ-loop
+add-limit c = omega (arith, low (effected (c .before)))
+
+loop2-holds :
+    tie.Need-loop2-holds Inv-loop2 μ-loop2 Inv-loop3 μ-loop3 Inv-loop μ-loop
+loop2-holds c = (skipping _ _, refl, refl, low (effected (c .before)))
 
 cast-a : tie.Need-cast-a Inv-loop2 μ-loop2 Inv-loop3 μ-loop3 Inv-loop μ-loop
 cast-a c = search needs
@@ -564,14 +671,14 @@ unfolding readSeat
 add-figures c =
     let s = c .before .before .before .before .before .loop2 .inv in
     let e = can-skip _ _ _ _ (s .0) _ _ (s .2) (c .before .before .can-skip .ensures) in
-    omega (arith, in-window _ _ _ _ (s .0) (e ∙ not-false _ (c .before .if3 .left)), s .3)
+    omega (arith, in-window _ _ _ _ (s .0) (e ∙ not-false _ (c .before .if5 .left)), s .3)
 
 add-n : tie.Need-add-n Inv-loop2 μ-loop2 Inv-loop3 μ-loop3 Inv-loop μ-loop
 add-n c =
     omega (
       arith,
       c .before .before .before .before .loop2-test .taken,
-      turns-most (effected (c .before .before .before .before .before)),
+      turns-most (effected (settled (c .before .before .before .before .before))),
     )
 
 loop2-less : tie.Need-loop2-less Inv-loop2 μ-loop2 Inv-loop3 μ-loop3 Inv-loop μ-loop
@@ -586,7 +693,7 @@ loop2-again c =
     let r = l .figures .resumed in
     let on =
     skipping-on _ _ _ _ (s .0) _ (c .with-place .ensures)
-    (c .before .before .before .before .loop2-test .taken) (e ∙ not-false _ (c .before .if3 .left)) in (
+    (c .before .before .before .before .loop2-test .taken) (e ∙ not-false _ (c .before .if5 .left)) in (
       on,
       ap (withResumed (r + 1)) (s .1),
       s .2,
@@ -595,20 +702,22 @@ loop2-again c =
 
 loop3-holds : tie.Need-loop3-holds Inv-loop2 μ-loop2 Inv-loop3 μ-loop3 Inv-loop μ-loop
 loop3-holds c =
-    (retiring _ _, omega (arith, c .before .loop2 .inv .3, turns-most (effected (c .before))))
+    (retiring _ _, omega (arith, c .before .loop2 .inv .3, turns-most (effected (settled (c .before)))))
 
-loop-less-2 : tie.Need-loop-less-2 Inv-loop2 μ-loop2 Inv-loop3 μ-loop3 Inv-loop μ-loop
-loop-less-2 c = omega (arith, turning (within (c .before .before .before)) .loop-test .taken)
+loop-less-3 :
+    tie.Need-loop-less-3 Inv-loop2 μ-loop2 Inv-loop3 μ-loop3 Inv-loop μ-loop
+loop-less-3 c = omega (arith, turning (within (settled (c .before .before .before))) .loop-test .taken)
 
-loop-again-2 : tie.Need-loop-again-2 Inv-loop2 μ-loop2 Inv-loop3 μ-loop3 Inv-loop μ-loop
+loop-again-3 :
+    tie.Need-loop-again-3 Inv-loop2 μ-loop2 Inv-loop3 μ-loop3 Inv-loop μ-loop
 unfolding readSeat writeSlot
-loop-again-2 c =
-    let t = c .before .before .before in
-    let e = within t in
+loop-again-3 c =
+    let s = settled (c .before .before .before) in
+    let e = within s in
     let last = retiring-end _ _ _ _ (c .before .loop3 .inv .0) (c .loop3-test .left) in (
       responded _ _ _ _ _ _ _ _ _ (head e .loop .inv .0) (turning e .loop-test .taken) _ _ _
-          (answered e) (replied-with t) (done (c .before .before) _ _ last),
-      still-32 t,
+          (answered e) (replied-with s) (done (c .before .before) _ _ last),
+      still-32 s,
     )
 
 cast-a-2 : tie.Need-cast-a-2 Inv-loop2 μ-loop2 Inv-loop3 μ-loop3 Inv-loop μ-loop
@@ -625,21 +734,24 @@ can-retire-requires :
     tie.Need-can-retire-requires Inv-loop2 μ-loop2 Inv-loop3 μ-loop3 Inv-loop μ-loop
 can-retire-requires c κs = search needs
 
-loop-less-3 : tie.Need-loop-less-3 Inv-loop2 μ-loop2 Inv-loop3 μ-loop3 Inv-loop μ-loop
-loop-less-3 c = omega (arith, turning (within (c .before .before .before .before .before .before)) .loop-test .taken)
+loop-less-4 :
+    tie.Need-loop-less-4 Inv-loop2 μ-loop2 Inv-loop3 μ-loop3 Inv-loop μ-loop
+loop-less-4 c =
+    omega (arith, turning (within (settled (c .before .before .before .before .before .before))) .loop-test .taken)
 
-loop-again-3 : tie.Need-loop-again-3 Inv-loop2 μ-loop2 Inv-loop3 μ-loop3 Inv-loop μ-loop
+loop-again-4 :
+    tie.Need-loop-again-4 Inv-loop2 μ-loop2 Inv-loop3 μ-loop3 Inv-loop μ-loop
 unfolding readSeat writeSlot
-loop-again-3 c =
+loop-again-4 c =
     let l = c .before .before .before .before in
-    let t = l .before .before in
-    let e = within t in
+    let s = settled (l .before .before) in
+    let e = within s in
     let last =
     retiring-stop _ _ _ _ (l .loop3 .inv .0)
-    (sym (c .before .can-retire .ensures) ∙ not-true _ (c .if4 .taken)) in (
+    (sym (c .before .can-retire .ensures) ∙ not-true _ (c .if6 .taken)) in (
       responded _ _ _ _ _ _ _ _ _ (head e .loop .inv .0) (turning e .loop-test .taken) _ _ _
-          (answered e) (replied-with t) (done (l .before) _ _ last),
-      still-32 t,
+          (answered e) (replied-with s) (done (l .before) _ _ last),
+      still-32 s,
     )
 
 empty-seat-requires-2 :
@@ -676,7 +788,7 @@ loop3-again c =
     let s = l .inv in (
       retiring-on _ _ _ _ (s .0) _ (c .empty-seat2 .ensures)
           (c .before .before .before .before .loop3-test .taken)
-          (sym (c .before .before .can-retire .ensures) ∙ not-false _ (c .before .if4 .left)),
+          (sym (c .before .before .can-retire .ensures) ∙ not-false _ (c .before .if6 .left)),
       s .1,
     )
 
@@ -700,6 +812,7 @@ answer-requests-spec =
     Inv-loop
     μ-loop
     table-requires
+    table-requires-2
     reply-size-requires
     loop-holds
     mul-from
@@ -732,13 +845,9 @@ answer-requests-spec =
     slot-within-requires
     array-read-kind
     op-of-requires
-    decide-requires
-    sub-put-reply-2
-    part-put-reply-start-2
-    part-put-reply-end-2
-    print-of-requires
-    put-reply-requires-2
-    by-ticket-requires-2
+    full-for-requires
+    decide-by-requires
+    has-ticket-requires
     mul-places
     array-set-from-places
     cast-slots
@@ -746,6 +855,20 @@ answer-requests-spec =
     array-set-from-slots
     mul-slots-2
     array-set-from-slots-2
+    sub-put-reply-2
+    part-put-reply-start-2
+    part-put-reply-end-2
+    print-of-requires
+    put-reply-requires-2
+    cast-ahead
+    mul-ahead
+    array-copy-out-ahead
+    cast-behind
+    mul-behind
+    array-copy-out-behind
+    is-untidy-requires
+    loop-less-2
+    loop-again-2
     add-limit
     loop2-holds
     cast-a
@@ -760,14 +883,14 @@ answer-requests-spec =
     loop2-less
     loop2-again
     loop3-holds
-    loop-less-2
-    loop-again-2
+    loop-less-3
+    loop-again-3
     cast-a-2
     mul-head-2
     array-copy-out-head-2
     can-retire-requires
-    loop-less-3
-    loop-again-3
+    loop-less-4
+    loop-again-4
     empty-seat-requires-2
     mul-places-3
     array-set-from-places-3

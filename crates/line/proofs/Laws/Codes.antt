@@ -8,7 +8,7 @@ use Rattle.hub.specs.declared.moves.Op.{Op}
 use Rattle.line.specs.Frame.{isCall, opOf, codeOf}
 
 -- The codes of the four calls are 16 to 19.
-no-code : (c : ℕ) → ((k : ℕ) → 16 ≤ k → k ≤ 19 → c ≡ k → ⊥) → isCall c ≡ false
+pub no-code : (c : ℕ) → ((k : ℕ) → 16 ≤ k → k ≤ 19 → c ≡ k → ⊥) → isCall c ≡ false
 no-code c f =
     rw (
       ne-eqb c 16 (f 16 (omega arith) (omega arith)),

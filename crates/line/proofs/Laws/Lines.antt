@@ -92,6 +92,39 @@ unread l e = go (ltb LONGEST (length l)) (eqb (length l % 2) 1) _ (requested (by
     go false true r x f = refl
     go false false r x f = ap (λ (b : Bool). cond (not b) malformed x) (sym f)
 
+-- A line of four characters that is a call has no line feed in it.
+pub record NoFeed (a b x y : ℕ) : Type 0 where
+  pub first : a ≡ 0x0A → ⊥
+  pub second : b ≡ 0x0A → ⊥
+  pub third : x ≡ 0x0A → ⊥
+  pub fourth : y ≡ 0x0A → ⊥
+
+no-feed : (c : ℕ) → isDigit c ≡ true → c ≡ 0x0A → ⊥
+unfolding digitOf
+no-feed c d e =
+    let z : false ≡ true = sym (ap isDigit e) ∙ d in
+    let n : _≡_ {A = ℕ} 0 1 = cc in
+    omega arith
+
+pub call-feeds : (a b x y : ℕ) → 16 ≤ headerOf (requestOf (a ∷ b ∷ x ∷ y ∷ [])) .code → NoFeed a b x y
+unfolding allDigits
+call-feeds a b x y m = go (allDigits (a ∷ b ∷ x ∷ y ∷ [])) refl
+  where
+    go : (d : Bool) → allDigits (a ∷ b ∷ x ∷ y ∷ []) ≡ d → NoFeed a b x y
+    go true e =
+        let f = second (isDigit a) (allDigits (b ∷ x ∷ y ∷ [])) e in
+        let g = second (isDigit b) (allDigits (x ∷ y ∷ [])) f in
+        let h = second (isDigit x) (allDigits (y ∷ [])) g in
+        record {
+          first = no-feed a (first (isDigit a) (allDigits (b ∷ x ∷ y ∷ [])) e);
+          second = no-feed b (first (isDigit b) (allDigits (x ∷ y ∷ [])) f);
+          third = no-feed x (first (isDigit x) (allDigits (y ∷ [])) g);
+          fourth = no-feed y (first (isDigit y) true h);
+        }
+    go false e =
+        absurd
+        (omega (arith, m, ap (λ (r : Request). headerOf r .code) (unread (a ∷ b ∷ x ∷ y ∷ []) e)))
+
 abbrev twoDigits : ℕ → ℕ → Bool
 twoDigits a b = isDigit a && isDigit b
 

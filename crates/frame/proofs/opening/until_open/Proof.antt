@@ -6,6 +6,7 @@ use mathlib.Core.Path.{_≡_, sym, ap, _∙_}
 use mathlib.Core.List.{List}
 use native.Mathlib.Omega.{arith}
 use lib.ListN.{length}
+use Rattle.line.proofs.Laws.Parts.{put-length}
 use Rattle.line.specs.Form.{asText}
 use Rattle.line.specs.Program.{unopened, isOpen, beforeOpen, replyIn}
 use Rattle.line.specs.Requests.{Request, requestOf, isOpening}
@@ -19,11 +20,11 @@ use Rattle.frame.proofs.opening.until_open.Statement.{statement}
 use Rattle.frame.proofs.opening.until_open.Tie as tie
 
 abbrev Inv-loop : tie.InvT-loop
-Inv-loop hub piece out₀ current₀ lines₀ i₀ out current lines i =
+Inv-loop hub piece out₀ table current₀ lines₀ i₀ out current lines i =
     Upto current₀ piece out₀ current out lines i
 
 abbrev μ-loop : tie.MeasureT-loop
-μ-loop hub piece out₀ current₀ lines₀ i₀ out current lines i =
+μ-loop hub piece out₀ table current₀ lines₀ i₀ out current lines i =
     length piece - i
 
 -- The contexts that the facts below speak of.
@@ -37,18 +38,18 @@ abbrev Ending : Type 0
 Ending = tie.Else2 Inv-loop μ-loop
 
 abbrev head : Reading → Head
-head c = c .before .before .before .before
+head c = c .before .before .before .before .before
 
 abbrev reading : Ending → Reading
 reading c = c .before .before .before .before
 
 abbrev begun : Head → tie.Start Inv-loop μ-loop
-begun c = c .before .before .before .before .before
+begun c = c .before .before .before .before .before .before
 
 -- No hub is open in the loop.
 none : (c : Head) → begun c .args .hub ≡ unopened
 none c =
-    let e = c .before in
+    let e = c .before .before in
     session-shut _ (begun c .pre .0) (sym (e .before .is-open .ensures) ∙ e .if1 .left)
 
 -- At the end of a line: what it asks, as its header says, and room for the reply.
@@ -59,7 +60,7 @@ line-room : (c : Ending)
     → let l = head (reading c) in 15 * l .loop .lines + 15 ≤ length (l .loop .out)
 line-room c =
     let r = reading c in
-    room-for-one (head r .loop .inv) (r .before .before .before .loop-test .taken) _
+    room-for-one (head r .loop .inv) (r .before .before .before .before .loop-test .taken) _
     (r .read-piece .ensures .0) (r .read-piece .ensures .1) (c .if2 .left)
 
 is-open-requires : tie.Need-is-open-requires Inv-loop μ-loop
@@ -71,9 +72,12 @@ returns c =
     already-open (a .hub) (a .reader) (a .piece .now) (a .out .now)
     (sym (c .before .is-open .ensures) ∙ c .if1 .taken)
 
+table-requires : tie.Need-table-requires Inv-loop μ-loop
+table-requires c κs = search needs
+
 loop-holds : tie.Need-loop-holds Inv-loop μ-loop
 loop-holds c =
-    let s = c .before .before .before .before in
+    let s = c .before .before .before .before .before in
     start _ _ _ (record { size = search needs; short = s .pre .1 .0 }) (s .pre .1 .1)
 
 add-next : tie.Need-add-next Inv-loop μ-loop
@@ -93,9 +97,12 @@ slice-aggregate-read-piece c = search needs
 
 read-piece-requires : tie.Need-read-piece-requires Inv-loop μ-loop
 read-piece-requires c κs =
-    let l = c .before .before .before in (
-      l .loop .inv .kept .short,
-      at-most-one (l .loop .inv) (c .before .before .loop-test .taken),
+    let l = c .before .before .before .before in (
+      l .before .table .ensures,
+      (
+        l .loop .inv .kept .short,
+        at-most-one (l .loop .inv) (c .before .before .before .loop-test .taken),
+      ),
     )
 
 loop-less : tie.Need-loop-less Inv-loop μ-loop
@@ -105,7 +112,7 @@ loop-again : tie.Need-loop-again Inv-loop μ-loop
 loop-again c =
     let r = c .before .before .before .before in
     let l = head r in
-    within-line (l .loop .inv) (r .before .before .before .loop-test .taken) _
+    within-line (l .loop .inv) (r .before .before .before .before .loop-test .taken) _
     (r .read-piece .ensures .0) (r .read-piece .ensures .1) (c .if2 .taken)
 
 mul-at : tie.Need-mul-at Inv-loop μ-loop
@@ -145,7 +152,7 @@ loop-again-2 c =
     let e = t .before in
     let r = reading e in
     let l = head r .loop in
-    let more = r .before .before .before .loop-test .taken in
+    let more = r .before .before .before .before .loop-test .taken in
     let f = r .read-piece .ensures in
     let z =
     refused-line (asks e) _ _
@@ -180,7 +187,7 @@ open-as-requires c κs =
     let l = head r .loop in
     let f = r .read-piece .ensures in
     let code =
-    code-is (l .inv) (r .before .before .before .loop-test .taken) _ (f .0) (f .1)
+    code-is (l .inv) (r .before .before .before .before .loop-test .taken) _ (f .0) (f .1)
     (e .if2 .left) in (
       ap (λ (x : List ℕ). isOpening (requestOf x)) (whole (l .current))
           ∙ opening-header (asks e) (sym code ∙ t .if3 .left),
@@ -191,7 +198,11 @@ is-open-requires-2 : tie.Need-is-open-requires-2 Inv-loop μ-loop
 is-open-requires-2 c κs = search needs
 
 same-length : tie.Need-same-length Inv-loop μ-loop
-same-length c = search needs
+same-length c =
+    let o = c .before .before .before .before in
+    let e = o .before .before .before .before .before .before in
+    let l = head (reading e) .loop in
+    put-length (l .out) (o .open-as .last .1 .0) (15 * l .lines) 15 (line-room e) (ap length (o .open-as .ensures .1)) ∙ l .inv .long
 
 returns-2 : tie.Need-returns-2 Inv-loop μ-loop
 returns-2 c =
@@ -203,7 +214,7 @@ returns-2 c =
     let hub =
     o .open-as .ensures .0
     ∙ ap (λ (x : List ℕ). beforeOpen (requestOf x) .hub) (whole (l .current)) in
-    opened (l .inv) (r .before .before .before .loop-test .taken) _ (f .0) (f .1)
+    opened (l .inv) (r .before .before .before .before .loop-test .taken) _ (f .0) (f .1)
     (e .if2 .left)
     (o .open-as .ensures .1
     ∙ ap (λ (x : List ℕ). replyIn asText (beforeOpen (requestOf x) .reply)) (whole (l .current)))
@@ -222,7 +233,7 @@ loop-again-3 c =
     let hub =
     o .open-as .ensures .0
     ∙ ap (λ (x : List ℕ). beforeOpen (requestOf x) .hub) (whole (l .current)) in
-    onward (l .inv) (r .before .before .before .loop-test .taken) _ (f .0) (f .1)
+    onward (l .inv) (r .before .before .before .before .loop-test .taken) _ (f .0) (f .1)
     (e .if2 .left)
     (o .open-as .ensures .1
     ∙ ap (λ (x : List ℕ). replyIn asText (beforeOpen (requestOf x) .reply)) (whole (l .current)))
@@ -244,6 +255,7 @@ until-open-spec =
     μ-loop
     is-open-requires
     returns
+    table-requires
     loop-holds
     add-next
     sub-read-piece
