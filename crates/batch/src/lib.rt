@@ -86,11 +86,6 @@ pub fn answer_requests(hub: Hub, requests: &[u8], count: usize, form: bool, out:
         let e = decide_by(op, full, s);
         let next = e.figures;
         figures = next;
-        let phase = slot.phase;
-        if has_ticket(phase) {
-            let put = e.seat;
-            places[t] = put;
-        }
         let woken = e.woken;
         if woken < 32 {
             let woke = e.waiter;
@@ -98,6 +93,11 @@ pub fn answer_requests(hub: Hub, requests: &[u8], count: usize, form: bool, out:
         }
         let becomes = e.slot;
         slots[own] = becomes;
+        let phase = slot.phase;
+        if has_ticket(phase) {
+            let put = e.seat;
+            places[t] = put;
+        }
         let answer = e.answer;
         put_reply(&pairs, &mut out[at..end], form, party, print_of(answer));
         // mostly there is nothing to tidy

@@ -112,11 +112,11 @@ Named = tie.After-op-of Inv-loop2 μ-loop2 Inv-loop3 μ-loop3 Inv-loop μ-loop
 abbrev Decided : Type 0
 Decided = tie.After-decide-by Inv-loop2 μ-loop2 Inv-loop3 μ-loop3 Inv-loop μ-loop
 
-abbrev Placed : Type 0
-Placed = tie.Joined2 Inv-loop2 μ-loop2 Inv-loop3 μ-loop3 Inv-loop μ-loop
-
 abbrev Woken : Type 0
-Woken = tie.Joined3 Inv-loop2 μ-loop2 Inv-loop3 μ-loop3 Inv-loop μ-loop
+Woken = tie.Joined2 Inv-loop2 μ-loop2 Inv-loop3 μ-loop3 Inv-loop μ-loop
+
+abbrev Placed : Type 0
+Placed = tie.Joined3 Inv-loop2 μ-loop2 Inv-loop3 μ-loop3 Inv-loop μ-loop
 
 abbrev Printing : Type 0
 Printing = tie.After-print-of Inv-loop2 μ-loop2 Inv-loop3 μ-loop3 Inv-loop μ-loop
@@ -139,11 +139,14 @@ entered c = c .before .before .before .before .before .before .before .before .b
 abbrev named : Decided → Named
 named c = c .before .before
 
-abbrev decided : Placed → Decided
-decided c = c .before .before .before
+abbrev decided : Woken → Decided
+decided c = c .before .before
 
-abbrev woken : Printing → Woken
-woken c = c .before .before .before .before
+abbrev woken : Placed → Woken
+woken c = c .before .before .before
+
+abbrev filled : Printing → Placed
+filled c = c .before .before .before
 
 abbrev printing : Settled → Printing
 printing c = c .before .before .before .before .before .before .before
@@ -159,10 +162,10 @@ abbrev entering : Decided → Entered
 entering c = entered (named c)
 
 abbrev placed : Settled → Placed
-placed c = woken (printing c) .before
+placed c = filled (printing c)
 
 abbrev effected : Settled → Decided
-effected c = decided (placed c)
+effected c = decided (woken (placed c))
 
 abbrev within : Settled → Entered
 within c = entering (effected c)
@@ -284,8 +287,8 @@ turns-most c =
 abbrev untidied : Settled → Hub
 untidied s =
     let h = head (within s) in
-    hubOf (hub h .opening) (effect s .figures) (h .loop .oldest) (placed s .if2 .places)
-    (writeSlot (woken (printing s) .if3 .slots) (party h) (effect s .slot))
+    hubOf (hub h .opening) (effect s .figures) (h .loop .oldest) (placed s .if3 .places)
+    (writeSlot (woken (placed s) .if2 .slots) (party h) (effect s .slot))
 
 abbrev ticketAt : Named → ℕ
 ticketAt c = c .before .before .before .before .before .before .before .seat-index .result
@@ -293,7 +296,7 @@ ticketAt c = c .before .before .before .before .before .before .before .seat-ind
 placed-places : (s : Settled)
     → let h = head (within s) in
     let i = ticketAt (named (effected s)) in
-    placed s .if2 .places
+    placed s .if3 .places
     ≡ set (h .loop .places) i
     (orThere (h .loop .places) i (effect s .seat) (readSlot (h .loop .slots) (party h) .phase))
 unfolding readSlot
@@ -305,10 +308,10 @@ placed-places s =
     ⊎-elim
     (λ w. w .2 ∙ with-ticket (h .loop .places) i (effect s .seat) phase (sym has ∙ w .0 .taken))
     (λ w. w .1 ∙ without-ticket (h .loop .places) i (effect s .seat) phase (sym has ∙ w .0 .left))
-    (placed s .if2 .came)
+    (placed s .if3 .came)
 
 woken-slots : (s : Settled)
-    → woken (printing s) .if3 .slots
+    → woken (placed s) .if2 .slots
     ≡ writeSlot (head (within s) .loop .slots) (effect s .woken) (effect s .waiter)
 unfolding writeSlot
 woken-slots s =
@@ -317,7 +320,7 @@ woken-slots s =
     (λ w. w .1
     ∙ nobody (h .loop .slots) (effect s .woken) (effect s .waiter)
     (omega (arith, h .loop .inv .1, w .0 .left)))
-    (woken (printing s) .if3 .came)
+    (woken (placed s) .if2 .came)
 
 -- What is left, once it is tidied, is what the call leaves.
 leaves : (s : Settled) (u : Hub) → u ≡ tidiedBy (effect s .turns) (untidied s)
@@ -541,11 +544,11 @@ has-ticket-requires c κs = search needs
 
 mul-places :
     tie.Need-mul-places Inv-loop2 μ-loop2 Inv-loop3 μ-loop3 Inv-loop μ-loop
-mul-places c = omega (arith, index (named (c .before .before .before .before)))
+mul-places c = omega (arith, index (named (decided (c .before .before .before .before))))
 
 array-set-from-places :
     tie.Need-array-set-from-places Inv-loop2 μ-loop2 Inv-loop3 μ-loop3 Inv-loop μ-loop
-array-set-from-places c = omega (arith, index (named (c .before .before .before .before)))
+array-set-from-places c = omega (arith, index (named (decided (c .before .before .before .before))))
 
 cast-slots : tie.Need-cast-slots Inv-loop2 μ-loop2 Inv-loop3 μ-loop3 Inv-loop μ-loop
 cast-slots c = search needs
@@ -558,11 +561,11 @@ array-set-from-slots :
 array-set-from-slots c = search needs
 
 mul-slots-2 : tie.Need-mul-slots-2 Inv-loop2 μ-loop2 Inv-loop3 μ-loop3 Inv-loop μ-loop
-mul-slots-2 c = omega (arith, admitted (entering (decided (c .before .before))) .party)
+mul-slots-2 c = omega (arith, admitted (entering (decided (c .before))) .party)
 
 array-set-from-slots-2 :
     tie.Need-array-set-from-slots-2 Inv-loop2 μ-loop2 Inv-loop3 μ-loop3 Inv-loop μ-loop
-array-set-from-slots-2 c = omega (arith, admitted (entering (decided (c .before .before))) .party)
+array-set-from-slots-2 c = omega (arith, admitted (entering (decided (c .before))) .party)
 
 sub-put-reply-2 :
     tie.Need-sub-put-reply-2 Inv-loop2 μ-loop2 Inv-loop3 μ-loop3 Inv-loop μ-loop
@@ -574,7 +577,7 @@ part-put-reply-start-2 c = search needs
 
 part-put-reply-end-2 :
     tie.Need-part-put-reply-end-2 Inv-loop2 μ-loop2 Inv-loop3 μ-loop3 Inv-loop μ-loop
-part-put-reply-end-2 c = omega (arith, room (turning (entering (decided (c .before .before .before)))))
+part-put-reply-end-2 c = omega (arith, room (turning (entering (decided (woken (c .before))))))
 
 print-of-requires :
     tie.Need-print-of-requires Inv-loop2 μ-loop2 Inv-loop3 μ-loop3 Inv-loop μ-loop
@@ -583,7 +586,7 @@ print-of-requires c κs = search needs
 put-reply-requires-2 :
     tie.Need-put-reply-requires-2 Inv-loop2 μ-loop2 Inv-loop3 μ-loop3 Inv-loop μ-loop
 put-reply-requires-2 c κs =
-    let e = turning (entering (decided (woken c .before))) in (
+    let e = turning (entering (decided (woken (filled c)))) in (
       e .before .before .before .table2 .ensures,
       reply-part _ _ _ _ _ _ _ _ _ (e .before .loop .inv .0) (e .loop-test .taken),
     )
@@ -847,14 +850,14 @@ answer-requests-spec =
     op-of-requires
     full-for-requires
     decide-by-requires
-    has-ticket-requires
-    mul-places
-    array-set-from-places
     cast-slots
     mul-slots
     array-set-from-slots
     mul-slots-2
     array-set-from-slots-2
+    has-ticket-requires
+    mul-places
+    array-set-from-places
     sub-put-reply-2
     part-put-reply-start-2
     part-put-reply-end-2
