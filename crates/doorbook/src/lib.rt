@@ -9,6 +9,8 @@ ghost use Rattle.doorbook.specs.Bytes.{afterBytes, enterBytes, enterCode
 ghost use Rattle.doorbook.specs.Bytes.{locksOf};
 ghost use Rattle.doorbook.specs.Frame.{isFrame, numberAt};
 
+const LAST: u8 = 199; // the highest door
+
 // How a frame is answered: 12, 19, 20, 21, 41 (`codeOf`).
 pub enum Answer {
     Malformed, // another length or code
@@ -52,12 +54,12 @@ fn is_frame(frame: &[u8]) -> bool
 fn stands(locks: [u32; 200], lock: u32) -> bool
     ensures { λ r. ⌜ r ≡ stands lock locks ⌝ }
 {
-    let mut i: usize = 0;
-    while i < 200 {
-        if locks[i] == lock {
+    let mut door: usize = 0;
+    while door < 200 {
+        if locks[door] == lock {
             return true;
         }
-        i += 1;
+        door += 1;
     }
     false
 }
@@ -79,7 +81,7 @@ impl Book {
     pub fn lock(self, door: u8) -> u32
         ensures { λ r. ⌜ r ≡ lockAt (self .locks) door ⌝ }
     {
-        if 199 < door {
+        if LAST < door {
             return 0;
         }
         self.locks[door as usize]
@@ -94,7 +96,7 @@ impl Book {
             return refused(Answer::Malformed, self);
         }
         let door = frame[1];
-        if 199 < door {
+        if LAST < door {
             return refused(Answer::NoSuchDoor, self);
         }
         let lock = number_at(frame, 2);
@@ -158,7 +160,7 @@ fn enter_in(book: &mut [u8], frame: &[u8]) -> Answer
         return Answer::Malformed;
     }
     let door = frame[1];
-    if 199 < door {
+    if LAST < door {
         return Answer::NoSuchDoor;
     }
     let lock = number_at(frame, 2);
@@ -209,7 +211,7 @@ pub extern "C" fn book_lock(book: &[u8], door: u8) -> u32
     if book.len() != 800 {
         return 0;
     }
-    if 199 < door {
+    if LAST < door {
         return 0;
     }
     number_at(book, 4 * (door as usize))

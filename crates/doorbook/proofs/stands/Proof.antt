@@ -8,10 +8,10 @@ use Rattle.doorbook.proofs.stands.Statement.{statement}
 use Rattle.doorbook.proofs.stands.Tie as tie
 
 abbrev Inv-loop : tie.InvT-loop
-Inv-loop lock locks i₀ i = Searched lock locks i
+Inv-loop lock locks door₀ door = Searched lock locks door
 
 abbrev μ-loop : tie.MeasureT-loop
-μ-loop lock locks i₀ i = 200 - i
+μ-loop lock locks door₀ door = 200 - door
 
 loop-holds : tie.Need-loop-holds Inv-loop μ-loop
 loop-holds c = record { within = omega arith; rest = refl }
@@ -25,8 +25,8 @@ array-read-if1 c = search needs
 returns : tie.Need-returns Inv-loop μ-loop
 returns c = found _ _ _ (search needs) (c .before .before .loop .inv) (c .before .loop-test .taken) (c .if1 .taken)
 
-add-i : tie.Need-add-i Inv-loop μ-loop
-add-i c = search needs
+add-door : tie.Need-add-door Inv-loop μ-loop
+add-door c = search needs
 
 loop-less : tie.Need-loop-less Inv-loop μ-loop
 loop-less c = search needs
@@ -47,7 +47,7 @@ stands-spec =
     mul-if1
     array-read-if1
     returns
-    add-i
+    add-door
     loop-less
     loop-again
     returns-2)
