@@ -11,10 +11,10 @@ use lib.ListN.{length, getD, set, replicate, length-set, length-replicate, getD-
 use lib.Seq.{getD-set-same, getD-set-other}
 use Rattle.doorbook.specs.declared.Answer.{Answer}
 use Rattle.doorbook.specs.Book.{emptyBook, lockAt, stands, answerTo, codeOf, isAccepted, after}
-use Rattle.doorbook.specs.Bytes.{locksOf, fittedAt, afterBytes, enterBytes}
+use Rattle.doorbook.specs.Bytes.{locksOf, fittedAt, bytesAfter, enterBytes}
 use Rattle.doorbook.specs.Frame.{isFrame, doorOf, newLock, superseded}
-use Rattle.doorbook.specs.Runs.{bookAfter, entries, lastNew, EveryRun}
-use Rattle.doorbook.specs.Runs.{bytesAfter, EveryRunInPlace}
+use Rattle.doorbook.specs.Runs.{afterRun, answered, lastNew, EveryRun}
+use Rattle.doorbook.specs.Runs.{bytesAfterRun, EveryRunInPlace}
 use Rattle.doorbook.proofs.Laws.Answers.{beyond, within}
 use Rattle.doorbook.proofs.Laws.Bytes.{length-fitted, locks-fitted}
 
@@ -60,7 +60,10 @@ module _ (book f : List ℕ) where
       (eqb (superseded f) (lockAt book (doorOf f)))
     where
       go : (w d n o : Bool)
-          → isAccepted (cond (not w) Answer.Malformed (cond d Answer.NoSuchDoor (cond n Answer.NotNew (cond (not o) Answer.NotThere Answer.Entered)))) ≡ true
+          → isAccepted
+          (cond (not w) Answer.Malformed (cond d Answer.NoSuchDoor (cond n Answer.NotNew
+          (cond (not o) Answer.NotThere Answer.Entered))))
+          ≡ true
           → (d ≡ false) × (n ≡ false)
       go false d n o e = (cc, cc)
       go true true n o e = (cc, cc)
@@ -142,18 +145,18 @@ sound-after book f s = go (isAccepted (answerTo book f)) refl
         sound-set book (doorOf f) (newLock f) s (a-door book f e) (a-lock book f e)
         (not-standing book f e)
 
-sound-run : (fs : List (List ℕ)) (book : List ℕ) → Sound book → Sound (bookAfter book fs)
-unfolding bookAfter
+sound-run : (fs : List (List ℕ)) (book : List ℕ) → Sound book → Sound (afterRun book fs)
+unfolding afterRun
 sound-run [] book s = s
 sound-run (f ∷ fs) book s = sound-run fs (after book f) (sound-after book f s)
 
 last-run : (fs : List (List ℕ)) (book : List ℕ) (d : ℕ) → Sound book
-    → lockAt (bookAfter book fs) d ≡ lastNew d (entries book fs) (lockAt book d)
-unfolding bookAfter entries lastNew
+    → lockAt (afterRun book fs) d ≡ lastNew d (answered book fs) (lockAt book d)
+unfolding afterRun answered lastNew
 last-run [] book d s = refl
 last-run (f ∷ fs) book d s =
     last-run fs (after book f) d (sound-after book f s)
-    ∙ ap (lastNew d (entries (after book f) fs)) (lock-after book f d (s .size))
+    ∙ ap (lastNew d (answered (after book f) fs)) (lock-after book f d (s .size))
 
 none : (d : ℕ) → lockAt emptyBook d ≡ 0
 none d = go (decLe d 199)
@@ -169,7 +172,7 @@ sound-empty =
 pub every-run : EveryRun
 every-run fs =
     record {
-      last = λ d. last-run fs emptyBook d sound-empty ∙ ap (lastNew d (entries emptyBook fs)) (none d);
+      last = λ d. last-run fs emptyBook d sound-empty ∙ ap (lastNew d (answered emptyBook fs)) (none d);
       once = sound-run fs emptyBook sound-empty .once;
     }
 
@@ -179,7 +182,7 @@ record Holds (bytes book : List ℕ) : Type 0 where
   locks : locksOf bytes ≡ book
 
 holds-after : (bytes book f : List ℕ) → Holds bytes book → Holds (enterBytes bytes f) (after book f)
-unfolding afterBytes after
+unfolding bytesAfter after
 holds-after bytes book f h =
     rw (eq-eqb _ _ (h .size), ← (h .locks))
     (go (isAccepted (answerTo (locksOf bytes) f)) (a-door (locksOf bytes) f))
@@ -196,8 +199,8 @@ holds-after bytes book f h =
         }
 
 holds-run : (fs : List (List ℕ)) (bytes book : List ℕ) → Holds bytes book
-    → Holds (bytesAfter bytes fs) (bookAfter book fs)
-unfolding bytesAfter bookAfter
+    → Holds (bytesAfterRun bytes fs) (afterRun book fs)
+unfolding bytesAfterRun afterRun
 holds-run [] bytes book h = h
 holds-run (f ∷ fs) bytes book h =
     holds-run fs (enterBytes bytes f) (after book f) (holds-after bytes book f h)

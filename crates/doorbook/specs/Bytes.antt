@@ -23,8 +23,8 @@ fittedAt at bytes f =
     take at bytes ++ (getD f 2 0 ∷ getD f 3 0 ∷ getD f 4 0 ∷ getD f 5 0 ∷ []) ++ drop (at + 4) bytes
 
 -- An accepted frame puts the new lock at the door; a refused one leaves every byte alone.
-unfoldable pub afterBytes : List ℕ → List ℕ → List ℕ
-afterBytes bytes f =
+unfoldable pub bytesAfter : List ℕ → List ℕ → List ℕ
+bytesAfter bytes f =
     cond (isAccepted (answerTo (locksOf bytes) f)) (fittedAt (4 * doorOf f) bytes f) bytes
 
 -- What a caller in another language gets, and what its bytes then are: 255, with nothing written,
@@ -33,7 +33,7 @@ abbrev pub enterCode : List ℕ → List ℕ → ℕ
 enterCode bytes f = cond (isBook bytes) (codeOf (answerTo (locksOf bytes) f)) 255
 
 abbrev pub enterBytes : List ℕ → List ℕ → List ℕ
-enterBytes bytes f = cond (isBook bytes) (afterBytes bytes f) bytes
+enterBytes bytes f = cond (isBook bytes) (bytesAfter bytes f) bytes
 
 -- The lock at a door; no lock stands in bytes that are no book.
 abbrev pub lockIn : List ℕ → ℕ → ℕ

@@ -1,15 +1,17 @@
 // The door book: which lock stands at each of 200 doors. Replacing a lock is a frame of ten bytes,
 // which the book enters or refuses. It stands apart from the hub.
 
-ghost use Prim.Native.Nat.{_+_, _*_, _<_, _≤_};
+ghost use Prim.Native.Nat.{_+_, _<_, _≤_};
 ghost use mathlib.Core.Path.{_≡_};
 ghost use lib.ListN.{length};
 ghost use Rattle.doorbook.specs.Book.{after, answerTo, codeOf, emptyBook, lockAt, stands};
-ghost use Rattle.doorbook.specs.Bytes.{afterBytes, enterBytes, enterCode, fittedAt, lockIn};
+ghost use Rattle.doorbook.specs.Bytes.{bytesAfter, enterBytes, enterCode, fittedAt, lockIn};
 ghost use Rattle.doorbook.specs.Bytes.{locksOf};
 ghost use Rattle.doorbook.specs.Frame.{isFrame, numberAt};
 
 const LAST: u8 = 199; // the highest door
+
+const NONE: u32 = 0; // stands at a door without a lock
 
 // How a frame is answered: 12, 19, 20, 21, 41 (`codeOf`).
 pub enum Answer {
@@ -74,7 +76,7 @@ impl Book {
     pub fn empty() -> Book
         ensures { λ r. ⌜ r .locks ≡ emptyBook ⌝ }
     {
-        Book { locks: [0; 200] }
+        Book { locks: [NONE; 200] }
     }
 
     // The lock at a door: 0 if none or the door is above 199.
@@ -82,7 +84,7 @@ impl Book {
         ensures { λ r. ⌜ r ≡ lockAt (self .locks) door ⌝ }
     {
         if LAST < door {
-            return 0;
+            return NONE;
         }
         self.locks[door as usize]
     }
@@ -100,7 +102,7 @@ impl Book {
             return refused(Answer::NoSuchDoor, self);
         }
         let lock = number_at(frame, 2);
-        if lock == 0 {
+        if lock == NONE {
             return refused(Answer::NotNew, self);
         }
         let locks = self.locks;
@@ -154,7 +156,7 @@ fn fit(book: &mut [u8], at: usize, frame: &[u8])
 fn enter_in(book: &mut [u8], frame: &[u8]) -> Answer
     requires { ⌜ length (now book) ≡ 800 ⌝ }
     ensures { λ r. ⌜ (r ≡ answerTo (locksOf (now (book .entry))) (now (frame .entry)))
-        × (now (book .exit) ≡ afterBytes (now (book .entry)) (now (frame .entry))) ⌝ }
+        × (now (book .exit) ≡ bytesAfter (now (book .entry)) (now (frame .entry))) ⌝ }
 {
     if !is_frame(frame) {
         return Answer::Malformed;
@@ -164,7 +166,7 @@ fn enter_in(book: &mut [u8], frame: &[u8]) -> Answer
         return Answer::NoSuchDoor;
     }
     let lock = number_at(frame, 2);
-    if lock == 0 {
+    if lock == NONE {
         return Answer::NotNew;
     }
     if stands_in(book, lock) {
@@ -209,10 +211,10 @@ pub extern "C" fn book_lock(book: &[u8], door: u8) -> u32
     ensures { λ r. ⌜ r ≡ lockIn (now (book .entry)) door ⌝ }
 {
     if book.len() != 800 {
-        return 0;
+        return NONE;
     }
     if LAST < door {
-        return 0;
+        return NONE;
     }
     number_at(book, 4 * (door as usize))
 }

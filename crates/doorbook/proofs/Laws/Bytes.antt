@@ -8,7 +8,7 @@ use lib.ListN.{length, getD, set, take, drop, length-append, length-take, length
 use lib.Seq.{sets-eq}
 use Rattle.doorbook.specs.declared.Answer.{Answer}
 use Rattle.doorbook.specs.Book.{answerTo, isAccepted}
-use Rattle.doorbook.specs.Bytes.{locksOf, fittedAt, afterBytes}
+use Rattle.doorbook.specs.Bytes.{locksOf, fittedAt, bytesAfter}
 use Rattle.doorbook.specs.Frame.{number, numberAt, doorOf, newLock}
 
 pub length-locks : (l : List ℕ) → length (locksOf l) ≡ length l / 4
@@ -87,11 +87,11 @@ four-written l at p q r s h =
 -- How a frame leaves the bytes.
 module _ (b f : List ℕ) where
   pub refused : {a : Answer} → isAccepted a ≡ false → a ≡ answerTo (locksOf b) f
-      → (a ≡ answerTo (locksOf b) f) × (b ≡ afterBytes b f)
-  unfolding afterBytes
+      → (a ≡ answerTo (locksOf b) f) × (b ≡ bytesAfter b f)
+  unfolding bytesAfter
   refused k e = (e, rw (← e, k))
 
   pub fitted : {l : List ℕ} → l ≡ fittedAt (4 * doorOf f) b f → Answer.Entered ≡ answerTo (locksOf b) f
-      → (Answer.Entered ≡ answerTo (locksOf b) f) × (l ≡ afterBytes b f)
-  unfolding afterBytes
+      → (Answer.Entered ≡ answerTo (locksOf b) f) × (l ≡ bytesAfter b f)
+  unfolding bytesAfter
   fitted l e = (e, rw (← e) l)

@@ -18,19 +18,21 @@ returns c =
 shared-slice-read-door : tie.Need-shared-slice-read-door
 shared-slice-read-door c =
     let e = c .before in
-    let h = ten (e .before .before .before .before .args .frame .now) (e .before .is-frame .ensures) (e .if1 .left) in
+    let f = e .before .before .before .before .args .frame .now in
+    let h = ten f (e .before .is-frame .ensures) (e .if1 .left) in
     search needs
 
 returns-2 : tie.Need-returns-2
 returns-2 c =
     let e = c .before .before in
     refused _ _ refl
-    (no-such-door _ _ (e .before .is-frame .ensures) (e .if1 .left) (c .if2 .taken))
+    (no-such-door _ _ (e .before .is-frame .ensures) (e .if1 .left) (omega (arith, c .if2 .taken)))
 
 number-at-requires : tie.Need-number-at-requires
 number-at-requires c κs =
     let e = c .before .before in
-    let h = ten (e .before .before .before .before .args .frame .now) (e .before .is-frame .ensures) (e .if1 .left) in
+    let f = e .before .before .before .before .args .frame .now in
+    let h = ten f (e .before .is-frame .ensures) (e .if1 .left) in
     search needs
 
 returns-3 : tie.Need-returns-3
@@ -38,7 +40,7 @@ returns-3 c =
     let n = c .before in
     let e = n .before .before .before in
     refused _ _ refl
-    (no-lock _ _ (e .before .is-frame .ensures) (e .if1 .left) (n .before .if2 .left)
+    (no-lock _ _ (e .before .is-frame .ensures) (e .if1 .left) (omega (arith, n .before .if2 .left))
     (n .number-at .ensures) (c .if3 .taken))
 
 stands-in-requires : tie.Need-stands-in-requires
@@ -53,7 +55,7 @@ returns-4 c =
     let n = s .before .before .before in
     let e = n .before .before .before in
     refused _ _ refl
-    (standing _ _ (e .before .is-frame .ensures) (e .if1 .left) (n .before .if2 .left)
+    (standing _ _ (e .before .is-frame .ensures) (e .if1 .left) (omega (arith, n .before .if2 .left))
     (n .number-at .ensures) (s .before .before .if3 .left) (sym (s .stands-in .ensures) ∙ c .if4 .taken))
 
 cast-at : tie.Need-cast-at
@@ -69,7 +71,8 @@ number-at-requires-3 : tie.Need-number-at-requires-3
 number-at-requires-3 c κs =
     let n = c .before .before .before .before .before .before in
     let e = n .before .before .before in
-    let h = ten (e .before .before .before .before .args .frame .now) (e .before .is-frame .ensures) (e .if1 .left) in
+    let f = e .before .before .before .before .args .frame .now in
+    let h = ten f (e .before .is-frame .ensures) (e .if1 .left) in
     search needs
 
 same-length-2 : tie.Need-same-length-2
@@ -83,8 +86,9 @@ returns-5 c =
     let n = s .before .before .before in
     let e = n .before .before .before in
     refused _ _ refl
-    (not-there _ _ (e .before .is-frame .ensures) (e .if1 .left) (n .before .if2 .left)
-    (n .number-at .ensures) (s .before .before .if3 .left) (sym (s .stands-in .ensures) ∙ t .before .before .if4 .left)
+    (not-there _ _ (e .before .is-frame .ensures) (e .if1 .left) (omega (arith, n .before .if2 .left))
+    (n .number-at .ensures) (s .before .before .if3 .left)
+    (sym (s .stands-in .ensures) ∙ t .before .before .if4 .left)
     (t .number-at2 .ensures ∙ sym (lock-there _ _ (omega arith))) (o .number-at3 .ensures) (c .if5 .taken))
 
 fit-requires : tie.Need-fit-requires
@@ -93,7 +97,8 @@ fit-requires c κs =
     let s = t .before .before .before in
     let n = s .before .before .before in
     let e = n .before .before .before in
-    let h = ten (e .before .before .before .before .args .frame .now) (e .before .is-frame .ensures) (e .if1 .left) in
+    let f = e .before .before .before .before .args .frame .now in
+    let h = ten f (e .before .is-frame .ensures) (e .if1 .left) in
     search needs
 
 same-length-3 : tie.Need-same-length-3
@@ -108,9 +113,11 @@ returns-6 c =
     let n = s .before .before .before in
     let e = n .before .before .before in
     fitted _ _ (f .fit .ensures)
-    (entered _ _ (e .before .is-frame .ensures) (e .if1 .left) (n .before .if2 .left)
-    (n .number-at .ensures) (s .before .before .if3 .left) (sym (s .stands-in .ensures) ∙ t .before .before .if4 .left)
-    (t .number-at2 .ensures ∙ sym (lock-there _ _ (omega arith))) (o .number-at3 .ensures) (f .before .before .if5 .left))
+    (entered _ _ (e .before .is-frame .ensures) (e .if1 .left) (omega (arith, n .before .if2 .left))
+    (n .number-at .ensures) (s .before .before .if3 .left)
+    (sym (s .stands-in .ensures) ∙ t .before .before .if4 .left)
+    (t .number-at2 .ensures ∙ sym (lock-there _ _ (omega arith))) (o .number-at3 .ensures)
+    (f .before .before .if5 .left))
 
 pub enter-in-spec : {M : Type 1} → statement M
 enter-in-spec =

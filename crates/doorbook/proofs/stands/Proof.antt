@@ -23,7 +23,7 @@ array-read-if1 : tie.Need-array-read-if1 Inv-loop μ-loop
 array-read-if1 c = search needs
 
 returns : tie.Need-returns Inv-loop μ-loop
-returns c = found _ _ _ (search needs) (c .before .before .loop .inv) (c .before .loop-test .taken) (c .if1 .taken)
+returns c = found _ _ _ (search needs) (c .before .before .loop .inv) (omega arith) (c .if1 .taken)
 
 add-door : tie.Need-add-door Inv-loop μ-loop
 add-door c = search needs
@@ -32,10 +32,10 @@ loop-less : tie.Need-loop-less Inv-loop μ-loop
 loop-less c = search needs
 
 loop-again : tie.Need-loop-again Inv-loop μ-loop
-loop-again c = onward _ _ _ (search needs) (c .before .before .loop .inv) (c .before .loop-test .taken) (c .if1 .left)
+loop-again c = onward _ _ _ (search needs) (c .before .before .loop .inv) (omega arith) (c .if1 .left)
 
 returns-2 : tie.Need-returns-2 Inv-loop μ-loop
-returns-2 c = nowhere _ _ _ (search needs) (c .before .loop .inv) (c .loop-test .left)
+returns-2 c = nowhere _ _ _ (search needs) (c .before .loop .inv) (omega arith)
 
 pub stands-spec : {M : Type 1} → statement M
 stands-spec =

@@ -27,7 +27,7 @@ number-at-requires c κs = search needs
 returns : tie.Need-returns Inv-loop μ-loop
 returns c =
     let l = c .before .before .before in
-    found _ _ _ (locks-200 _ (l .before .before .pre)) (l .loop .inv) (c .before .before .loop-test .taken)
+    found _ _ _ (locks-200 _ (l .before .before .pre)) (l .loop .inv) (omega arith)
     (lock-there _ _ (omega arith) ∙ sym (c .before .number-at .ensures) ∙ c .if1 .taken)
 
 add-i : tie.Need-add-i Inv-loop μ-loop
@@ -39,12 +39,12 @@ loop-less c = search needs
 loop-again : tie.Need-loop-again Inv-loop μ-loop
 loop-again c =
     let l = c .before .before .before in
-    onward _ _ _ (locks-200 _ (l .before .before .pre)) (l .loop .inv) (c .before .before .loop-test .taken)
+    onward _ _ _ (locks-200 _ (l .before .before .pre)) (l .loop .inv) (omega arith)
     (λ e. c .if1 .left (c .before .number-at .ensures ∙ sym (lock-there _ _ (omega arith)) ∙ e))
 
 returns-2 : tie.Need-returns-2 Inv-loop μ-loop
 returns-2 c =
-    nowhere _ _ _ (locks-200 _ (c .before .before .before .pre)) (c .before .loop .inv) (c .loop-test .left)
+    nowhere _ _ _ (locks-200 _ (c .before .before .before .pre)) (c .before .loop .inv) (omega arith)
 
 pub stands-in-spec : {M : Type 1} → statement M
 stands-in-spec =

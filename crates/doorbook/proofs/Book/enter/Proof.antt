@@ -1,4 +1,5 @@
 -- `enter` meets its contract: its tests, in order, are those of the definition.
+use native.Mathlib.Omega.{arith}
 use mathlib.Core.Path.{refl, sym, _∙_}
 use Rattle.doorbook.proofs.Laws.Answers.{ten, changed, malformed, no-such-door, no-lock}
 use Rattle.doorbook.proofs.Laws.Answers.{standing, not-there, entered}
@@ -33,7 +34,7 @@ returns-2 c =
     let e = c .before .before .before in
     refuses _ (c .refused2 .ensures) refl
     (no-such-door _ _ (e .before .is-frame .ensures) (e .if1 .left)
-    (c .before .if2 .taken))
+    (omega (arith, c .before .if2 .taken)))
 
 number-at-requires : tie.Need-number-at-requires
 number-at-requires c κs =
@@ -49,7 +50,7 @@ returns-3 c =
     let n = c .before .before in
     let e = n .before .before .before in
     refuses _ (c .refused3 .ensures) refl
-    (no-lock _ _ (e .before .is-frame .ensures) (e .if1 .left) (n .before .if2 .left)
+    (no-lock _ _ (e .before .is-frame .ensures) (e .if1 .left) (omega (arith, n .before .if2 .left))
     (n .number-at .ensures) (c .before .if3 .taken))
 
 stands-requires : tie.Need-stands-requires
@@ -64,7 +65,7 @@ returns-4 c =
     let n = s .before .before .before in
     let e = n .before .before .before in
     refuses _ (c .refused4 .ensures) refl
-    (standing _ _ (e .before .is-frame .ensures) (e .if1 .left) (n .before .if2 .left)
+    (standing _ _ (e .before .is-frame .ensures) (e .if1 .left) (omega (arith, n .before .if2 .left))
     (n .number-at .ensures) (s .before .before .if3 .left) (sym (s .stands .ensures) ∙ c .before .if4 .taken))
 
 cast-if5 : tie.Need-cast-if5
@@ -93,7 +94,7 @@ returns-5 c =
     let n = s .before .before .before in
     let e = n .before .before .before in
     refuses _ (c .refused5 .ensures) refl
-    (not-there _ _ (e .before .is-frame .ensures) (e .if1 .left) (n .before .if2 .left)
+    (not-there _ _ (e .before .is-frame .ensures) (e .if1 .left) (omega (arith, n .before .if2 .left))
     (n .number-at .ensures) (s .before .before .if3 .left) (sym (s .stands .ensures) ∙ o .before .if4 .left)
     refl (o .number-at2 .ensures) (c .before .if5 .taken))
 
