@@ -26,6 +26,7 @@ refusalCode Refusal.AtRest = 8
 refusalCode Refusal.NotWaiting = 9
 refusalCode Refusal.NotCancellable = 10
 refusalCode Refusal.NotHolding = 11
+refusalCode Refusal.SameRadios = 14
 
 abbrev pub printed : Answer → Printed
 printed (Answer.Refused r) = plain (refusalCode r)
@@ -50,3 +51,8 @@ printed (Answer.MarkedCancelled t) = withNumber 0x30 t
 printed (Answer.PassedOn t) = withNumber 0x31 t
 printed (Answer.MarkedRefused t) = withNumber 0x32 t
 printed (Answer.DroppedPermit t) = withNumber 0x33 t
+printed Answer.Fetched = plain 0x36
+printed Answer.NotYet = plain 0x37
+printed Answer.Stored = plain 0x38
+printed (Answer.Radio r) = withNumber 0x39 r
+printed Answer.NoRadio = plain 0x39

@@ -8,17 +8,20 @@ use Rattle.hub.specs.declared.answers.Refusal.{Refusal}
 use Rattle.hub.specs.declared.moves.Call.{Call}
 use Rattle.hub.specs.Moves.{Change}
 use Rattle.hub.specs.Moves.{Move}
-use Rattle.hub.specs.Moves.{Refuse, Act, Put, Wake}
+use Rattle.hub.specs.Moves.{Refuse, Tell, Act, Put, Wake}
 use Rattle.hub.specs.declared.moves.Sight.{Sight}
 use Rattle.hub.specs.declared.record.Hub.{Hub}
 use Rattle.hub.specs.declared.record.Outcome.{Outcome}
 use Rattle.hub.specs.declared.record.PartySlot.{PartySlot}
 use Rattle.hub.specs.declared.record.Phase.{Phase}
 use Rattle.hub.specs.declared.record.PlaceSlot.{PlaceSlot}
+use Rattle.hub.specs.declared.record.Pool.{Pool}
+use Rattle.hub.specs.Answers.{printed}
 use Rattle.hub.specs.Basics.{count}
 use Rattle.hub.specs.Fits.{fits}
 use Rattle.hub.specs.Look.{look}
 use Rattle.hub.specs.Phases.{byTicket, drawsTicket}
+use Rattle.hub.specs.Radios.{poolAfter}
 use Rattle.hub.specs.Record.{phasesOf, writeSlot}
 use Rattle.hub.specs.Ring.{PLACES, Ring, reclaimed, writeSeat}
 use Rattle.hub.specs.Table.{decide, withResumed}
@@ -47,6 +50,7 @@ acted h p c =
       oldest = h .oldest;
       places = h .places;
       slots = writeSlot (h .slots) p (c .slot);
+      pool = h .pool;
     }
 
 -- The place of the ticket of a phase f becomes a.
@@ -58,6 +62,7 @@ placed h f a =
       oldest = h .oldest;
       places = byTicket (h .places) (λ t. writeSeat (h .places) t a) f;
       slots = h .slots;
+      pool = h .pool;
     }
 
 -- The slot of the waiter q becomes s.
@@ -69,6 +74,7 @@ woken h q s =
       oldest = h .oldest;
       places = h .places;
       slots = writeSlot (h .slots) q s;
+      pool = h .pool;
     }
 
 -- The tidying.
@@ -83,6 +89,7 @@ withRing h r =
       oldest = r .oldest;
       places = r .places;
       slots = h .slots;
+      pool = h .pool;
     }
 
 unfoldable pub tidied : Hub → Hub
@@ -91,20 +98,40 @@ tidied h = withRing h (reclaimed (ringOf h))
 -- What a move answers.
 abbrev pub answerOf : Move → Answer
 answerOf (Refuse r) = Answer.Refused r
+answerOf (Tell y) = y
 answerOf (Act c) = c .answer
 answerOf (Put a c) = c .answer
 answerOf (Wake q s a c) = c .answer
 
--- The record that it leaves. A refusal leaves it as it was; all else ends with the tidying.
+-- The record that it leaves, but for the radios. A refusal leaves it as it was, and so do 37 and 39; all
+-- else ends with the tidying.
 unfoldable pub apply : Hub → Sight → Move → Hub
 apply h s (Refuse r) = h
+apply h s (Tell y) = h
 apply h s (Act c) = tidied (acted h (s .party) c)
 apply h s (Put a c) = tidied (acted (placed h (s .slot .phase) a) (s .party) c)
 apply h s (Wake q x a c) =
     tidied (acted (placed (woken h q x) (s .slot .phase) a) (s .party) c)
 
+-- The record with other radios.
+abbrev pub withPool : Pool → Hub → Hub
+withPool q h =
+    record {
+      opening = h .opening;
+      figures = h .figures;
+      oldest = h .oldest;
+      places = h .places;
+      slots = h .slots;
+      pool = q;
+    }
+
 -- What a call answers, and the record that it leaves.
 abbrev pub called : Hub → Call → Outcome
 called h c =
     let m = moveOf h c in
-    record { answer = answerOf m; hub = apply h (look h (c .party)) m }
+    record {
+      answer = answerOf m;
+      hub =
+          withPool (poolAfter (h .opening .named) (printed (answerOf m)) (c .party) (h .pool))
+          (apply h (look h (c .party)) m);
+    }

@@ -16,7 +16,7 @@ use Rattle.hub.specs.Calls.{called}
 use Rattle.hub.specs.Basics.{count}
 use Rattle.hub.specs.Phases.{holds, isWaiting}
 use Rattle.hub.specs.Record.{phasesOf}
-use Rattle.hub.specs.Opening.{opening}
+use Rattle.hub.specs.Opening.{opening, sized}
 
 -- A step of a run: the counter before the call, the call, and what it must answer.
 pub record Row : Type 0 where
@@ -27,9 +27,9 @@ pub record Row : Type 0 where
 abbrev pub at : ℤ → Op → ℕ → Printed → Row
 at z o p r = record { counter = z; call = record { op = o; party = p }; answer = r }
 
--- K and n.
-abbrev pub sized : ℕ → ℕ → Opening
-sized k n = record { permits = k; parties = n }
+-- K, n, and the radios of an opening 02.
+abbrev pub withRadios : ℕ → ℕ → List ℕ → Opening
+withRadios k n rs = record { permits = k; parties = n; named = true; radios = rs }
 
 pub data Edge : Type 0 where
   -- An opening, and its code.
@@ -78,7 +78,7 @@ withdrawn =
     ∷ at (negsuc 0) Step 1 (plain 0x2E)
     ∷ []
 
--- Party n, in each of the calls, and party n − 1.
+-- Party n, in each of the four calls, and party n − 1.
 abbrev pub bounded : List Row
 bounded =
     at (pos 1) Acquire 3 (plain 0x04)
@@ -89,6 +89,42 @@ bounded =
     ∷ at (pos 1) Step 2 (plain 0x21)
     ∷ at (pos 0) Cancel 2 (plain 0x09)
     ∷ at (pos 0) Release 2 (plain 0x20)
+    ∷ []
+
+-- First in, first out, with radios 0A and 0B: party 0 puts back what it took, and party 1 takes the other
+-- one; then 37, when party 0's permit is the counter's and its radio not yet the store's.
+abbrev pub inTurn : List Row
+inTurn =
+    at (pos 2) Acquire 0 (plain 0x20)
+    ∷ at (pos 2) Step 0 (plain 0x21)
+    ∷ at (pos 1) Op.Radio 0 (plain 0x39)
+    ∷ at (pos 1) Step 0 (plain 0x36)
+    ∷ at (pos 1) Op.Radio 0 (withNumber 0x39 0x0A)
+    ∷ at (pos 1) Release 0 (plain 0x20)
+    ∷ at (pos 1) Step 0 (plain 0x26)
+    ∷ at (pos 2) Op.Radio 0 (withNumber 0x39 0x0A)
+    ∷ at (pos 2) Step 0 (plain 0x38)
+    ∷ at (pos 2) Op.Radio 0 (plain 0x39)
+    ∷ at (pos 2) Acquire 1 (plain 0x20)
+    ∷ at (pos 2) Step 1 (plain 0x21)
+    ∷ at (pos 1) Step 1 (plain 0x36)
+    ∷ at (pos 1) Op.Radio 1 (withNumber 0x39 0x0B)
+    ∷ at (pos 1) Op.Radio 3 (plain 0x04)
+    ∷ []
+
+abbrev pub notYet : List Row
+notYet =
+    at (pos 1) Acquire 0 (plain 0x20)
+    ∷ at (pos 1) Step 0 (plain 0x21)
+    ∷ at (pos 0) Step 0 (plain 0x36)
+    ∷ at (pos 0) Release 0 (plain 0x20)
+    ∷ at (pos 0) Step 0 (plain 0x26)
+    ∷ at (pos 1) Acquire 1 (plain 0x20)
+    ∷ at (pos 1) Step 1 (plain 0x21)
+    ∷ at (pos 0) Step 1 (plain 0x37)
+    ∷ at (pos 0) Step 0 (plain 0x38)
+    ∷ at (pos 0) Step 1 (plain 0x36)
+    ∷ at (pos 0) Op.Radio 1 (withNumber 0x39 0x2F)
     ∷ []
 
 unfoldable pub edges : List Edge
@@ -105,6 +141,12 @@ edges =
     ∷ runs (sized 1 3) bounded 1 0 (pos 0)
     ∷ runs (sized 32 32) (at (pos 32) Acquire 32 (plain 0x04) ∷ at (pos 32) Acquire 31 (plain 0x20) ∷ []) 0 0
     (pos 32)
+    ∷ opens (withRadios 2 3 (0x0A ∷ 0x0B ∷ [])) 0x1F
+    ∷ opens (withRadios 2 3 (0x0A ∷ 0x0A ∷ [])) 0x0E
+    ∷ opens (withRadios 2 0 (0x0A ∷ 0x0A ∷ [])) 0x03
+    ∷ runs (withRadios 2 3 (0x0A ∷ 0x0B ∷ [])) inTurn 1 0 (pos 1)
+    ∷ runs (withRadios 1 2 (0x2F ∷ [])) notYet 1 0 (pos 0)
+    ∷ runs (sized 1 3) (at (pos 1) Op.Radio 0 (plain 0x39) ∷ []) 0 0 (pos 1)
     ∷ []
 
 -- Two counters, and two answers, alike?

@@ -15,7 +15,9 @@ use Rattle.hub.specs.declared.record.Place.the-variants.{Empty, Waiting 
 use Rattle.hub.specs.declared.record.Place.the-variants.{Cancelled, Refused}
 use Rattle.hub.specs.Basics.{allFrom, allOf, implies, upTo32}
 use Rattle.hub.specs.Look.{look}
-use Rattle.hub.specs.Phases.{byWaiter, isFree, isOneOf, isPlaceOf, stands, ticketOf}
+use Rattle.hub.specs.Opening.{radiosDiffer}
+use Rattle.hub.specs.Phases.{byWaiter, isFree, isOneOf, isPlaceOf, ofRadios, stands, ticketOf}
+use Rattle.hub.specs.Radios.{radiosIn, radiosOf, rearranged}
 use Rattle.hub.specs.Record.{PARTIES, MAX-BEGUN, readSlot}
 use Rattle.hub.specs.Ring.{PLACES, readPlace}
 
@@ -68,12 +70,12 @@ placeListed x a =
     (isPlaceOf (Empty ∷ WaitedBy 0 ∷ Cancelled ∷ Refused ∷ []) a)
     ∷ [])
 
--- Parties from n up are free; tickets fit; places are listed.
+-- Parties from n up are free; tickets fit; places are listed; two phases fit on a hub with radios alone.
 unfoldable pub partyFits : Hub → ℕ → Bool
 partyFits h p =
     let f = readSlot (h .slots) p .phase in
     (ltb p (h .opening .parties) || isFree f) && ticketFits (h .figures) (h .oldest) f
-    && placeListed f (look h p .seat .place)
+    && placeListed f (look h p .seat .place) && implies (ofRadios f) (h .opening .named)
 
 abbrev pub standsAt : Phase → ℕ → Bool
 standsAt f t = stands f && eqb (ticketOf f) t
@@ -83,8 +85,16 @@ unfoldable pub placeFits : Hub → ℕ → Bool
 placeFits h t =
     byWaiter true (λ q. standsAt (readSlot (h .slots) q .phase) t) (readPlace (h .places) t)
 
--- All 32 parties, and the places of all 256 tickets.
+-- On a hub with radios: those of its opening are no two alike, and each of them is with one party, at
+-- one place, or stored.
+unfoldable pub radiosFit : Hub → Bool
+radiosFit h =
+    radiosDiffer (h .opening)
+    && implies (h .opening .named)
+    (rearranged (radiosIn (h .slots) (h .places) (h .pool)) (radiosOf (h .opening)))
+
+-- All 32 parties, the places of all 256 tickets, and the radios.
 unfoldable pub fits : Hub → Bool
 fits h =
     figuresFit (h .opening) (h .figures) (h .oldest) && allFrom (partyFits h) 0 PARTIES
-    && allFrom (placeFits h) (h .oldest) PLACES
+    && allFrom (placeFits h) (h .oldest) PLACES && radiosFit h

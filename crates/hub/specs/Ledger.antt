@@ -13,8 +13,10 @@ use Rattle.hub.specs.Basics.{bit, count, among}
 use Rattle.hub.specs.Phases.{ticketOf, resumes, refuses}
 use Rattle.hub.specs.Record.{PARTIES}
 use Rattle.hub.specs.Schedule.{Entry}
+use Rattle.hub.specs.Table.{withPermit, withoutPermit}
 
 pub record Ledger : Type 0 where
+  pub named : Bool  -- does the hub have radios?
   pub phases : List Phase  -- each party's
   pub gave : ℕ  -- answers that gave a permit
   pub took : ℕ  -- answers that took one
@@ -29,6 +31,7 @@ pub record Ledger : Type 0 where
 abbrev pub opened : Opening → Ledger
 opened o =
     record {
+      named = o .named;
       phases = replicate PARTIES Phase.Free;
       gave = 0;
       took = 0;
@@ -43,14 +46,15 @@ opened o =
 abbrev pub phaseIn : List Phase → ℕ → Phase
 phaseIn l p = getD l p Phase.Free
 
--- The phase of a party whose call was accepted, by 20 (a step never is).
+-- The phase of a party whose call was accepted, by 20 (a step and call 14 never are).
 abbrev pub accepted : Op → Phase → Phase
 accepted Op.Acquire f = Phase.Acquiring
 accepted Op.Step f = f
 accepted Op.Cancel f = Phase.Aborting (ticketOf f)
 accepted Op.Release f = Phase.Releasing
+accepted Op.Radio f = f
 
--- The phase that an answer leads to, but for 20. The ticket of the phase before is t, and the
+-- The phase that an answer leads to, but for 20; 37 and 39 move nobody. The ticket of the phase before is t, and the
 -- number in the answer n.
 pub record Leads : Type 0 where
   pub code : ℕ
@@ -59,14 +63,14 @@ pub record Leads : Type 0 where
 abbrev pub to : ℕ → Phase → Leads
 to c x = record { code = c; phase = x }
 
-abbrev pub leads : ℕ → ℕ → List Leads
-leads t n =
-    to 0x21 Phase.Holding
+abbrev pub leads : Bool → ℕ → ℕ → List Leads
+leads named t n =
+    to 0x21 (withPermit named)
     ∷ to 0x22 Phase.Suspending
     ∷ to 0x23 (Phase.Ticketed n)
     ∷ to 0x24 (Phase.Waiting t)
     ∷ to 0x25 Phase.Holding
-    ∷ to 0x26 Phase.Free
+    ∷ to 0x26 (withoutPermit named)
     ∷ to 0x27 Phase.Resuming
     ∷ to 0x28 (Phase.ResumingAt n)
     ∷ to 0x29 Phase.Free
@@ -80,6 +84,8 @@ leads t n =
     ∷ to 0x31 Phase.Resuming
     ∷ to 0x32 Phase.Free
     ∷ to 0x33 Phase.Free
+    ∷ to 0x36 Phase.Holding
+    ∷ to 0x38 Phase.Free
     ∷ []
 
 -- What a list says of code c; f where it says nothing.
@@ -88,16 +94,16 @@ ledTo c [] f = f
 ledTo c (x ∷ xs) f = cond (eqb c (x .code)) (x .phase) (ledTo c xs f)
 
 -- The phase of the calling party after its answer; f is the one before.
-unfoldable pub phaseAfter : Op → Phase → Printed → Phase
-phaseAfter o f r =
+unfoldable pub phaseAfter : Bool → Op → Phase → Printed → Phase
+phaseAfter named o f r =
     cond (eqb (r .code) 0x20) (accepted o f)
-    (ledTo (r .code) (leads (ticketOf f) (r .number)) f)
+    (ledTo (r .code) (leads named (ticketOf f) (r .number)) f)
 
 -- A 2A makes the woken party holding.
-unfoldable pub phasesAfter : Op → ℕ → Printed → List Phase → List Phase
-phasesAfter o p r l =
+unfoldable pub phasesAfter : Bool → Op → ℕ → Printed → List Phase → List Phase
+phasesAfter named o p r l =
     let woken = cond (eqb (r .code) 0x2A) (set l (r .woken) Phase.Holding) l in
-    set woken p (phaseAfter o (phaseIn l p) r)
+    set woken p (phaseAfter named o (phaseIn l p) r)
 
 -- One less for each 21 and 22, one more for each 26, 27, 2E and 2F.
 unfoldable pub counterAfter : ℕ → ℤ → ℤ
@@ -135,7 +141,8 @@ abbrev pub succeeded : Op → ℕ → Printed → Ledger → Ledger
 succeeded o p r e =
     let c = r .code in
     record {
-      phases = phasesAfter o p r (e .phases);
+      named = e .named;
+      phases = phasesAfter (e .named) o p r (e .phases);
       gave = e .gave + gives c;
       took = e .took + takes c;
       counter = counterAfter c (e .counter);

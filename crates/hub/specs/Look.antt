@@ -1,18 +1,22 @@
 -- What a call of a party looks at, whatever keeps the places.
 use Prim.Native.Nat.{ℕ}
+use lib.Dec.{leb}
 use Rattle.hub.specs.declared.moves.Sight.{Sight}
+use Rattle.hub.specs.declared.opening.Opening.{Opening}
 use Rattle.hub.specs.declared.record.Figures.{Figures}
 use Rattle.hub.specs.declared.record.Hub.{Hub}
 use Rattle.hub.specs.declared.record.PartySlot.{PartySlot}
 use Rattle.hub.specs.declared.record.PlaceSlot.{PlaceSlot}
+use Rattle.hub.specs.declared.record.Pool.{Pool}
 use Rattle.hub.specs.Kinds.{kindOf}
 use Rattle.hub.specs.Phases.{byTicket, byWaiter}
+use Rattle.hub.specs.Radios.{handOf}
 use Rattle.hub.specs.Record.{emptySeat, freeSlot, readSlot}
 use Rattle.hub.specs.Ring.{readSeat}
 
 -- Party p, where these functions read the slots and the places.
-unfoldable pub seenBy : (ℕ → PartySlot) → (ℕ → PlaceSlot) → Figures → ℕ → Sight
-seenBy slot seat f p =
+unfoldable pub seenBy : (ℕ → PartySlot) → (ℕ → PlaceSlot) → Figures → Opening → Pool → ℕ → Sight
+seenBy slot seat f o q p =
     let a = byTicket emptySeat seat (slot p .phase) in
     record {
       party = p;
@@ -21,7 +25,10 @@ seenBy slot seat f p =
       seat = a;
       waiter = byWaiter freeSlot slot (a .place);
       figures = f;
+      named = o .named;
+      radio = handOf q p;
+      stocked = leb 1 (q .stored);
     }
 
 abbrev pub look : Hub → ℕ → Sight
-look h = seenBy (readSlot (h .slots)) (readSeat (h .places)) (h .figures)
+look h = seenBy (readSlot (h .slots)) (readSeat (h .places)) (h .figures) (h .opening) (h .pool)

@@ -6,7 +6,7 @@ use Rattle.hub.specs.declared.record.Phase.{Phase}
 use Rattle.hub.specs.declared.record.Phase.the-variants.{Free, Holding, Waiting, Acquiring}
 use Rattle.hub.specs.declared.record.Phase.the-variants.{Suspending, Ticketed, Aborting}
 use Rattle.hub.specs.declared.record.Phase.the-variants.{Cancelling, Refusing, Releasing}
-use Rattle.hub.specs.declared.record.Phase.the-variants.{Resuming, ResumingAt}
+use Rattle.hub.specs.declared.record.Phase.the-variants.{Resuming, ResumingAt, Fetching, Storing}
 use Rattle.hub.specs.declared.record.Place.{Place}
 use Rattle.hub.specs.declared.record.Place.the-variants.{Empty, Waiting as WaitedBy, Permit}
 use Rattle.hub.specs.declared.record.Place.the-variants.{Cancelled, Refused, Done}
@@ -28,6 +28,8 @@ byTicket z f =
       | Releasing ↦ z
       | Resuming ↦ z
       | ResumingAt t ↦ f t
+      | Fetching ↦ z
+      | Storing ↦ z
     ]
 
 -- A phase's ticket; 0 for a phase that has none.
@@ -50,6 +52,8 @@ rank =
       | Releasing ↦ 9
       | Resuming ↦ 10
       | ResumingAt t ↦ 11
+      | Fetching ↦ 12
+      | Storing ↦ 13
     ]
 
 -- Is a phase one of a list, whatever the tickets?
@@ -72,9 +76,17 @@ stands = isOneOf (Waiting 0 ∷ Aborting 0 ∷ Cancelling 0 ∷ Refusing 0 ∷ [
 abbrev pub atRest : Phase → Bool
 atRest = isOneOf (Free ∷ Holding ∷ Waiting 0 ∷ [])
 
--- A party holds a permit in phases holding and giving back.
+-- A party holds a permit in phases holding, giving back and fetching.
 abbrev pub holds : Phase → Bool
-holds = isOneOf (Holding ∷ Releasing ∷ [])
+holds = isOneOf (Holding ∷ Releasing ∷ Fetching ∷ [])
+
+-- And has a radio, on a hub with radios, in these.
+abbrev pub hasRadio : Phase → Bool
+hasRadio = isOneOf (Holding ∷ Releasing ∷ Storing ∷ Resuming ∷ ResumingAt 0 ∷ [])
+
+-- Fetching and putting back are phases of a hub with radios alone.
+abbrev pub ofRadios : Phase → Bool
+ofRadios = isOneOf (Fetching ∷ Storing ∷ [])
 
 -- Asked or unnumbered: it may yet draw a ticket.
 abbrev pub drawsTicket : Phase → Bool

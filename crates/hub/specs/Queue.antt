@@ -10,7 +10,7 @@ use Rattle.hub.specs.declared.answers.Answer.{Answer}
 use Rattle.hub.specs.declared.moves.Call.{Call}
 use Rattle.hub.specs.Moves.{Change}
 use Rattle.hub.specs.Moves.{Move}
-use Rattle.hub.specs.Moves.{Refuse, Act, Put, Wake}
+use Rattle.hub.specs.Moves.{Refuse, Tell, Act, Put, Wake}
 use Rattle.hub.specs.declared.moves.Sight.{Sight}
 use Rattle.hub.specs.declared.opening.Opening.{Opening}
 use Rattle.hub.specs.declared.record.Figures.{Figures}
@@ -18,10 +18,13 @@ use Rattle.hub.specs.declared.record.PartySlot.{PartySlot}
 use Rattle.hub.specs.declared.record.Phase.{Phase}
 use Rattle.hub.specs.declared.record.Place.{Place}
 use Rattle.hub.specs.declared.record.PlaceSlot.{PlaceSlot}
+use Rattle.hub.specs.declared.record.Pool.{Pool}
+use Rattle.hub.specs.Answers.{printed}
 use Rattle.hub.specs.Calls.{answerOf, checked}
 use Rattle.hub.specs.Look.{seenBy}
-use Rattle.hub.specs.Opening.{figuresAt}
+use Rattle.hub.specs.Opening.{figuresAt, poolAt}
 use Rattle.hub.specs.Phases.{byTicket, isCancelled}
+use Rattle.hub.specs.Radios.{poolAfter}
 use Rattle.hub.specs.Record.{PARTIES, emptySeat, freeSlot, phasesOf, readSlot, withPlace, writeSlot}
 use Rattle.hub.specs.Table.{decide, withResumed}
 
@@ -30,9 +33,10 @@ pub record Queue : Type 0 where
   pub figures : Figures
   pub cells : ℕ → PlaceSlot
   pub slots : List PartySlot
+  pub pool : Pool
 
 abbrev pub look : Queue → ℕ → Sight
-look m = seenBy (readSlot (m .slots)) (m .cells) (m .figures)
+look m = seenBy (readSlot (m .slots)) (m .cells) (m .figures) (m .opening) (m .pool)
 
 unfoldable pub write : (ℕ → PlaceSlot) → ℕ → PlaceSlot → ℕ → PlaceSlot
 write g t a u = cond (eqb u t) a (g u)
@@ -46,6 +50,7 @@ skipped m =
       figures = withResumed (t + 1) (m .figures);
       cells = write (m .cells) t (withPlace Place.Done (m .cells t));
       slots = m .slots;
+      pool = m .pool;
     }
 
 abbrev pub canSkip : Queue → Bool
@@ -67,6 +72,7 @@ acted m p c =
       figures = c .figures;
       cells = m .cells;
       slots = writeSlot (m .slots) p (c .slot);
+      pool = m .pool;
     }
 
 abbrev pub placed : Queue → Phase → PlaceSlot → Queue
@@ -76,6 +82,7 @@ placed m f a =
       figures = m .figures;
       cells = byTicket (m .cells) (λ t. write (m .cells) t a) f;
       slots = m .slots;
+      pool = m .pool;
     }
 
 abbrev pub woken : Queue → ℕ → PartySlot → Queue
@@ -85,10 +92,12 @@ woken m q s =
       figures = m .figures;
       cells = m .cells;
       slots = writeSlot (m .slots) q s;
+      pool = m .pool;
     }
 
 unfoldable pub apply : Queue → Sight → Move → Queue
 apply m s (Refuse r) = m
+apply m s (Tell y) = m
 apply m s (Act c) = tidied (acted m (s .party) c)
 apply m s (Put a c) = tidied (acted (placed m (s .slot .phase) a) (s .party) c)
 apply m s (Wake q x a c) =
@@ -98,8 +107,22 @@ abbrev pub moveOf : Queue → Call → Move
 moveOf m c =
     checked true (ltb (c .party) (m .opening .parties)) (decide (c .op) false (look m (c .party)))
 
+abbrev pub withPool : Pool → Queue → Queue
+withPool q m =
+    record {
+      opening = m .opening;
+      figures = m .figures;
+      cells = m .cells;
+      slots = m .slots;
+      pool = q;
+    }
+
+-- The radios move as at the hub.
 abbrev pub next : Queue → Call → Queue
-next m c = apply m (look m (c .party)) (moveOf m c)
+next m c =
+    let v = moveOf m c in
+    withPool (poolAfter (m .opening .named) (printed (answerOf v)) (c .party) (m .pool))
+    (apply m (look m (c .party)) v)
 
 unfoldable pub run : Queue → List Call → Queue
 run m [] = m
@@ -116,6 +139,7 @@ fresh o =
       figures = figuresAt o;
       cells = λ t. emptySeat;
       slots = replicate PARTIES freeSlot;
+      pool = poolAt o;
     }
 
 -- What the invariant looks at: everybody's phase, and the place of each ticket.

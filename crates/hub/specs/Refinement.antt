@@ -33,6 +33,7 @@ pub record Shows (h : Hub) (m : Queue) : Type 0 where
   pub figures : h .figures ≡ m .figures
   pub slots : h .slots ≡ m .slots
   pub window : Window (h .oldest) (h .places) (m .cells)
+  pub pool : h .pool ≡ m .pool
 
 abbrev pub isSeven : Answer → Bool
 isSeven r = eqb (printed r .code) 7

@@ -1,6 +1,6 @@
--- "Four calls": what each does, decided from what it looks at.
+-- "Four calls", and call 14: what each does, decided from what it looks at.
 use Prim.Native.Nat.{ℕ, suc, zero, _+_}
-use mathlib.Core.Bool.{Bool, true, false}
+use mathlib.Core.Bool.{Bool, true, false, cond, _&&_}
 use lib.Dec.{leb, eqb}
 use lib.IntN.{ℤ, pos, negsuc, sucℤ, predℤ}
 use Rattle.hub.specs.declared.answers.Answer.{Answer}
@@ -11,13 +11,14 @@ use Rattle.hub.specs.declared.answers.Answer.the-variants.{LeftPermit, W
 use Rattle.hub.specs.declared.answers.Answer.the-variants.{ResumeRefused, MustCancel, MustRefuse}
 use Rattle.hub.specs.declared.answers.Answer.the-variants.{MarkedCancelled, PassedOn}
 use Rattle.hub.specs.declared.answers.Answer.the-variants.{MarkedRefused, DroppedPermit}
+use Rattle.hub.specs.declared.answers.Answer.the-variants.{Fetched, NotYet, Stored, Radio, NoRadio}
 use Rattle.hub.specs.declared.answers.Refusal.{Refusal}
 use Rattle.hub.specs.declared.answers.Refusal.the-variants.{Unfit, NotFree, Exhausted, Full}
 use Rattle.hub.specs.declared.answers.Refusal.the-variants.{AtRest, NotWaiting, NotCancellable}
 use Rattle.hub.specs.declared.answers.Refusal.the-variants.{NotHolding}
 use Rattle.hub.specs.Moves.{Change}
 use Rattle.hub.specs.Moves.{Move}
-use Rattle.hub.specs.Moves.{Refuse, Act, Put, Wake}
+use Rattle.hub.specs.Moves.{Refuse, Tell, Act, Put, Wake}
 use Rattle.hub.specs.declared.moves.Op.{Op}
 use Rattle.hub.specs.declared.moves.Op.the-variants.{Acquire, Step, Cancel, Release}
 use Rattle.hub.specs.declared.moves.Sight.{Sight}
@@ -26,12 +27,12 @@ use Rattle.hub.specs.declared.record.Phase.{Phase}
 use Rattle.hub.specs.declared.record.Phase.the-variants.{Free, Holding, Waiting, Acquiring}
 use Rattle.hub.specs.declared.record.Phase.the-variants.{Suspending, Ticketed, Aborting}
 use Rattle.hub.specs.declared.record.Phase.the-variants.{Cancelling, Refusing, Releasing}
-use Rattle.hub.specs.declared.record.Phase.the-variants.{Resuming, ResumingAt}
+use Rattle.hub.specs.declared.record.Phase.the-variants.{Resuming, ResumingAt, Fetching, Storing}
 use Rattle.hub.specs.declared.record.Place.{Place}
 use Rattle.hub.specs.declared.record.Place.the-variants.{Empty, Waiting as WaitedBy, Permit}
 use Rattle.hub.specs.declared.record.Place.the-variants.{Cancelled, Refused, Done}
 use Rattle.hub.specs.Record.{MAX-BEGUN, withPhase, withPlace}
-use Rattle.hub.specs.Phases.{isFree, isHolding, isWaiting, ticketOf}
+use Rattle.hub.specs.Phases.{hasRadio, isFree, isHolding, isWaiting, ticketOf}
 
 -- Is the counter above 0? Below 0?
 abbrev pub aboveZero : ℤ → Bool
@@ -87,9 +88,16 @@ wake q t s =
 -- The step table, a phase after the other. Where the table lists no such place the record does not
 -- fit, and is refused by 1 before.
 
+-- With a permit of its own; having given one back. On a hub with radios there is one step more to each.
+abbrev pub withPermit : Bool → Phase
+withPermit named = cond named Fetching Holding
+
+abbrev pub withoutPermit : Bool → Phase
+withoutPermit named = cond named Storing Free
+
 -- asked: was the counter above 0? 21, 22
 unfoldable pub stepAcquiring : Bool → Sight → Move
-stepAcquiring true s = take Holding Acquired s
+stepAcquiring true s = take (withPermit (s .named)) Acquired s
 stepAcquiring false s = take Suspending MustWait s
 
 -- unnumbered: 23
@@ -110,7 +118,7 @@ stepTicketed t Done s = Refuse Unfit
 -- giving back: was the counter below 0? 27, 26
 unfoldable pub stepReleasing : Bool → Sight → Move
 stepReleasing true s = give Resuming MustResume s
-stepReleasing false s = give Free Returned s
+stepReleasing false s = give (withoutPermit (s .named)) Returned s
 
 -- carrying: 28
 unfoldable pub stepResuming : Sight → Move
@@ -155,6 +163,15 @@ stepRefusing t Cancelled s = Refuse Unfit
 stepRefusing t Refused s = Refuse Unfit
 stepRefusing t Done s = Refuse Unfit
 
+-- fetching: is a radio stored? 36, 37
+unfoldable pub stepFetching : Bool → Sight → Move
+stepFetching true s = turn Holding Fetched s
+stepFetching false s = Tell NotYet
+
+-- putting back: 38
+unfoldable pub stepStoring : Sight → Move
+stepStoring s = turn Free Stored s
+
 -- at rest: 8
 unfoldable pub stepIn : Phase → Sight → Move
 stepIn Free s = Refuse AtRest
@@ -169,6 +186,8 @@ stepIn (Refusing t) s = stepRefusing t (s .seat .place) s
 stepIn Releasing s = stepReleasing (belowZero (s .figures .counter)) s
 stepIn Resuming s = stepResuming s
 stepIn (ResumingAt t) s = stepResumingAt t (s .seat .place) s
+stepIn Fetching s = stepFetching (s .stocked) s
+stepIn Storing s = stepStoring s
 
 abbrev pub step : Sight → Move
 step s = stepIn (s .slot .phase) s
@@ -192,6 +211,11 @@ unfoldable pub release : Bool → Sight → Move
 release false s = Refuse NotHolding
 release true s = turn Releasing Accepted s
 
+-- Which radio: has the party one? 39
+unfoldable pub tellRadio : Bool → Sight → Move
+tellRadio true s = Tell (Radio (s .radio))
+tellRadio false s = Tell NoRadio
+
 -- What a call does on a record that fits and has the party. The Bool: is it full (7)?
 unfoldable pub decide : Op → Bool → Sight → Move
 decide Acquire full s =
@@ -200,3 +224,4 @@ decide Step full s = step s
 decide Cancel full s =
     cancel (isWaiting (s .slot .phase)) (eqb (s .kind) 3) (ticketOf (s .slot .phase)) s
 decide Release full s = release (isHolding (s .slot .phase)) s
+decide Op.Radio full s = tellRadio (s .named && hasRadio (s .slot .phase)) s

@@ -13,6 +13,7 @@ pub enum Refusal {
     NotWaiting, // 9
     NotCancellable, // 10: waits of kind 3 may not be cancelled
     NotHolding, // 11
+    SameRadios, // 14: two radios of an opening are alike
 }
 
 pub enum Answer {
@@ -38,4 +39,9 @@ pub enum Answer {
     PassedOn(u32), // 31
     MarkedRefused(u32), // 32
     DroppedPermit(u32), // 33
+    Fetched, // 36
+    NotYet, // 37: no radio is stored
+    Stored, // 38
+    Radio(u32), // 39: the radio that the party has
+    NoRadio, // 39: it has none
 }

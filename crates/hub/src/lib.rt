@@ -23,3 +23,4 @@ pub use record::PartySlot;
 pub use record::Phase;
 pub use record::Place;
 pub use record::PlaceSlot;
+pub use record::Pool;

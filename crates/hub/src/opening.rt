@@ -1,21 +1,39 @@
-// Opening a hub: "The counter, signed, K at opening", and refusals 2 and 3.
+// Opening a hub: "The counter, signed, K at opening", and refusals 2, 3 and 14.
 
 use crate::answers::Answer;
 use crate::answers::Refusal;
 use crate::record::Figures;
 use crate::record::Hub;
 use crate::record::Outcome;
+use crate::record::Pool;
 use crate::slots::empty_seat;
 use crate::slots::free_slot;
 ghost use mathlib.Core.Path.{_≡_};
 ghost use Rattle.hub.specs.Answers.{printed};
 ghost use Rattle.hub.specs.Basics.{upTo32};
-ghost use Rattle.hub.specs.Opening.{figuresAt, fresh, notOpened, opening};
+ghost use Prim.Native.Nat.{_≤_};
+ghost use lib.ListN.{take};
+ghost use Rattle.hub.specs.Opening.{figuresAt, fresh, notOpened, opening, poolAt, radiosDiffer, sized};
+ghost use Rattle.hub.specs.Radios.{differ};
 
 // What an opening asks for.
 pub struct Opening {
     pub permits: u8, // links, K
     pub parties: u8, // n
+    pub named: bool, // opening 02: each permit is a radio
+    pub radios: [u8; 32], // the first K of them, of such an opening
+}
+
+// Opening 01: K and n.
+pub fn sized(permits: u8, parties: u8) -> Opening
+    ensures { λ r. ⌜ r ≡ sized permits parties ⌝ }
+{
+    Opening {
+        permits,
+        parties,
+        named: false,
+        radios: [0; 32],
+    }
 }
 
 fn figures_at(o: Opening) -> Figures
@@ -27,6 +45,20 @@ fn figures_at(o: Opening) -> Figures
         issued: 0,
         resumed: 0,
         begun: 0,
+    }
+}
+
+// All radios are stored, in the opening's order.
+fn pool_at(o: Opening) -> Pool
+    ensures { λ r. ⌜ r ≡ poolAt o ⌝ }
+{
+    let radios = o.radios;
+    Pool {
+        hands: [0; 32],
+        laid: [0; 256],
+        store: radios,
+        first: 0,
+        stored: o.permits as u32,
     }
 }
 
@@ -43,6 +75,7 @@ impl Hub {
             oldest: 0,
             places: [empty; 256],
             slots: [free; 32],
+            pool: pool_at(o),
         }
     }
 }
@@ -53,10 +86,7 @@ fn refused(why: Refusal) -> Outcome
 {
     Outcome {
         answer: Answer::Refused(why),
-        hub: Hub::open(Opening {
-            permits: 0,
-            parties: 0,
-        }),
+        hub: Hub::open(sized(0, 0)),
     }
 }
 
@@ -70,6 +100,36 @@ pub fn up_to_32(n: u8) -> bool
     n <= 32
 }
 
+// Are the first `count` radios all different? Each is marked when it is met.
+fn differ(radios: [u8; 32], count: usize) -> bool
+    requires { ⌜ count ≤ 32 ⌝ }
+    ensures { λ r. ⌜ r ≡ differ (take count radios) ⌝ }
+{
+    let mut met = [0u8; 256];
+    let mut i: usize = 0;
+    while i < count {
+        let radio = radios[i] as usize;
+        if met[radio] != 0 {
+            return false;
+        }
+        met[radio] = 1;
+        i += 1;
+    }
+    true
+}
+
+// Are no two radios of an opening alike?
+pub fn radios_differ(o: Opening) -> bool
+    requires { ⌜ o .permits ≤ 32 ⌝ }
+    ensures { λ r. ⌜ r ≡ radiosDiffer o ⌝ }
+{
+    if !o.named {
+        return true;
+    }
+    let radios = o.radios;
+    differ(radios, o.permits as usize)
+}
+
 // Opens a hub.
 pub fn open_hub(o: Opening) -> Outcome
     ensures { λ r. ⌜ (r ≡ opening o) × (printed (r .answer) ≡ printed (opening o .answer)) ⌝ }
@@ -79,6 +139,9 @@ pub fn open_hub(o: Opening) -> Outcome
     }
     if !up_to_32(o.parties) {
         return refused(Refusal::BadParties);
+    }
+    if !radios_differ(o) {
+        return refused(Refusal::SameRadios);
     }
     Outcome {
         answer: Answer::Opened,

@@ -23,6 +23,8 @@ pub fn phase_rank(phase: Phase) -> u8
         Phase::Releasing => 9,
         Phase::Resuming => 10,
         Phase::ResumingAt(_) => 11,
+        Phase::Fetching => 12,
+        Phase::Storing => 13,
     }
 }
 

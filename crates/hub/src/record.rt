@@ -17,6 +17,8 @@ pub enum Phase {
     Releasing, // giving back
     Resuming, // carrying: to draw the next ticket to resume
     ResumingAt(u32), // handing t
+    Fetching, // of a hub with radios: it has a permit, and takes a radio for it
+    Storing, // putting back: it has given its permit back, and not yet its radio
 }
 
 // What lies at the place of a ticket: a cell of the waiting queue.
@@ -46,12 +48,23 @@ pub struct Figures {
     pub begun: u32, // acquires accepted since opening
 }
 
+// The radios of a hub that has some. They have arrays of their own, apart from slots and places: a
+// call on a hub without radios does not touch them.
+pub struct Pool {
+    pub hands: [u8; 32], // with each party; it counts where the party's phase has one
+    pub laid: [u8; 256], // at each place; it counts where a permit lies
+    pub store: [u8; 32], // a ring
+    pub first: u32, // where in it the first stored radio is, modulo 32
+    pub stored: u32, // how many are stored
+}
+
 pub struct Hub {
     pub opening: Opening, // what it was opened with
     pub figures: Figures,
     pub oldest: u32, // the first ticket that has a place
     pub places: [PlaceSlot; 256], // a ring: that of ticket t is at t modulo 256
     pub slots: [PartySlot; 32],
+    pub pool: Pool,
 }
 
 impl Hub {

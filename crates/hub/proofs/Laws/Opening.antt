@@ -1,4 +1,4 @@
--- What an opening answers, from its two tests.
+-- What an opening answers, from its three tests.
 use mathlib.Core.Path.{_≡_, refl}
 use mathlib.Core.Bool.{Bool, true, false}
 use Rattle.hub.specs.declared.answers.Answer.{Answer}
@@ -10,34 +10,41 @@ use Rattle.hub.specs.declared.record.Hub.{Hub}
 use Rattle.hub.specs.Basics.{allOf}
 use Rattle.hub.specs.Calls.{called, checked, apply, tidied}
 use Rattle.hub.specs.Fits.{fits, figuresFit}
-use Rattle.hub.specs.Moves.{Move, Refuse, Act, Put, Wake}
+use Rattle.hub.specs.Moves.{Move, Refuse, Tell, Act, Put, Wake}
 use Rattle.hub.specs.Opening.{fresh, notOpened, openingIf}
+use Rattle.hub.specs.Radios.{poolAfter}
 
-module _ (a b : Bool) (o : Opening) where
-  pub refused-2 : a ≡ false → openingIf a b o ≡ notOpened Refusal.BadPermits
+module _ (a b d : Bool) (o : Opening) where
+  pub refused-2 : a ≡ false → openingIf a b d o ≡ notOpened Refusal.BadPermits
   unfolding openingIf
   refused-2 e = rw e
 
-  pub refused-3 : a ≡ true → b ≡ false → openingIf a b o ≡ notOpened Refusal.BadParties
+  pub refused-3 : a ≡ true → b ≡ false → openingIf a b d o ≡ notOpened Refusal.BadParties
   unfolding openingIf
   refused-3 e f = rw (e, f)
 
-  pub accepted : a ≡ true → b ≡ true
-      → openingIf a b o ≡ record { answer = Answer.Opened; hub = fresh o }
+  pub refused-14 : a ≡ true → b ≡ true → d ≡ false
+      → openingIf a b d o ≡ notOpened Refusal.SameRadios
   unfolding openingIf
-  accepted e f = rw (e, f)
+  refused-14 e f g = rw (e, f, g)
+
+  pub accepted : a ≡ true → b ≡ true → d ≡ true
+      → openingIf a b d o ≡ record { answer = Answer.Opened; hub = fresh o }
+  unfolding openingIf
+  accepted e f g = rw (e, f, g)
 
 -- What a refused opening hands back refuses every call by 1.
 pub never-opened : (r : Refusal) (c : Call)
     → called (notOpened r .hub) c
     ≡ record { answer = Answer.Refused Refusal.Unfit; hub = notOpened r .hub }
-unfolding fresh fits figuresFit allOf checked apply
+unfolding fresh fits figuresFit allOf checked apply poolAfter
 never-opened r c = refl
 
 -- No call changes what the hub was opened with.
 pub kept-opening : (h : Hub) (s : Sight) (m : Move) → apply h s m .opening ≡ h .opening
 unfolding apply tidied
 kept-opening h s (Refuse r) = refl
+kept-opening h s (Tell y) = refl
 kept-opening h s (Act c) = refl
 kept-opening h s (Put a c) = refl
 kept-opening h s (Wake q x a c) = refl

@@ -4,7 +4,7 @@ use mathlib.Core.Path.{_≡_, refl}
 use mathlib.Core.Bool.{Bool, true, false, not}
 use lib.Dec.{eqb}
 use Rattle.hub.specs.Moves.{Move}
-use Rattle.hub.specs.Moves.{Refuse, Act, Put, Wake}
+use Rattle.hub.specs.Moves.{Refuse, Tell, Act, Put, Wake}
 use Rattle.hub.specs.declared.moves.Sight.{Sight}
 use Rattle.hub.specs.declared.record.Phase.{Phase}
 use Rattle.hub.specs.declared.record.Place.{Place}
@@ -15,11 +15,13 @@ use Rattle.hub.specs.Phases.{isOneOf, isPlaceOf}
 use Rattle.hub.specs.Table.{step, stepIn, stepAcquiring, stepSuspending}
 use Rattle.hub.specs.Table.{stepTicketed, stepReleasing, stepResuming, resumeWaiter}
 use Rattle.hub.specs.Table.{stepResumingAt, stepAborting, stepCancelling, stepRefusing}
+use Rattle.hub.specs.Table.{stepFetching, stepStoring}
 use Rattle.hub.proofs.Laws.Phases.{places-alike}
 
 -- Is it no refusal by 1, which the table gives where it has no row?
 abbrev pub isListed : Move → Bool
 isListed (Refuse r) = not (eqb (refusalCode r) 1)
+isListed (Tell y) = true
 isListed (Act c) = true
 isListed (Put a c) = true
 isListed (Wake q s a c) = true
@@ -41,6 +43,11 @@ module _ (s : Sight) where
   aborting t true = refl
   aborting t false = refl
 
+  fetching : (b : Bool) → isListed (stepFetching b s) ≡ true
+  unfolding stepFetching
+  fetching true = refl
+  fetching false = refl
+
   resumed : (b : Bool) (q t : ℕ) → isListed (resumeWaiter b q t s) ≡ true
   unfolding resumeWaiter
   resumed true q t = refl
@@ -56,7 +63,7 @@ module _ (s : Sight) where
   resuming t Place.Done = refl
 
   listed-in : (f : Phase) → isListed (stepIn f s) ≡ placeListed f (s .seat .place)
-  unfolding stepIn stepSuspending stepTicketed stepResuming stepCancelling stepRefusing placeListed
+  unfolding stepIn stepSuspending stepTicketed stepResuming stepCancelling stepRefusing stepStoring placeListed
       allOf isOneOf isPlaceOf
   listed-in Phase.Free = refl
   listed-in Phase.Holding = refl
@@ -76,6 +83,8 @@ module _ (s : Sight) where
   listed-in Phase.Releasing = releasing _
   listed-in Phase.Resuming = refl
   listed-in (Phase.ResumingAt t) = resuming t _
+  listed-in Phase.Fetching = fetching _
+  listed-in Phase.Storing = refl
 
   pub listed-is-tabled : isListed (step s) ≡ placeListed (s .slot .phase) (s .seat .place)
   listed-is-tabled = listed-in (s .slot .phase)
