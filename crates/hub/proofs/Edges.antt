@@ -9,10 +9,12 @@ use Rattle.hub.specs.Look.{seenBy}
 use Rattle.hub.specs.Table.{acquire, cancel, release, decide, stepIn, stepAcquiring}
 use Rattle.hub.specs.Table.{stepSuspending, stepTicketed, stepReleasing, stepResuming}
 use Rattle.hub.specs.Table.{resumeWaiter, stepResumingAt, stepAborting, stepCancelling}
-use Rattle.hub.specs.Table.{stepRefusing}
+use Rattle.hub.specs.Table.{stepRefusing, stepFetching, stepStoring, tellRadio}
+use Rattle.hub.specs.Radios.{differ, handOf, laidAt, moved, poolAfter, radiosIn, radiosOf}
+use Rattle.hub.specs.Radios.{rearranged, ringFrom, shown, whole}
 use Rattle.hub.specs.Fits.{counterFits, figuresFit, inWindow, ticketFits, placeListed}
-use Rattle.hub.specs.Fits.{partyFits, placeFits, fits}
-use Rattle.hub.specs.Opening.{fresh, openingIf}
+use Rattle.hub.specs.Fits.{partyFits, placeFits, radiosFit, fits}
+use Rattle.hub.specs.Opening.{fresh, openingIf, radiosDiffer}
 use Rattle.hub.specs.Calls.{checked, apply, tidied}
 use Rattle.hub.specs.Edges.{EdgesHold, edges, goes, holdsAt, allHold}
 
@@ -21,5 +23,7 @@ unfolding EdgesHold edges goes holdsAt allHold checked apply tidied fresh openin
     seenBy counterFits figuresFit inWindow ticketFits placeListed partyFits placeFits fits skip retire
     acquire cancel release decide stepIn stepAcquiring stepSuspending stepTicketed stepReleasing
     stepResuming resumeWaiter stepResumingAt stepAborting stepCancelling stepRefusing
-    isOneOf isPlaceOf readSlot writeSlot readSeat writeSeat kindOf weight allFrom allOf
+    stepFetching stepStoring tellRadio
+    differ handOf laidAt moved poolAfter radiosIn radiosOf rearranged ringFrom shown whole radiosDiffer
+    radiosFit isOneOf isPlaceOf readSlot writeSlot readSeat writeSeat kindOf weight allFrom allOf
 edges-hold = refl

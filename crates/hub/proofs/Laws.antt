@@ -9,3 +9,4 @@ pub mod Ring
 pub mod Opening
 pub mod Table
 pub mod Printed
+pub mod Radios

@@ -11,7 +11,7 @@ use crate::slots::free_slot;
 ghost use mathlib.Core.Path.{_≡_};
 ghost use Rattle.hub.specs.Answers.{printed};
 ghost use Rattle.hub.specs.Basics.{upTo32};
-ghost use Prim.Native.Nat.{_≤_};
+ghost use Prim.Native.Nat.{_≤_, _<_};
 ghost use lib.ListN.{take};
 ghost use Rattle.hub.specs.Opening.{figuresAt, fresh, notOpened, opening, poolAt, radiosDiffer, sized};
 ghost use Rattle.hub.specs.Radios.{differ};
@@ -100,6 +100,13 @@ pub fn up_to_32(n: u8) -> bool
     n <= 32
 }
 
+// A radio as an index of a table of 256.
+pub fn radio_index(radio: u8) -> usize
+    ensures { λ r. ⌜ (r ≡ radio) × (r < 256) ⌝ }
+{
+    radio as usize
+}
+
 // Are the first `count` radios all different? Each is marked when it is met.
 fn differ(radios: [u8; 32], count: usize) -> bool
     requires { ⌜ count ≤ 32 ⌝ }
@@ -108,7 +115,7 @@ fn differ(radios: [u8; 32], count: usize) -> bool
     let mut met = [0u8; 256];
     let mut i: usize = 0;
     while i < count {
-        let radio = radios[i] as usize;
+        let radio = radio_index(radios[i]);
         if met[radio] != 0 {
             return false;
         }

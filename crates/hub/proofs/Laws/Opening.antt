@@ -1,5 +1,5 @@
 -- What an opening answers, from its three tests.
-use mathlib.Core.Path.{_≡_, refl}
+use mathlib.Core.Path.{_≡_, refl, ap}
 use mathlib.Core.Bool.{Bool, true, false}
 use Rattle.hub.specs.declared.answers.Answer.{Answer}
 use Rattle.hub.specs.declared.answers.Refusal.{Refusal}
@@ -7,12 +7,12 @@ use Rattle.hub.specs.declared.moves.Call.{Call}
 use Rattle.hub.specs.declared.moves.Sight.{Sight}
 use Rattle.hub.specs.declared.opening.Opening.{Opening}
 use Rattle.hub.specs.declared.record.Hub.{Hub}
-use Rattle.hub.specs.Basics.{allOf}
+use Rattle.hub.specs.Basics.{allOf, implies}
 use Rattle.hub.specs.Calls.{called, checked, apply, tidied}
 use Rattle.hub.specs.Fits.{fits, figuresFit}
 use Rattle.hub.specs.Moves.{Move, Refuse, Tell, Act, Put, Wake}
-use Rattle.hub.specs.Opening.{fresh, notOpened, openingIf}
-use Rattle.hub.specs.Radios.{poolAfter}
+use Rattle.hub.specs.Opening.{fresh, notOpened, openingIf, radiosDiffer}
+use Rattle.hub.specs.Radios.{differ, poolAfter, radiosOf}
 
 module _ (a b d : Bool) (o : Opening) where
   pub refused-2 : a ≡ false → openingIf a b d o ≡ notOpened Refusal.BadPermits
@@ -32,6 +32,15 @@ module _ (a b d : Bool) (o : Opening) where
       → openingIf a b d o ≡ record { answer = Answer.Opened; hub = fresh o }
   unfolding openingIf
   accepted e f g = rw (e, f, g)
+
+-- The third of them asks something of an opening with radios alone.
+pub unnamed-differ : (o : Opening) → o .named ≡ false → radiosDiffer o ≡ true
+unfolding radiosDiffer
+unnamed-differ o e = ap (λ (b : Bool). implies b (differ (radiosOf o))) e
+
+pub named-differ : (o : Opening) → o .named ≡ true → radiosDiffer o ≡ differ (radiosOf o)
+unfolding radiosDiffer
+named-differ o e = ap (λ (b : Bool). implies b (differ (radiosOf o))) e
 
 -- What a refused opening hands back refuses every call by 1.
 pub never-opened : (r : Refusal) (c : Call)
