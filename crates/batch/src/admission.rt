@@ -2,6 +2,7 @@
 
 use hub::moves::Op;
 use line::request::OPENING;
+use std::num::wrapping_sub_u8;
 ghost use mathlib.Core.Path.{_≡_};
 ghost use Rattle.line.specs.Frame.{opOf};
 ghost use Rattle.batch.specs.Admission.{admissionOf, refused};
@@ -25,8 +26,8 @@ fn refused(party: u8, code: u8) -> Admission
 pub(crate) fn admit(code: u8, party: u8, parties: u8) -> Admission
     ensures { λ r. ⌜ r ≡ admissionOf code party parties ⌝ }
 {
-    // the codes of the four calls are 10 to 13, whose quarter is 4: one test instead of two
-    if code / 4 == 4 {
+    // the codes of the calls are 10 to 14
+    if wrapping_sub_u8(code, 0x10) < 5 {
         if party < parties {
             return Admission {
                 admitted: true,
@@ -42,7 +43,7 @@ pub(crate) fn admit(code: u8, party: u8, parties: u8) -> Admission
     refused(0xFF, 12)
 }
 
-// The operation of an admitted code; give back is what is left of the four.
+// The operation of an admitted code; which radio is what is left of the five.
 pub(crate) fn op_of(code: u8) -> Op
     ensures { λ r. ⌜ r ≡ opOf code ⌝ }
 {
@@ -55,5 +56,8 @@ pub(crate) fn op_of(code: u8) -> Op
     if code == 0x12 {
         return Op::Cancel;
     }
-    Op::Release
+    if code == 0x13 {
+        return Op::Release;
+    }
+    Op::Radio
 }

@@ -18,6 +18,7 @@ use line::answer::print_of;
 use line::form::put_reply;
 use line::form::reply_size;
 use line::pairs;
+use pool::moving::move_radio;
 use transition::effect::decide_by;
 use transition::room::full_for;
 use transition::sight::by_ticket;
@@ -48,6 +49,7 @@ pub fn answer_requests(hub: Hub, requests: &[u8], count: usize, form: bool, out:
     let mut oldest = hub.oldest;
     let mut places = hub.places;
     let mut slots = hub.slots;
+    let mut pool = hub.pool;
     let kinds = kinds::table();
     let pairs = pairs::table();
     let width = reply_size(form);
@@ -73,6 +75,7 @@ pub fn answer_requests(hub: Hub, requests: &[u8], count: usize, form: bool, out:
         let near = slots[(q % 32) as usize];
         let waiter = slot_within(q, near);
         let kind = kinds[own];
+        let radio = pool.hands[own];
         let op = op_of(code);
         let full = full_for(op, oldest, figures.issued, slots);
         let s = Sight {
@@ -82,6 +85,9 @@ pub fn answer_requests(hub: Hub, requests: &[u8], count: usize, form: bool, out:
             seat,
             waiter,
             figures,
+            named: opening.named,
+            radio,
+            stocked: 0 < pool.stored,
         };
         let e = decide_by(op, full, s);
         let next = e.figures;
@@ -100,6 +106,9 @@ pub fn answer_requests(hub: Hub, requests: &[u8], count: usize, form: bool, out:
         }
         let answer = e.answer;
         put_reply(&pairs, &mut out[at..end], form, party, print_of(answer));
+        if opening.named {
+            pool = move_radio(answer, party, pool);
+        }
         // mostly there is nothing to tidy
         let ahead = places[(figures.resumed % Hub::PLACES) as usize];
         let behind = places[(oldest % Hub::PLACES) as usize];
@@ -138,5 +147,6 @@ pub fn answer_requests(hub: Hub, requests: &[u8], count: usize, form: bool, out:
         oldest,
         places,
         slots,
+        pool,
     }
 }

@@ -1,4 +1,4 @@
-// The four calls on a record in place. A shell takes the hub by reference, hands its fields to a
+// The calls on a record in place. A shell takes the hub by reference, hands its fields to a
 // function over them, which calls the by-value core, and stores the record that comes back. Its
 // contract names `printed` beside the answer, since that is where the paper's codes are.
 
@@ -10,6 +10,7 @@ use hub::Opening;
 use hub::Outcome;
 use hub::PartySlot;
 use hub::PlaceSlot;
+use hub::Pool;
 use step::calls::call;
 ghost use mathlib.Core.Path.{_≡_};
 ghost use Rattle.hub.specs.declared.moves.Op.{Op};
@@ -25,8 +26,9 @@ fn call_fields(
     oldest: u32,
     places: [PlaceSlot; 256],
     slots: [PartySlot; 32],
+    pool: Pool,
 ) -> Outcome
-    ensures { λ r. ⌜ r ≡ called (ofFields opening figures oldest places slots)
+    ensures { λ r. ⌜ r ≡ called (ofFields opening figures oldest places slots pool)
         (record { op = op; party = party }) ⌝ }
 {
     let hub = Hub {
@@ -35,6 +37,7 @@ fn call_fields(
         oldest,
         places,
         slots,
+        pool,
     };
     call(hub, op, party)
 }
@@ -52,6 +55,7 @@ pub fn acquire(hub: &mut Hub, party: u8) -> Answer
         hub.oldest,
         hub.places,
         hub.slots,
+        hub.pool,
     );
     *hub = o.hub;
     o.answer
@@ -70,6 +74,7 @@ pub fn step(hub: &mut Hub, party: u8) -> Answer
         hub.oldest,
         hub.places,
         hub.slots,
+        hub.pool,
     );
     *hub = o.hub;
     o.answer
@@ -88,6 +93,7 @@ pub fn cancel(hub: &mut Hub, party: u8) -> Answer
         hub.oldest,
         hub.places,
         hub.slots,
+        hub.pool,
     );
     *hub = o.hub;
     o.answer
@@ -106,6 +112,26 @@ pub fn release(hub: &mut Hub, party: u8) -> Answer
         hub.oldest,
         hub.places,
         hub.slots,
+        hub.pool,
+    );
+    *hub = o.hub;
+    o.answer
+}
+
+pub fn radio(hub: &mut Hub, party: u8) -> Answer
+    ensures { λ r. ⌜ (r ≡ called (now (hub .entry)) (record { op = Op.Radio; party = party }) .answer)
+        × (printed r ≡ printed (called (now (hub .entry)) (record { op = Op.Radio; party = party }) .answer))
+        × (now (hub .exit) ≡ called (now (hub .entry)) (record { op = Op.Radio; party = party }) .hub) ⌝ }
+{
+    let o = call_fields(
+        Op::Radio,
+        party,
+        hub.opening,
+        hub.figures,
+        hub.oldest,
+        hub.places,
+        hub.slots,
+        hub.pool,
     );
     *hub = o.hub;
     o.answer
@@ -122,6 +148,7 @@ pub fn call_on_board(hub: Hub, op: Op, party: u8) -> Outcome
         Op::Step => step(&mut h, party),
         Op::Cancel => cancel(&mut h, party),
         Op::Release => release(&mut h, party),
+        Op::Radio => radio(&mut h, party),
     };
     Outcome { answer, hub: h }
 }

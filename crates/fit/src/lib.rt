@@ -7,11 +7,14 @@ use hub::record::Figures;
 use hub::record::Hub;
 use hub::record::Phase;
 use hub::record::Place;
+use pool::check::radios_fit;
 ghost use mathlib.Core.Path.{_≡_};
 ghost use mathlib.Core.Bool.{_&&_};
 ghost use Prim.Native.Nat.{_≤_, _<_};
 ghost use Rattle.hub.specs.Fits.{counterFits, figuresFit, inWindow, ticketFits, placeListed};
+ghost use Rattle.hub.specs.Basics.{implies};
 ghost use Rattle.hub.specs.Fits.{standsAt};
+ghost use Rattle.hub.specs.Phases.{ofRadios};
 ghost use Rattle.fit.specs.Window.{ticketAt};
 
 // −32 to 32.
@@ -111,15 +114,28 @@ fn listed(phase: Phase, place: Place) -> bool
     }
 }
 
+// Two phases are of a hub with radios alone.
+fn phase_fits(phase: Phase, named: bool) -> bool
+    ensures { λ r. ⌜ r ≡ implies (ofRadios phase) named ⌝ }
+{
+    match phase {
+        Phase::Fetching | Phase::Storing => named,
+        _ => true,
+    }
+}
+
 // The clauses of one of the n parties, over its phase and what lies at the place of its ticket.
-fn party_fits(phase: Phase, place: Place, figures: Figures, oldest: u32) -> bool
+fn party_fits(phase: Phase, place: Place, figures: Figures, oldest: u32, named: bool) -> bool
     requires { ⌜ oldest ≤ 1000000 ⌝ }
-    ensures { λ r. ⌜ r ≡ ticketFits figures oldest phase && placeListed phase place ⌝ }
+    ensures { λ r. ⌜ r ≡ ticketFits figures oldest phase && placeListed phase place && implies (ofRadios phase) named ⌝ }
 {
     if !ticket_fits(phase, figures, oldest) {
         return false;
     }
-    listed(phase, place)
+    if !listed(phase, place) {
+        return false;
+    }
+    phase_fits(phase, named)
 }
 
 // Is the phase one of a party that stands at ticket t?
@@ -165,7 +181,7 @@ pub fn fits(hub: Hub) -> bool
         let i = (ticket(phase) % Hub::PLACES) as usize;
         let seat = hub.places[i];
         let place = seat.place;
-        if !party_fits(phase, place, figures, oldest) {
+        if !party_fits(phase, place, figures, oldest, opening.named) {
             return false;
         }
         p += 1;
@@ -206,5 +222,5 @@ pub fn fits(hub: Hub) -> bool
         }
         j += 1;
     }
-    true
+    radios_fit(hub)
 }

@@ -9,16 +9,17 @@ use Rattle.hub.specs.declared.opening.Opening.{Opening}
 use Rattle.hub.specs.declared.record.Hub.{Hub}
 use Rattle.hub.specs.Answers.{plain}
 use Rattle.hub.specs.Basics.{among}
-use Rattle.hub.specs.Demand3.{Accounts}
+use Rattle.hub.specs.Demand3.{Accounts, AllBelow}
 use Rattle.hub.specs.Ledger.{ledger, opened}
 use Rattle.hub.specs.Opening.{opening}
+use Rattle.hub.specs.Radios.{radiosOf}
 use Rattle.hub.specs.Schedule.{entries, run}
 use Rattle.line.specs.Form.{asText}
 use Rattle.line.specs.Frame.{codeOf}
 use Rattle.line.specs.Hex.{textOf}
 use Rattle.line.specs.Program.{unopened, isOpen, Reply, replyOf, replies, rendered}
 use Rattle.line.specs.Program.{closing, linesOf, outputOf}
-use Rattle.line.specs.Requests.{Request, malformed, toOpen, toCall, requestOf}
+use Rattle.line.specs.Requests.{Request, malformed, toOpen, toCall, requested, requestOf}
 
 -- No hub is opened, or one is and calls follow.
 pub data Schedule : Type 0 where
@@ -58,9 +59,9 @@ scheduleOf (toOpen o ∷ rs) =
     cond (isOpen (opening o .hub)) (started o (callsIn rs)) (scheduleOf rs)
 scheduleOf (toCall c ∷ rs) = scheduleOf rs
 
--- The replies but for 12, 13 and refused openings, which are 2 and 3.
+-- The replies but for 12, 13 and refused openings, which are 2, 3 and 14.
 abbrev pub leftOut : ℕ → Bool
-leftOut code = among (2 ∷ 3 ∷ 12 ∷ 13 ∷ []) code
+leftOut code = among (2 ∷ 3 ∷ 12 ∷ 13 ∷ 14 ∷ []) code
 
 unfoldable pub kept : List Reply → List Reply
 kept [] = []
@@ -82,17 +83,26 @@ unfoldable pub callLines : List Call → List ℕ
 callLines [] = []
 callLines (c ∷ cs) = textOf (codeOf (c .op) ∷ c .party ∷ []) ++ callLines cs
 
+-- The frame of an opening.
+abbrev pub openingFrame : Opening → List ℕ
+openingFrame o =
+    cond (o .named) (0x02 ∷ o .permits ∷ o .parties ∷ radiosOf o) (0x01 ∷ o .permits ∷ o .parties ∷ [])
+
 abbrev pub inputOf : Opening → List Call → List ℕ
-inputOf o cs = textOf (0x01 ∷ o .permits ∷ o .parties ∷ []) ++ callLines cs
+inputOf o cs = textOf (openingFrame o) ++ callLines cs
 
 -- A party is one byte of a line.
 unfoldable pub PartyBytes : List Call → Type 0
 PartyBytes [] = Unit {0}
 PartyBytes (c ∷ cs) = (c .party < 256) × PartyBytes cs
 
+-- An opening that a line can spell: of bytes, and what its own frame asks for.
+abbrev pub Spelled : Opening → Type 0
+Spelled o = AllBelow 256 (radiosOf o) × (requested (openingFrame o) ≡ toOpen o)
+
 -- For an accepted opening and any calls after it nothing else is printed.
 unfoldable pub PrintsSchedule : Type 0
 PrintsSchedule =
-    (o : Opening) → opening o .answer ≡ Answer.Opened → (cs : List Call) → PartyBytes cs
+    (o : Opening) → opening o .answer ≡ Answer.Opened → Spelled o → (cs : List Call) → PartyBytes cs
     → let s = started o cs in
     outputOf (inputOf o cs) ≡ rendered asText (repliesOf s) ++ closing (leftBy s)

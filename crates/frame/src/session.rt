@@ -8,7 +8,7 @@ use crate::reader::Reader;
 use crate::reader::read_piece;
 use batch::answer_requests;
 use hub::Hub;
-use hub::Opening;
+use hub::opening::sized;
 use line::form::TEXT;
 use line::values;
 ghost use mathlib.Core.Path.{_≡_};
@@ -37,10 +37,7 @@ pub fn begin() -> Session
     ensures { λ r. ⌜ r ≡ atStart ⌝ }
 {
     Session {
-        hub: Hub::open(Opening {
-            permits: 0,
-            parties: 0,
-        }),
+        hub: Hub::open(sized(0, 0)),
         reader: Reader {
             line: [0; KEPT],
             len: 0,

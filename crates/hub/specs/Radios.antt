@@ -3,7 +3,7 @@ use Prim.Native.Nat.{ℕ, zero, suc, _+_, _-_, _%_}
 use mathlib.Core.Bool.{Bool, true, false, cond, not, _&&_}
 use mathlib.Core.List.{List, [], _∷_, _++_}
 use lib.Dec.{eqb}
-use lib.ListN.{getD, set, take, replicate}
+use lib.ListN.{getD, length, set, take, replicate}
 use Rattle.hub.specs.declared.opening.Opening.{Opening}
 use Rattle.hub.specs.declared.record.PartySlot.{PartySlot}
 use Rattle.hub.specs.declared.record.PlaceSlot.{PlaceSlot}
@@ -35,9 +35,10 @@ differ (x ∷ l) = not (among l x) && differ l
 abbrev pub occurs : ℕ → List ℕ → ℕ
 occurs b l = count (eqb b) l
 
--- Is one list a rearrangement of the other: is every byte in both equally often?
+-- Is one list a rearrangement of the other: equally long, and every byte in both equally often?
 unfoldable pub rearranged : List ℕ → List ℕ → Bool
-rearranged l m = allFrom (λ b. eqb (occurs b l) (occurs b m)) 0 256
+rearranged l m =
+    eqb (length l) (length m) && allFrom (λ b. eqb (occurs b l) (occurs b m)) 0 256
 
 -- The radio with party p, and at the place of ticket t.
 unfoldable pub handOf : Pool → ℕ → ℕ

@@ -1,7 +1,7 @@
 // What a record shows, for boards and auditors.
 
 pub struct Counts {
-    pub held: u32, // parties holding or giving back
+    pub held: u32, // parties holding, giving back or fetching
     pub available: u32, // at the counter
     pub coming: u32, // parties carrying or handing, and link places
     pub declined: u32, // parties refusing, and refused places

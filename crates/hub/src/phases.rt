@@ -4,7 +4,7 @@ use crate::record::Phase;
 use crate::record::Place;
 ghost use mathlib.Core.Path.{_≡_};
 ghost use mathlib.Core.Bool.{true, false};
-ghost use Rattle.hub.specs.Phases.{byTicket, placeRank, rank, ticketOf};
+ghost use Rattle.hub.specs.Phases.{byTicket, hasRadio, placeRank, rank, ticketOf};
 
 // The index of a phase in the list of phases.
 pub fn phase_rank(phase: Phase) -> u8
@@ -52,6 +52,20 @@ pub fn has_ticket(phase: Phase) -> bool
         | Phase::Aborting(_)
         | Phase::Cancelling(_)
         | Phase::Refusing(_)
+        | Phase::ResumingAt(_) => true,
+        _ => false,
+    }
+}
+
+// Has a party of this phase a radio, on a hub with radios?
+pub fn has_radio(phase: Phase) -> bool
+    ensures { λ r. ⌜ r ≡ hasRadio phase ⌝ }
+{
+    match phase {
+        Phase::Holding
+        | Phase::Releasing
+        | Phase::Storing
+        | Phase::Resuming
         | Phase::ResumingAt(_) => true,
         _ => false,
     }

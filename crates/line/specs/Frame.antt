@@ -10,20 +10,22 @@ use Rattle.hub.specs.Answers.{Printed}
 use Rattle.hub.specs.Basics.{among}
 use Rattle.line.specs.declared.answer.Print.{Print}
 
--- 10 ask, 11 step, 12 give up, 13 give back.
+-- 10 ask, 11 step, 12 give up, 13 give back, 14 which radio.
 abbrev pub isCall : ℕ → Bool
-isCall c = among (0x10 ∷ 0x11 ∷ 0x12 ∷ 0x13 ∷ []) c
+isCall c = among (0x10 ∷ 0x11 ∷ 0x12 ∷ 0x13 ∷ 0x14 ∷ []) c
 
 abbrev pub opOf : ℕ → Op
 opOf c =
     cond (eqb c 0x10) Op.Acquire
-    (cond (eqb c 0x11) Op.Step (cond (eqb c 0x12) Op.Cancel Op.Release))
+    (cond (eqb c 0x11) Op.Step
+    (cond (eqb c 0x12) Op.Cancel (cond (eqb c 0x13) Op.Release Op.Radio)))
 
 abbrev pub codeOf : Op → ℕ
 codeOf Op.Acquire = 0x10
 codeOf Op.Step = 0x11
 codeOf Op.Cancel = 0x12
 codeOf Op.Release = 0x13
+codeOf Op.Radio = 0x14
 
 -- What the code prints, on paper.
 abbrev pub paper : Print → Printed

@@ -1,6 +1,6 @@
 -- What a line asks. Refusal 12: odd digits, a non-hexadecimal letter, no or unknown code, wrong
--- length for the code, or over 64 characters.
-use Prim.Native.Nat.{ℕ, _%_}
+-- length for the code, or over 160 characters.
+use Prim.Native.Nat.{ℕ, _+_, _%_}
 use mathlib.Core.Bool.{Bool, true, false, cond, not, _&&_, _||_}
 use mathlib.Core.List.{List, [], _∷_}
 use lib.Dec.{eqb, ltb}
@@ -8,12 +8,14 @@ use lib.ListN.{length}
 use Rattle.hub.specs.declared.moves.Call.{Call}
 use Rattle.line.specs.declared.request.Header.{Header}
 use Rattle.hub.specs.declared.opening.Opening.{Opening}
+use Rattle.hub.specs.Opening.{sized}
+use Rattle.hub.specs.Radios.{whole}
 use Rattle.line.specs.Frame.{isCall, opOf, codeOf}
 use Rattle.line.specs.Hex.{isDigit, spelled}
 
 -- How many characters a line may have.
 abbrev pub LONGEST : ℕ
-LONGEST = 64
+LONGEST = 160
 
 -- What a line asks: nothing, which is refused by 12, an opening, or a call.
 pub data Request : Type 0 where
@@ -34,10 +36,16 @@ bytesOf [] = []
 bytesOf (a ∷ []) = []
 bytesOf (a ∷ b ∷ l) = spelled a b ∷ bytesOf l
 
--- An opening is its code, K, n, and nothing after them.
+-- Opening 02: K, n, and K radios.
+abbrev pub withRadios : ℕ → ℕ → List ℕ → Opening
+withRadios k n l = record { permits = k; parties = n; named = true; radios = whole l }
+
+-- An opening is its code, K, n, and behind them nothing if it is 01, K radios if it is 02. K is what the
+-- line says, legal or not.
 unfoldable pub openingIn : ℕ → ℕ → ℕ → List ℕ → Request
-openingIn c k n [] = cond (eqb c 0x01) (toOpen (record { permits = k; parties = n })) malformed
-openingIn c k n (x ∷ l) = malformed
+openingIn c k n l =
+    cond (eqb c 0x01 && eqb (length l) 0) (toOpen (sized k n))
+    (cond (eqb c 0x02 && eqb (length l) k) (toOpen (withRadios k n l)) malformed)
 
 -- A call is two bytes, and what is longer may be an opening; no code, another code or another
 -- length is malformed.
@@ -47,8 +55,16 @@ requested (c ∷ []) = malformed
 requested (c ∷ p ∷ []) = cond (isCall c) (toCall (record { op = opOf c; party = p })) malformed
 requested (c ∷ k ∷ n ∷ l) = openingIn c k n l
 
+-- The bytes of a line; none if it is unreadable, and then it asks nothing.
+unfoldable pub spelledBy : List ℕ → List ℕ
+spelledBy l = cond (unreadable l) [] (bytesOf l)
+
 unfoldable pub requestOf : List ℕ → Request
-requestOf l = cond (unreadable l) malformed (requested (bytesOf l))
+requestOf l = requested (spelledBy l)
+
+-- How many bytes an opening of code c with K has; 0 if the code is none of an opening.
+abbrev pub frameSize : ℕ → ℕ → ℕ
+frameSize c k = cond (eqb c 0x01) 3 (cond (eqb c 0x02) (3 + k) 0)
 
 -- A request in two bytes: a call whole; of an opening only that it is one.
 abbrev pub headerOf : Request → Header

@@ -29,6 +29,7 @@ pub fn refusal_code(why: Refusal) -> u8
         Refusal::NotWaiting => 9,
         Refusal::NotCancellable => 10,
         Refusal::NotHolding => 11,
+        Refusal::SameRadios => 14,
     }
 }
 
@@ -82,6 +83,11 @@ pub fn print_of(answer: Answer) -> Print
         Answer::PassedOn(t) => with_number(0x31, t),
         Answer::MarkedRefused(t) => with_number(0x32, t),
         Answer::DroppedPermit(t) => with_number(0x33, t),
+        Answer::Fetched => plain(0x36),
+        Answer::NotYet => plain(0x37),
+        Answer::Stored => plain(0x38),
+        Answer::Radio(r) => with_number(0x39, r),
+        Answer::NoRadio => plain(0x39),
     }
 }
 

@@ -1,14 +1,16 @@
 // What a line asks. Refusal 12 is for every line that is neither a call nor an opening.
 
 use crate::hex::hex_byte;
+use crate::openings::is_opening_frame;
+use crate::openings::opening_in;
 use hub::opening::Opening;
 ghost use mathlib.Core.Path.{_≡_};
 ghost use mathlib.Core.Bool.{true};
-ghost use lib.ListN.{length};
-ghost use Rattle.line.specs.Requests.{headerOf, isOpening, malformed, requestOf, toOpen};
+ghost use lib.ListN.{length, take};
+ghost use Rattle.line.specs.Requests.{headerOf, isOpening, malformed, requestOf, spelledBy, toOpen};
 
 // A line of more characters is malformed.
-pub const LONGEST: usize = 64;
+pub const LONGEST: usize = 160;
 
 // A request in two bytes: the code of a call and its party, or one of these codes and FF.
 pub struct Header {
@@ -38,7 +40,7 @@ fn call_in(line: &[u8]) -> Header
     if code < 0x10 {
         return malformed();
     }
-    if 0x13 < code {
+    if 0x14 < code {
         return malformed();
     }
     let party = hex_byte(&line[2..]);
@@ -51,23 +53,45 @@ fn call_in(line: &[u8]) -> Header
     }
 }
 
-// A line of six characters may be an opening.
+// The bytes that a line spells, and how many; none if it is unreadable.
+fn decode(line: &[u8], bytes: &mut [u8; 80]) -> usize
+    ensures { λ r. ⌜ (r ≡ length (spelledBy (now (line .entry))))
+        × (take r (now (bytes .exit)) ≡ spelledBy (now (line .entry))) ⌝ }
+{
+    if LONGEST < line.len() {
+        return 0;
+    }
+    if line.len() % 2 == 1 {
+        return 0;
+    }
+    let total = line.len() / 2;
+    let mut i: usize = 0;
+    while i < total {
+        let at = 2 * i;
+        let byte = hex_byte(&line[at..]);
+        if 256 <= byte {
+            return 0;
+        }
+        bytes[i] = byte as u8;
+        i += 1;
+    }
+    total
+}
+
+// A line that begins with the code of an opening may be one.
 fn is_opening(line: &[u8]) -> bool
     ensures { λ r. ⌜ r ≡ isOpening (requestOf (now (line .entry))) ⌝ }
 {
-    if line.len() != 6 {
+    let code = hex_byte(line);
+    if code < 1 {
         return false;
     }
-    if hex_byte(line) != 1 {
+    if 2 < code {
         return false;
     }
-    if 256 <= hex_byte(&line[2..]) {
-        return false;
-    }
-    if 256 <= hex_byte(&line[4..]) {
-        return false;
-    }
-    true
+    let mut bytes = [0u8; 80];
+    let total = decode(line, &mut bytes);
+    is_opening_frame(&bytes[0..total])
 }
 
 // What a line that is an opening asks for.
@@ -75,10 +99,9 @@ pub fn read_opening(line: &[u8]) -> Opening
     requires { ⌜ isOpening (requestOf (now line)) ≡ true ⌝ }
     ensures { λ r. ⌜ toOpen r ≡ requestOf (now (line .entry)) ⌝ }
 {
-    Opening {
-        permits: hex_byte(&line[2..]) as u8,
-        parties: hex_byte(&line[4..]) as u8,
-    }
+    let mut bytes = [0u8; 80];
+    let total = decode(line, &mut bytes);
+    opening_in(&bytes[0..total])
 }
 
 // A line of four characters may be a call, and no other.

@@ -298,7 +298,7 @@ pub fn call_by(values: &[u16; 256], a: u8, b: u8, c: u8, d: u8) -> Header
     if code < 0x10 {
         return malformed();
     }
-    if 0x13 < code {
+    if 0x14 < code {
         return malformed();
     }
     let party = byte_by(values, c, d);

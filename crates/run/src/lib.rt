@@ -8,14 +8,18 @@ use hub::opening::Opening;
 use hub::opening::open_hub;
 use line::answer::refusal_code;
 use line::form::BYTES;
+use line::openings::is_opening_frame;
+use line::openings::opening_in;
 ghost use mathlib.Core.Path.{_≡_};
 ghost use Rattle.run.specs.Bytes.{wellFormed};
-ghost use Rattle.run.specs.Run.{ranCode, runOf};
+ghost use Rattle.line.specs.Requests.{requested};
+ghost use Rattle.run.specs.Run.{framedRun, ranCode, runOf};
 
 // How a run ended. Only a run that is done writes to the buffer.
 pub enum Ran {
-    NotOpened(Refusal), // 2 or 3
-    Malformed, // an odd number of bytes, or a code that is none of the four calls
+    BadOpening, // the opening's frame is malformed
+    NotOpened(Refusal), // 2, 3 or 14
+    Malformed, // an odd number of bytes, or a code that is none of the calls
     NoRoom, // fewer than seven bytes of room for each call
     Done,
 }
@@ -34,7 +38,7 @@ fn well_formed(calls: &[u8]) -> bool
         if code < 0x10 {
             return false;
         }
-        if 0x13 < code {
+        if 0x14 < code {
             return false;
         }
         i += 1;
@@ -69,6 +73,7 @@ fn ran_code(ran: Ran) -> u8
     ensures { λ r. ⌜ r ≡ ranCode ran ⌝ }
 {
     match ran {
+        Ran::BadOpening => 12,
         Ran::NotOpened(why) => refusal_code(why),
         Ran::Malformed => 254,
         Ran::NoRoom => 255,
@@ -76,13 +81,24 @@ fn ran_code(ran: Ran) -> u8
     }
 }
 
-// The same for C and Rust, which see a number: 0 done, 2 or 3 not opened, 254 malformed, 255 no
-// room.
-#[no_mangle]
-pub extern "C" fn hub_run(permits: u8, parties: u8, calls: &[u8], out: &mut [u8]) -> u8
-    ensures { λ r. ⌜ (r ≡ ranCode (runOf (record { permits = permits; parties = parties }) (now (calls .entry)) (now (out .entry)) .ran))
-        × (now (out .exit) ≡ runOf (record { permits = permits; parties = parties }) (now (calls .entry)) (now (out .entry)) .out) ⌝ }
+// The same with the opening as a frame, as it stands in a line.
+fn run_framed(opening: &[u8], calls: &[u8], out: &mut [u8]) -> Ran
+    ensures { λ r. ⌜ (r ≡ framedRun (requested (now (opening .entry))) (now (calls .entry)) (now (out .entry)) .ran)
+        × (now (out .exit) ≡ framedRun (requested (now (opening .entry))) (now (calls .entry)) (now (out .entry)) .out) ⌝ }
 {
-    let ran = run_calls(Opening { permits, parties }, calls, out);
+    if !is_opening_frame(opening) {
+        return Ran::BadOpening;
+    }
+    run_calls(opening_in(opening), calls, out)
+}
+
+// The same for C and Rust, which see a number: 0 done, 12 a malformed opening, 2, 3 or 14 not opened,
+// 254 malformed calls, 255 no room.
+#[no_mangle]
+pub extern "C" fn hub_run(opening: &[u8], calls: &[u8], out: &mut [u8]) -> u8
+    ensures { λ r. ⌜ (r ≡ ranCode (framedRun (requested (now (opening .entry))) (now (calls .entry)) (now (out .entry)) .ran))
+        × (now (out .exit) ≡ framedRun (requested (now (opening .entry))) (now (calls .entry)) (now (out .entry)) .out) ⌝ }
+{
+    let ran = run_framed(opening, calls, out);
     ran_code(ran)
 }

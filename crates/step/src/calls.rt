@@ -1,4 +1,4 @@
-// The four calls by value: a record in, the answer and the record out, for every record and
+// The calls by value: a record in, the answer and the record out, for every record and
 // every party byte. A refusal hands the record back as it came.
 
 use crate::reclaim::reclaim;
@@ -11,6 +11,7 @@ use hub::moves::Sight;
 use hub::record::Hub;
 use hub::record::Outcome;
 use hub::slots::empty_seat;
+use pool::moving::move_radio;
 use transition::effect::decide;
 use transition::sight::by_ticket;
 use transition::sight::seat_index;
@@ -21,7 +22,7 @@ ghost use mathlib.Core.Path.{_≡_};
 ghost use Rattle.hub.specs.Answers.{printed};
 ghost use Rattle.hub.specs.Calls.{called};
 
-// Any of the four. Check, look, store and tidy stand in one function, since a record that is handed
+// Any of them. Check, look, store and tidy stand in one function, since a record that is handed
 // on is copied; what goes to other functions is small. A refused call stores what was there.
 pub fn call(mut hub: Hub, op: Op, party: u8) -> Outcome
     ensures { λ r. ⌜ (r ≡ called hub (record { op = op; party = party }))
@@ -56,6 +57,9 @@ pub fn call(mut hub: Hub, op: Op, party: u8) -> Outcome
         seat,
         waiter,
         figures,
+        named: hub.opening.named,
+        radio: hub.pool.hands[p],
+        stocked: 0 < hub.pool.stored,
     };
     let slots = hub.slots;
     let e = decide(op, hub.oldest, slots, s);
@@ -72,6 +76,11 @@ pub fn call(mut hub: Hub, op: Op, party: u8) -> Outcome
     let after = e.figures;
     hub.figures = after;
     let answer = e.answer;
+    if hub.opening.named {
+        let before = hub.pool;
+        let moved = move_radio(answer, party, before);
+        hub.pool = moved;
+    }
     // the tidying, if there is any
     let r = (hub.figures.resumed % Hub::PLACES) as usize;
     let o = (hub.oldest % Hub::PLACES) as usize;
@@ -117,4 +126,12 @@ pub fn release(hub: Hub, party: u8) -> Outcome
         × (printed (r .answer) ≡ printed (called hub (record { op = Op.Release; party = party }) .answer)) ⌝ }
 {
     call(hub, Op::Release, party)
+}
+
+// Which radio a party has (14).
+pub fn radio(hub: Hub, party: u8) -> Outcome
+    ensures { λ r. ⌜ (r ≡ called hub (record { op = Op.Radio; party = party }))
+        × (printed (r .answer) ≡ printed (called hub (record { op = Op.Radio; party = party }) .answer)) ⌝ }
+{
+    call(hub, Op::Radio, party)
 }

@@ -1,4 +1,4 @@
-// The four calls of the hub, record in and record out, on any record and any party byte.
+// The calls of the hub, record in and record out, on any record and any party byte.
 
 mod reclaim; // the tidying
-pub mod calls; // the four calls
+pub mod calls; // the calls

@@ -5,7 +5,7 @@ use Rattle.hub.specs.declared.moves.Sight.{Sight}
 use Rattle.hub.specs.declared.record.Figures.{Figures}
 use Rattle.hub.specs.declared.record.PartySlot.{PartySlot}
 use Rattle.hub.specs.declared.record.PlaceSlot.{PlaceSlot}
-use Rattle.hub.specs.Moves.{Change, Move, Refuse, Act, Put, Wake}
+use Rattle.hub.specs.Moves.{Change, Move, Refuse, Tell, Act, Put, Wake}
 use Rattle.hub.specs.Record.{PARTIES}
 use Rattle.hub.specs.Ring.{PLACES}
 use Rattle.table.specs.declared.effect.Effect.{Effect}
@@ -23,8 +23,9 @@ flat q x a c =
       answer = c .answer;
     }
 
-abbrev pub effectOf : Move → Sight → Effect
-effectOf (Refuse r) s =
+-- An answer that changes nothing.
+abbrev pub still : Answer → Sight → Effect
+still y s =
     record {
       turns = 0;
       woken = PARTIES;
@@ -32,8 +33,12 @@ effectOf (Refuse r) s =
       slot = s .slot;
       seat = s .seat;
       figures = s .figures;
-      answer = Answer.Refused r;
+      answer = y;
     }
+
+abbrev pub effectOf : Move → Sight → Effect
+effectOf (Refuse r) s = still (Answer.Refused r) s
+effectOf (Tell y) s = still y s
 effectOf (Act c) s = flat PARTIES (s .waiter) (s .seat) c
 effectOf (Put a c) s = flat PARTIES (s .waiter) a c
 effectOf (Wake q x a c) s = flat q x a c

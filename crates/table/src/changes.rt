@@ -11,13 +11,14 @@ use hub::record::Place;
 use hub::slots::with_phase;
 use hub::slots::with_place;
 ghost use mathlib.Core.Path.{_≡_};
-ghost use Rattle.hub.specs.Moves.{Move, Refuse, Act};
+ghost use Rattle.hub.specs.Moves.{Move, Refuse, Tell, Act};
 ghost use Rattle.hub.specs.Table.{change, give, put, take, turn, wake};
 ghost use Rattle.table.specs.Effect.{effectOf};
 ghost use Rattle.table.specs.Small.{CounterFits};
 
-pub(crate) fn refused(why: Refusal, s: Sight) -> Effect
-    ensures { λ r. ⌜ r ≡ effectOf (Refuse why) s ⌝ }
+// An answer, and nothing changes.
+pub(crate) fn told(answer: Answer, s: Sight) -> Effect
+    ensures { λ r. ⌜ r ≡ effectOf (Tell answer) s ⌝ }
 {
     let waiter = s.waiter;
     let slot = s.slot;
@@ -30,8 +31,14 @@ pub(crate) fn refused(why: Refusal, s: Sight) -> Effect
         slot,
         seat,
         figures,
-        answer: Answer::Refused(why),
+        answer,
     }
+}
+
+pub(crate) fn refused(why: Refusal, s: Sight) -> Effect
+    ensures { λ r. ⌜ r ≡ effectOf (Refuse why) s ⌝ }
+{
+    told(Answer::Refused(why), s)
 }
 
 // The party's phase and the figures change.

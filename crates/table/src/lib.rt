@@ -6,4 +6,4 @@ mod counter; // the side of zero that the counter is on
 mod figures; // one of them changed
 mod changes; // what the rows are made of
 pub mod rows; // the step table
-pub mod others; // ask, give up, give back
+pub mod others; // ask, give up, give back, which radio

@@ -1,13 +1,15 @@
-// The three other calls: ask, give up, give back.
+// The other calls: ask, give up, give back, and which radio a party has.
 
 use crate::changes::acted;
 use crate::changes::refused;
+use crate::changes::told;
 use crate::changes::turned;
 use crate::effect::Effect;
 use crate::figures::with_begun;
 use hub::answers::Answer;
 use hub::answers::Refusal;
 use hub::moves::Sight;
+use hub::phases::has_radio;
 use hub::record::Hub;
 use hub::record::Phase;
 ghost use mathlib.Core.Path.{_≡_};
@@ -61,4 +63,19 @@ pub fn decide_release(s: Sight) -> Effect
         return refused(Refusal::NotHolding, s);
     };
     turned(Phase::Releasing, Answer::Accepted, s)
+}
+
+// A party may have a radio on a hub with radios alone.
+pub fn decide_radio(s: Sight) -> Effect
+    ensures { λ r. ⌜ r ≡ effectOf (decide Op.Radio false s) s ⌝ }
+{
+    if !s.named {
+        return told(Answer::NoRadio, s);
+    }
+    let slot = s.slot;
+    let phase = slot.phase;
+    if !has_radio(phase) {
+        return told(Answer::NoRadio, s);
+    }
+    told(Answer::Radio(s.radio as u32), s)
 }

@@ -5,6 +5,8 @@ use crate::changes::given;
 use crate::changes::placed;
 use crate::changes::refused;
 use crate::changes::taken;
+use crate::changes::told;
+use crate::changes::turned;
 use crate::changes::woke;
 use crate::counter::above_zero;
 use crate::counter::below_zero;
@@ -20,16 +22,35 @@ ghost use mathlib.Core.Path.{_≡_};
 ghost use Prim.Native.Nat.{_≤_};
 ghost use Rattle.hub.specs.Phases.{isWaiting};
 ghost use Rattle.hub.specs.Table;
-ghost use Rattle.hub.specs.Table.{resumeWaiter, stepIn};
+ghost use Rattle.hub.specs.Table.{resumeWaiter, stepIn, withPermit, withoutPermit};
 ghost use Rattle.table.specs.Effect.{effectOf};
 ghost use Rattle.table.specs.Small.{Small, CounterFits};
+
+// With a permit of its own; having given one back.
+fn with_permit(named: bool) -> Phase
+    ensures { λ r. ⌜ r ≡ withPermit named ⌝ }
+{
+    if named {
+        return Phase::Fetching;
+    }
+    Phase::Holding
+}
+
+fn without_permit(named: bool) -> Phase
+    ensures { λ r. ⌜ r ≡ withoutPermit named ⌝ }
+{
+    if named {
+        return Phase::Storing;
+    }
+    Phase::Free
+}
 
 fn step_acquiring(s: Sight) -> Effect
     requires { ⌜ CounterFits (s .figures .counter) ⌝ }
     ensures { λ r. ⌜ r ≡ effectOf (stepIn Phase.Acquiring s) s ⌝ }
 {
     if above_zero(s.figures.counter) {
-        return taken(Phase::Holding, Answer::Acquired, s);
+        return taken(with_permit(s.named), Answer::Acquired, s);
     }
     taken(Phase::Suspending, Answer::MustWait, s)
 }
@@ -71,7 +92,7 @@ fn step_releasing(s: Sight) -> Effect
     if below_zero(s.figures.counter) {
         return given(Phase::Resuming, Answer::MustResume, s);
     }
-    given(Phase::Free, Answer::Returned, s)
+    given(without_permit(s.named), Answer::Returned, s)
 }
 
 fn step_resuming(s: Sight) -> Effect
@@ -144,6 +165,22 @@ fn step_refusing(t: u32, s: Sight) -> Effect
     }
 }
 
+// A radio is stored, or not yet.
+fn step_fetching(s: Sight) -> Effect
+    ensures { λ r. ⌜ r ≡ effectOf (stepIn Phase.Fetching s) s ⌝ }
+{
+    if s.stocked {
+        return turned(Phase::Holding, Answer::Fetched, s);
+    }
+    told(Answer::NotYet, s)
+}
+
+fn step_storing(s: Sight) -> Effect
+    ensures { λ r. ⌜ r ≡ effectOf (stepIn Phase.Storing s) s ⌝ }
+{
+    turned(Phase::Free, Answer::Stored, s)
+}
+
 // The step table.
 pub fn decide_step(s: Sight) -> Effect
     requires { ⌜ Small s ⌝ }
@@ -161,6 +198,8 @@ pub fn decide_step(s: Sight) -> Effect
         Phase::Releasing => step_releasing(s),
         Phase::Resuming => step_resuming(s),
         Phase::ResumingAt(t) => step_resuming_at(t, s),
+        Phase::Fetching => step_fetching(s),
+        Phase::Storing => step_storing(s),
         _ => refused(Refusal::AtRest, s),
     }
 }

@@ -7,3 +7,4 @@ fullFor Op.Acquire full = full
 fullFor Op.Step full = false
 fullFor Op.Cancel full = false
 fullFor Op.Release full = false
+fullFor Op.Radio full = false

@@ -1,4 +1,4 @@
-// What a call does, whichever of the four it is.
+// What a call does, whichever it is.
 
 use crate::room::full_for;
 use hub::moves::Op;
@@ -7,6 +7,7 @@ use hub::record::PartySlot;
 use table::effect::Effect;
 use table::others::decide_acquire;
 use table::others::decide_cancel;
+use table::others::decide_radio;
 use table::others::decide_release;
 use table::rows::decide_step;
 ghost use mathlib.Core.Path.{_≡_};
@@ -26,6 +27,7 @@ pub fn decide_by(op: Op, full: bool, s: Sight) -> Effect
         Op::Acquire => decide_acquire(full, s),
         Op::Cancel => decide_cancel(s),
         Op::Release => decide_release(s),
+        Op::Radio => decide_radio(s),
     }
 }
 

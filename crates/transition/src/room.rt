@@ -15,7 +15,12 @@ fn is_full(oldest: u32, issued: u32, slots: [PartySlot; 32]) -> bool
     requires { ⌜ (oldest ≤ 1000000) × (issued ≤ 1000000) ⌝ }
     ensures { λ r. ⌜ r ≡ isFull oldest issued slots ⌝ }
 {
-    let drawing = count_phases(slots, Phase::Acquiring, Phase::Suspending);
+    let drawing = count_phases(
+        slots,
+        Phase::Acquiring,
+        Phase::Suspending,
+        Phase::Suspending,
+    );
     oldest + Hub::PLACES <= issued + drawing
 }
 
