@@ -5,7 +5,7 @@
 use board::call_on_board;
 use hub::answers::Answer;
 use hub::moves::Op;
-use hub::opening::Opening;
+use hub::opening::sized;
 use hub::record::Figures;
 use hub::record::Hub;
 use hub::record::Outcome;
@@ -19,6 +19,7 @@ use hub::slots::with_place;
 use line::answer::print_of;
 use line::answer::put;
 use run::Ran;
+use run::hub_run;
 use run::run_calls;
 use step::calls::acquire;
 use step::calls::cancel;
@@ -66,8 +67,11 @@ fn told(party: u8, o: Outcome) -> Hub {
 
 fn print_run(permits: u8, parties: u8, calls: &[u8]) {
     let mut out = [0u8; 224];
-    let ran = run_calls(Opening { permits, parties }, calls, &mut out);
+    let ran = run_calls(sized(permits, parties), calls, &mut out);
     match ran {
+        Ran::BadOpening => {
+            io::write_all(1, b"no opening\n");
+        }
         Ran::NotOpened(why) => {
             print_answer(255, Answer::Refused(why));
         }
@@ -85,9 +89,23 @@ fn print_run(permits: u8, parties: u8, calls: &[u8]) {
     io::write_all(1, b"\n");
 }
 
+// A run from its opening's frame, as C sees it. A number that is not 0 is printed, in base ten.
+fn print_framed(opening: &[u8], calls: &[u8]) {
+    let mut out = [0u8; 224];
+    let code = hub_run(opening, calls, &mut out);
+    if code == 0 {
+        print_answer(255, Answer::Opened);
+        print_lines(&out, calls.len() / 2);
+    } else {
+        io::print_decimal(1, code as u64);
+        io::write_all(1, b"\n");
+    }
+    io::write_all(1, b"\n");
+}
+
 // A hub just opened.
 fn opened(permits: u8, parties: u8) -> Hub {
-    Hub::open(Opening { permits, parties })
+    Hub::open(sized(permits, parties))
 }
 
 // A hub of 32 permits with this counter.
@@ -158,7 +176,7 @@ fn print_counts(hub: Hub) {
     io::write_all(1, b" waiting\n");
 }
 
-// The four calls in place, and what the record shows between them.
+// The calls in place, and what the record shows between them.
 fn in_place() {
     let h = opened(2, 3);
     print_counts(h);
@@ -182,6 +200,7 @@ fn in_place() {
     print_counts(h);
     let h = on_board(h, Op::Step, 0);
     let h = on_board(h, Op::Step, 0);
+    let h = on_board(h, Op::Radio, 0);
     print_counts(h);
 }
 
@@ -247,7 +266,27 @@ fn main() {
     );
     // what is no list of calls
     print_run(1, 3, b"\x10");
-    print_run(1, 3, b"\x14\x00");
+    print_run(1, 3, b"\x15\x00");
+    // radios 0A and 0B, the first one first: 36, 39, 38; party 3 is refused by 4
+    print_framed(
+        b"\x02\x02\x03\x0A\x0B",
+        b"\x10\x00\x11\x00\x14\x00\x11\x00\x14\x00\x13\x00\x11\x00\x14\x00\x10\x01\x11\x01\x11\x01\x14\x01\x11\x00\x14\x00\x14\x03",
+    );
+    // the permit is back and its radio is not: 37
+    print_framed(
+        b"\x02\x01\x02\x2F",
+        b"\x10\x00\x11\x00\x11\x00\x13\x00\x11\x00\x10\x01\x11\x01\x11\x01\x11\x00\x11\x01\x14\x01",
+    );
+    // no radios: 39 without a number
+    print_framed(b"\x01\x01\x03", b"\x14\x00\x10\x00\x11\x00\x14\x00");
+    // refusals 14, 3 before it, 2; frames that are no opening
+    print_framed(b"\x02\x02\x03\x0A\x0A", b"");
+    print_framed(b"\x02\x02\x00\x0A\x0A", b"");
+    print_framed(b"\x01\x00\x03", b"");
+    print_framed(b"\x02\x02\x03\x0A", b"");
+    print_framed(b"\x10\x00", b"");
+    // malformed calls
+    print_framed(b"\x01\x01\x03", b"\x15\x00");
     made_by_hand();
     io::write_all(1, b"\n");
     in_place();

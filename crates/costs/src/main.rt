@@ -5,7 +5,7 @@
 use board::call_on_board;
 use hub::answers::Answer;
 use hub::moves::Op;
-use hub::opening::Opening;
+use hub::opening::sized;
 use hub::record::Hub;
 use hub::record::Outcome;
 use line::answer::print_of;
@@ -23,10 +23,7 @@ fn waits(hub: Hub, party: u8) -> Hub {
 // One permit: party 0 holds it, 1 waits, 2 has asked, 3 is free, and if there are 32 parties the
 // others wait too.
 fn prepared(parties: u8) -> Hub {
-    let fresh = Hub::open(Opening {
-        permits: 1,
-        parties,
-    });
+    let fresh = Hub::open(sized(1, parties));
     let o = call_on_board(fresh, Op::Acquire, 0);
     let o = call_on_board(o.hub, Op::Step, 0);
     let mut hub = waits(o.hub, 1);

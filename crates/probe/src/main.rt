@@ -1,9 +1,10 @@
 // One call on any record at all, also on one that no opening reaches. A case on standard input is a
-// record and a call, 1464 bytes; its reply is the answer and the record that is left, 1469 bytes.
+// record and a call, 1819 bytes; its reply is the answer and the record that is left, 1824 bytes.
 // tests/README.md lays them out.
 
+mod radios; // the radios' part of a record
+
 use hub::moves::Op;
-use hub::opening::Opening;
 use hub::record::Figures;
 use hub::record::Hub;
 use hub::record::Outcome;
@@ -20,18 +21,18 @@ use libc::STDOUT_FILENO;
 use line::answer::print_of;
 use line::answer::put;
 use line::signed::twos_complement;
+use radios::opening_of;
+use radios::pool_of;
+use radios::put_radios;
 use step::calls::call;
 ghost use Prim.Native.Nat.{_+_, _<_, _≤_};
 
 // Only this function and `bytes_of` know the record's fields.
-fn record_of(bytes: &[u8; 1462]) -> Hub {
+fn record_of(bytes: &[u8; 1817]) -> Hub {
     let places = places_of(bytes);
     let slots = slots_of(bytes);
     Hub {
-        opening: Opening {
-            permits: bytes[0],
-            parties: bytes[1],
-        },
+        opening: opening_of(bytes),
         figures: Figures {
             counter: signed(number_at(bytes, 2)),
             issued: number_at(bytes, 6),
@@ -41,11 +42,12 @@ fn record_of(bytes: &[u8; 1462]) -> Hub {
         oldest: number_at(bytes, 18),
         places,
         slots,
+        pool: pool_of(bytes),
     }
 }
 
-fn bytes_of(hub: Hub) -> [u8; 1462] {
-    let mut out = [0u8; 1462];
+fn bytes_of(hub: Hub) -> [u8; 1817] {
+    let mut out = [0u8; 1817];
     out[0] = hub.opening.permits;
     out[1] = hub.opening.parties;
     put_number(&mut out, 2, twos_complement(hub.figures.counter));
@@ -57,10 +59,12 @@ fn bytes_of(hub: Hub) -> [u8; 1462] {
     put_places(&mut out, places);
     let slots = hub.slots;
     put_slots(&mut out, slots);
+    let pool = hub.pool;
+    put_radios(&mut out, hub.opening, slots, places, pool);
     out
 }
 
-fn places_of(bytes: &[u8; 1462]) -> [PlaceSlot; 256] {
+fn places_of(bytes: &[u8; 1817]) -> [PlaceSlot; 256] {
     let empty = empty_seat();
     let mut places = [empty; 256];
     let mut i: usize = 0;
@@ -72,7 +76,7 @@ fn places_of(bytes: &[u8; 1462]) -> [PlaceSlot; 256] {
     places
 }
 
-fn put_places(out: &mut [u8; 1462], places: [PlaceSlot; 256]) {
+fn put_places(out: &mut [u8; 1817], places: [PlaceSlot; 256]) {
     let mut i: usize = 0;
     while i < 256 {
         let slot = places[i];
@@ -82,7 +86,7 @@ fn put_places(out: &mut [u8; 1462], places: [PlaceSlot; 256]) {
     }
 }
 
-fn slots_of(bytes: &[u8; 1462]) -> [PartySlot; 32] {
+fn slots_of(bytes: &[u8; 1817]) -> [PartySlot; 32] {
     let free = free_slot();
     let mut slots = [free; 32];
     let mut p: usize = 0;
@@ -94,7 +98,7 @@ fn slots_of(bytes: &[u8; 1462]) -> [PartySlot; 32] {
     slots
 }
 
-fn put_slots(out: &mut [u8; 1462], slots: [PartySlot; 32]) {
+fn put_slots(out: &mut [u8; 1817], slots: [PartySlot; 32]) {
     let mut p: usize = 0;
     while p < 32 {
         let slot = slots[p];
@@ -110,8 +114,8 @@ struct Cell {
     number: u32,
 }
 
-fn cell_at(bytes: &[u8; 1462], at: usize) -> Cell
-    requires { ⌜ at + 5 ≤ 1462 ⌝ }
+fn cell_at(bytes: &[u8; 1817], at: usize) -> Cell
+    requires { ⌜ at + 5 ≤ 1817 ⌝ }
 {
     Cell {
         name: bytes[at],
@@ -119,8 +123,8 @@ fn cell_at(bytes: &[u8; 1462], at: usize) -> Cell
     }
 }
 
-fn put_cell(out: &mut [u8; 1462], at: usize, cell: Cell)
-    requires { ⌜ at + 5 ≤ 1462 ⌝ }
+fn put_cell(out: &mut [u8; 1817], at: usize, cell: Cell)
+    requires { ⌜ at + 5 ≤ 1817 ⌝ }
 {
     out[at] = cell.name;
     put_number(out, at + 1, cell.number);
@@ -155,7 +159,7 @@ fn place_cell(place: Place) -> Cell {
 }
 
 fn phase_of(cell: Cell) -> Phase {
-    let name = cell.name % 12;
+    let name = cell.name % 14;
     let t = cell.number;
     match name {
         0 => Phase::Free,
@@ -169,7 +173,9 @@ fn phase_of(cell: Cell) -> Phase {
         8 => Phase::Refusing(t),
         9 => Phase::Releasing,
         10 => Phase::Resuming,
-        _ => Phase::ResumingAt(t),
+        11 => Phase::ResumingAt(t),
+        12 => Phase::Fetching,
+        _ => Phase::Storing,
     }
 }
 
@@ -190,6 +196,8 @@ fn phase_cell(phase: Phase) -> Cell {
             name: 11,
             number: t,
         },
+        Phase::Fetching => plain(12),
+        Phase::Storing => plain(13),
     }
 }
 
@@ -198,26 +206,27 @@ fn plain(name: u8) -> Cell {
 }
 
 fn op_of(byte: u8) -> Op {
-    let name = byte % 4;
+    let name = byte % 5;
     match name {
-        0 => Op::Acquire,
-        1 => Op::Step,
-        2 => Op::Cancel,
+        0 => Op::Radio,
+        1 => Op::Acquire,
+        2 => Op::Step,
+        3 => Op::Cancel,
         _ => Op::Release,
     }
 }
 
 // The number in the four bytes from here on, the high byte first.
-fn number_at(bytes: &[u8; 1462], at: usize) -> u32
-    requires { ⌜ at + 4 ≤ 1462 ⌝ }
+fn number_at(bytes: &[u8; 1817], at: usize) -> u32
+    requires { ⌜ at + 4 ≤ 1817 ⌝ }
 {
     let high = wide(bytes[at]) * 256 + wide(bytes[at + 1]);
     let low = wide(bytes[at + 2]) * 256 + wide(bytes[at + 3]);
     high * 65536 + low
 }
 
-fn put_number(out: &mut [u8; 1462], at: usize, n: u32)
-    requires { ⌜ at + 4 ≤ 1462 ⌝ }
+fn put_number(out: &mut [u8; 1817], at: usize, n: u32)
+    requires { ⌜ at + 4 ≤ 1817 ⌝ }
 {
     out[at] = (n / 16777216 % 256) as u8;
     out[at + 1] = (n / 65536 % 256) as u8;
@@ -254,8 +263,8 @@ fn print_reply(party: u8, o: Outcome) -> bool {
 
 // False where the input ends, or writing fails.
 fn answer_one() -> bool {
-    let mut record = [0u8; 1462];
-    if io::read_full(STDIN_FILENO, &mut record) < 1462 {
+    let mut record = [0u8; 1817];
+    if io::read_full(STDIN_FILENO, &mut record) < 1817 {
         return false;
     }
     let mut asked = [0u8; 2];
