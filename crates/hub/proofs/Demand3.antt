@@ -37,12 +37,12 @@ use Rattle.hub.proofs.Laws.Ranges.{sumFrom, sum-zero, sum-same, sum-spl
 use Rattle.hub.proofs.Laws.Ranges.{sum-list}
 use Rattle.hub.proofs.Laws.Seats.{next-round}
 use Rattle.hub.proofs.Invariant.Weights.{up, down, pick, count-pick, holding, resuming, refusing}
-use Rattle.hub.proofs.Invariant.Weights.{drawing, suspending, live, permitCell, refusedCell, sum, total}
-use Rattle.hub.proofs.Invariant.Weights.{TICKETS}
+use Rattle.hub.proofs.Invariant.Weights.{drawing, suspending, live, permitCell, refusedCell, sum, cellSum}
+use Rattle.hub.proofs.Invariant.Weights.{total, TICKETS}
 use Rattle.hub.proofs.Invariant.Tickets.{near}
 use Rattle.hub.proofs.Invariant.Keep.{permits}
 use Rattle.hub.proofs.Invariant.Walk.{all-more}
-use Rattle.hub.proofs.Invariant.Rest.{standing}
+use Rattle.hub.proofs.Invariant.Rest.{Settled, rest-settled, standing}
 use Rattle.hub.proofs.Invariant.Schedules.{Agrees, entered, next-good}
 use Rattle.hub.proofs.Invariant.Schedules.{fresh-inv, fresh-agrees}
 use Rattle.hub.proofs.Invariant.Held.{held-most, way-whole, all-held}
@@ -192,6 +192,12 @@ ring-sum o l g v s b w x y =
     small : (j : ℕ) → j < PLACES → (0 + j) % PLACES ≡ j
     small j i = omega arith
 
+pub ring-count : (k : ℕ) (h : Hub) (m : Queue) → Tracks k h m → (w : Place → ℕ)
+    → w Place.Empty ≡ 0 → w Place.Done ≡ 0 → cellSum w m ≡ weight w (placesOf (h .places))
+ring-count k h m r w =
+    ring-sum (h .oldest) (h .places) (m .cells) (r .shows .window) (r .size)
+    (omega (arith, low k h m r, near (r .inv .tickets))) w
+
 -- The unserved waits are those that will draw a ticket and those that live with one.
 unserved-count : (l : List Phase) → count isUnserved l ≡ weight suspending l + weight live l
 unfolding pick isOneOf
@@ -205,7 +211,6 @@ accounts : (k : ℕ) (h : Hub) (m : Queue) (e : Ledger) → Tracks k h m → Agr
     → Accounts k e h
 unfolding isPlaceOf
 accounts k h m e r a =
-    let near-end : h .oldest + PLACES ≤ TICKETS = omega (arith, low k h m r, near (r .inv .tickets)) in
     let bring : count (isOneOf (Phase.Resuming ∷ Phase.ResumingAt 0 ∷ [])) (e .phases)
     ≡ sum resuming m =
     count-pick _ (e .phases) ∙ ap (weight resuming) (a .replayed) in
@@ -252,20 +257,18 @@ accounts k h m e r a =
           omega (
             arith,
             a .permits,
-            ring-sum (h .oldest) (h .places) (m .cells) (r .shows .window) (r .size) near-end
-                permitCell refl refl,
+            ring-count k h m r permitCell refl refl,
           );
       refusals =
           omega (
             arith,
             a .refusals,
-            ring-sum (h .oldest) (h .places) (m .cells) (r .shows .window) (r .size) near-end
-                refusedCell refl refl,
+            ring-count k h m r refusedCell refl refl,
           );
       holders = omega (arith, a .held, hold);
       most = omega (arith, a .held, held-most k m (r .inv));
       calm = λ q p t i.
-          let rest : Calm (phases m) = subst Calm (a .replayed) q in
+          let rest : Settled (phases m) = λ j. rest-settled _ (subst Calm (a .replayed) q j) in
           let z : phaseIn (phases m) p ≡ Phase.Waiting t =
           ap (λ (l : List Phase). phaseIn l p) (sym (a .replayed)) ∙ i in (
             omega (arith, a .held, all-held k m (r .inv) rest p t z),
@@ -275,7 +278,7 @@ accounts k h m e r a =
 
 -- From an accepted opening.
 module _ (o : Opening) (e : opening o .answer ≡ Answer.Opened) where
-  start : InRange o
+  pub start : InRange o
   start = in-range o e
 
   first-reached : Reached (o .permits) (opening o .hub) (queue.fresh o)
@@ -287,7 +290,7 @@ module _ (o : Opening) (e : opening o .answer ≡ Answer.Opened) where
         radios = λ n. fresh-kept o (start .permits .1);
       })
 
-  schedule : (cs : List Call)
+  pub schedule : (cs : List Call)
       → Account (o .permits) (start .permits .0) (start .permits .1) (run (opening o .hub) cs)
       (ledger (opened o) (entries (opening o .hub) cs))
   schedule cs =

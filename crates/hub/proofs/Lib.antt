@@ -5,3 +5,4 @@ pub mod Invariant  -- why the permits add up
 pub mod Radios  -- where the radios are
 pub mod Window  -- the record beside the unbounded queue
 pub mod Demand3  -- the third demand
+pub mod RadiosKept  -- what is claimed of radios

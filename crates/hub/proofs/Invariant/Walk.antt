@@ -34,8 +34,8 @@ use Rattle.hub.specs.Record.{MAX-BEGUN, emptySeat, freeSlot, readSlot, w
 use Rattle.hub.specs.Table.{aboveZero, belowZero, acquire, cancel, release, decide, step, stepIn}
 use Rattle.hub.specs.Table.{stepAcquiring, stepSuspending, stepTicketed, stepReleasing}
 use Rattle.hub.specs.Table.{stepResuming, resumeWaiter, stepResumingAt, stepAborting}
-use Rattle.hub.specs.Table.{stepCancelling, stepRefusing, stepFetching, stepStoring, tellRadio, take, give}
-use Rattle.hub.specs.Table.{withPermit, withoutPermit}
+use Rattle.hub.specs.Table.{stepCancelling, stepRefusing, stepFetching, stepStoring, tellRadio}
+use Rattle.hub.specs.Table.{take, give, withPermit, withoutPermit}
 use Rattle.hub.proofs.Laws.Lists.{weight-scale}
 use Rattle.hub.proofs.Laws.Phases.{every-phase, one-of}
 use Rattle.hub.proofs.Laws.Slots.{read-phase, write-phase}
@@ -609,8 +609,10 @@ module _ (k : ℕ) (m : Queue) (p : ℕ) (l : p < m .opening .parties) (inv : In
 
   radio-good : (a : Bool) → Good k Radio p m phase (tellRadio a (look m p))
   unfolding tellRadio isPlaceOf phaseAfter phasesAfter counterAfter servedAfter
-  radio-good true = tell-row k m p l inv (is-of phase refl) (omega arith) (refl, refl, refl, refl) (λ xs a. a)
-  radio-good false = tell-row k m p l inv (is-of phase refl) (omega arith) (refl, refl, refl, refl) (λ xs a. a)
+  radio-good true =
+      tell-row k m p l inv (is-of phase refl) (omega arith) (refl, refl, refl, refl) (λ xs a. a)
+  radio-good false =
+      tell-row k m p l inv (is-of phase refl) (omega arith) (refl, refl, refl, refl) (λ xs a. a)
 
   pub decide-good : (o : Op) → Good k o p m (look m p .slot .phase) (decide o false (look m p))
   unfolding decide seenBy

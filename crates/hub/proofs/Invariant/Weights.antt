@@ -136,11 +136,11 @@ abbrev pub one : ℕ → ℕ
 one t = 1
 
 -- A phase that is in one list is in a longer one.
-abbrev within : List Phase → List Phase → Bool
+abbrev pub within : List Phase → List Phase → Bool
 within [] l = true
 within (x ∷ xs) l = among (map rank l) (rank x) && within xs l
 
-in-longer : (xs l : List Phase) (r : ℕ) → within xs l ≡ true
+pub in-longer : (xs l : List Phase) (r : ℕ) → within xs l ≡ true
     → among (map rank xs) r ≡ true → among (map rank l) r ≡ true
 in-longer [] l r e i = cc
 in-longer (x ∷ xs) l r e i =

@@ -78,7 +78,7 @@ where-true true c f = f refl
 where-true false c f = refl
 
 -- A phase of radios in the count is one in the test.
-with-radios : (f : Phase) (b : Bool) → radioed f ≤ bit b → implies (ofRadios f) b ≡ true
+pub with-radios : (f : Phase) (b : Bool) → radioed f ≤ bit b → implies (ofRadios f) b ≡ true
 unfolding pick
 with-radios f b = go (ofRadios f) b
   where
