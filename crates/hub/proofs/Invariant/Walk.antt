@@ -9,10 +9,10 @@ use borrow.Author.Tests.{leb-false}
 use lib.Dec.{leb, eqb}
 use lib.ListN.{set}
 use lib.Seq.{set-set, set-comm}
-use Rattle.hub.specs.declared.answers.Answer.{Answer}
 use Rattle.hub.specs.Moves.{Move}
 use Rattle.hub.specs.declared.moves.Op.{Op}
 use Rattle.hub.specs.declared.moves.Op.the-variants.{Acquire, Step, Cancel, Release, Radio}
+use Rattle.hub.specs.declared.moves.Sight.{Sight}
 use Rattle.hub.specs.declared.record.PartySlot.{PartySlot}
 use Rattle.hub.specs.declared.record.Phase.{Phase}
 use Rattle.hub.specs.declared.record.Phase.the-variants.{Free, Holding, Waiting, Acquiring}
@@ -35,7 +35,6 @@ use Rattle.hub.specs.Table.{aboveZero, belowZero, acquire, cancel, relea
 use Rattle.hub.specs.Table.{stepAcquiring, stepSuspending, stepTicketed, stepReleasing}
 use Rattle.hub.specs.Table.{stepResuming, resumeWaiter, stepResumingAt, stepAborting}
 use Rattle.hub.specs.Table.{stepCancelling, stepRefusing, stepFetching, stepStoring, tellRadio}
-use Rattle.hub.specs.Table.{take, give, withPermit, withoutPermit}
 use Rattle.hub.proofs.Laws.Lists.{weight-scale}
 use Rattle.hub.proofs.Laws.Phases.{every-phase, one-of}
 use Rattle.hub.proofs.Laws.Slots.{read-phase, write-phase}
@@ -70,65 +69,68 @@ module _ (k : ℕ) (m : Queue) (p : ℕ) (l : p < m .opening .parties) (inv : In
   abbrev resumed : ℕ
   resumed = m .figures .resumed
 
-  -- Rows on the counter alone. The ticket next issued stands for all: nothing happens to it. On a hub
-  -- with radios 21 and 26 lead to phases of their own.
-  acquired : (v : Bool) → m .opening .named ≡ v → aboveZero (m .figures .counter) ≡ true
+  -- What the party sees, had the hub radios or not.
+  abbrev seeing : Bool → Sight
+  seeing v =
+      let s = look m p in
+      record {
+        party = s .party;
+        kind = s .kind;
+        slot = s .slot;
+        seat = s .seat;
+        waiter = s .waiter;
+        figures = s .figures;
+        named = v;
+        radio = s .radio;
+        stocked = s .stocked;
+      }
+
+  -- Rows on the counter alone. The ticket next issued stands for all: nothing happens to it.
+  asked : (u v : Bool) → aboveZero (m .figures .counter) ≡ u → m .opening .named ≡ v
       → phaseIn (phases m) p ≡ Acquiring
-      → Good k Step p m Acquiring (take (withPermit v) Answer.Acquired (look m p))
-  unfolding pick isOneOf isPlaceOf seenBy phaseAfter phasesAfter counterAfter servedAfter
-  acquired true n e f =
+      → Good k Step p m Acquiring (stepAcquiring u (seeing v))
+  unfolding stepAcquiring pick isOneOf isPlaceOf seenBy phaseAfter phasesAfter counterAfter servedAfter
+  asked true true e n f =
       phase-row k m p l inv _ issued f
       (omega (arith, inv .tickets .at issued, took-above (m .figures .counter) e, ap bit n))
       (omega (arith, took-above (m .figures .counter) e))
       (names-kept k m p l inv issued _ _ f (omega arith))
-      (omega arith) (refl, ap withPermit n, refl, refl) (λ xs a. a)
-  acquired false n e f =
+      (omega arith) (refl, rw n, refl, refl) (λ xs a. a)
+  asked true false e n f =
       phase-row k m p l inv _ issued f
       (omega (arith, inv .tickets .at issued, took-above (m .figures .counter) e))
       (omega (arith, took-above (m .figures .counter) e))
       (names-kept k m p l inv issued _ _ f (omega arith))
-      (omega arith) (refl, ap withPermit n, refl, refl) (λ xs a. a)
-
-  returned : (v : Bool) → m .opening .named ≡ v → belowZero (m .figures .counter) ≡ false
-      → phaseIn (phases m) p ≡ Releasing
-      → Good k Step p m Releasing (give (withoutPermit v) Answer.Returned (look m p))
-  unfolding pick isOneOf isPlaceOf seenBy phaseAfter phasesAfter counterAfter servedAfter
-  returned true n e f =
-      phase-row k m p l inv _ issued f
-      (omega (arith, inv .tickets .at issued, gave-above (m .figures .counter) e, ap bit n))
-      (omega (arith, gave-above (m .figures .counter) e))
-      (names-kept k m p l inv issued _ _ f (omega arith))
-      (omega arith) (refl, ap withoutPermit n, refl, refl) (λ xs a. a)
-  returned false n e f =
-      phase-row k m p l inv _ issued f
-      (omega (arith, inv .tickets .at issued, gave-above (m .figures .counter) e))
-      (omega (arith, gave-above (m .figures .counter) e))
-      (names-kept k m p l inv issued _ _ f (omega arith))
-      (omega arith) (refl, ap withoutPermit n, refl, refl) (λ xs a. a)
-
-  asked : (u : Bool) → aboveZero (m .figures .counter) ≡ u
-      → phaseIn (phases m) p ≡ Acquiring
-      → Good k Step p m Acquiring (stepAcquiring u (look m p))
-  unfolding stepAcquiring pick isOneOf isPlaceOf seenBy phaseAfter phasesAfter counterAfter servedAfter
-  asked true e f = acquired _ refl e f
-  asked false e f =
+      (omega arith) (refl, rw n, refl, refl) (λ xs a. a)
+  asked false v e n f =
       phase-row k m p l inv _ issued f
       (omega (arith, inv .tickets .at issued, took-below (m .figures .counter) e))
       (omega (arith, took-below (m .figures .counter) e))
       (names-kept k m p l inv issued _ _ f (omega arith))
       (omega arith) (refl, refl, refl, refl) (λ xs a. a)
 
-  giving-back : (u : Bool) → belowZero (m .figures .counter) ≡ u
+  giving-back : (u v : Bool) → belowZero (m .figures .counter) ≡ u → m .opening .named ≡ v
       → phaseIn (phases m) p ≡ Releasing
-      → Good k Step p m Releasing (stepReleasing u (look m p))
+      → Good k Step p m Releasing (stepReleasing u (seeing v))
   unfolding stepReleasing pick isOneOf isPlaceOf seenBy phaseAfter phasesAfter counterAfter servedAfter
-  giving-back true e f =
+  giving-back true v e n f =
       phase-row k m p l inv _ issued f
       (omega (arith, inv .tickets .at issued, gave-below (m .figures .counter) e))
       (omega (arith, gave-below (m .figures .counter) e))
       (names-kept k m p l inv issued _ _ f (omega arith))
       (omega arith) (refl, refl, refl, refl) (λ xs a. a)
-  giving-back false e f = returned _ refl e f
+  giving-back false true e n f =
+      phase-row k m p l inv _ issued f
+      (omega (arith, inv .tickets .at issued, gave-above (m .figures .counter) e, ap bit n))
+      (omega (arith, gave-above (m .figures .counter) e))
+      (names-kept k m p l inv issued _ _ f (omega arith))
+      (omega arith) (refl, rw n, refl, refl) (λ xs a. a)
+  giving-back false false e n f =
+      phase-row k m p l inv _ issued f
+      (omega (arith, inv .tickets .at issued, gave-above (m .figures .counter) e))
+      (omega (arith, gave-above (m .figures .counter) e))
+      (names-kept k m p l inv issued _ _ f (omega arith))
+      (omega arith) (refl, rw n, refl, refl) (λ xs a. a)
 
   -- Rows on a radio: no permit moves.
   fetching : (u : Bool) → phaseIn (phases m) p ≡ Fetching
@@ -553,13 +555,13 @@ module _ (k : ℕ) (m : Queue) (p : ℕ) (l : p < m .opening .parties) (inv : In
   step-good Free e = refl
   step-good Holding e = refl
   step-good (Waiting t) e = refl
-  step-good Acquiring e = asked _ refl e
+  step-good Acquiring e = asked _ _ refl refl e
   step-good Suspending e = unnumbered e
   step-good (Ticketed t) e = numbered t _ (sym (seen (Ticketed t) e)) e
   step-good (Aborting t) e = giving-up t _ refl e
   step-good (Cancelling t) e = cancelling t _ (sym (seen (Cancelling t) e)) e
   step-good (Refusing t) e = refusing t _ (sym (seen (Refusing t) e)) e
-  step-good Releasing e = giving-back _ refl e
+  step-good Releasing e = giving-back _ _ refl refl e
   step-good Resuming e = carrying e
   step-good (ResumingAt t) e = handing t e _ (sym (seen (ResumingAt t) e)) refl
   step-good Fetching e = fetching _ e
