@@ -22,7 +22,7 @@ use Rattle.hub.specs.Counts.{countsOf, CountsAddUp}
 use Rattle.hub.specs.Demand3.{Accounts, Calm, Demand3, ReachedFits}
 use Rattle.hub.specs.Ledger.{Ledger, opened, phaseIn, enter, ledger, atCounter}
 use Rattle.hub.specs.Look.{look}
-use Rattle.hub.specs.Opening.{fresh, openingIf, opening}
+use Rattle.hub.specs.Opening.{fresh, openingIf, opening, radiosDiffer}
 use Rattle.hub.specs.Phases.{isOneOf, isPlaceOf, isUnserved, holds, resumes, refuses}
 use Rattle.hub.specs.Queue.{Queue, phases}
 use Rattle.hub.specs.Queue as queue
@@ -37,48 +37,52 @@ use Rattle.hub.proofs.Laws.Ranges.{sumFrom, sum-zero, sum-same, sum-spl
 use Rattle.hub.proofs.Laws.Ranges.{sum-list}
 use Rattle.hub.proofs.Laws.Seats.{next-round}
 use Rattle.hub.proofs.Invariant.Weights.{up, down, pick, count-pick, holding, resuming, refusing}
-use Rattle.hub.proofs.Invariant.Weights.{drawing, suspending, live, permitCell, refusedCell, sum, total}
-use Rattle.hub.proofs.Invariant.Weights.{TICKETS}
+use Rattle.hub.proofs.Invariant.Weights.{drawing, suspending, live, permitCell, refusedCell, sum, cellSum}
+use Rattle.hub.proofs.Invariant.Weights.{total, TICKETS}
 use Rattle.hub.proofs.Invariant.Tickets.{near}
 use Rattle.hub.proofs.Invariant.Keep.{permits}
 use Rattle.hub.proofs.Invariant.Walk.{all-more}
-use Rattle.hub.proofs.Invariant.Rest.{standing}
+use Rattle.hub.proofs.Invariant.Rest.{Settled, rest-settled, standing}
 use Rattle.hub.proofs.Invariant.Schedules.{Agrees, entered, next-good}
 use Rattle.hub.proofs.Invariant.Schedules.{fresh-inv, fresh-agrees}
 use Rattle.hub.proofs.Invariant.Held.{held-most, way-whole, all-held}
-use Rattle.hub.proofs.Window.Shown.{Reached, low}
+use Rattle.hub.proofs.Radios.Kept.{fresh-kept}
+use Rattle.hub.proofs.Window.Shown.{Reached, Tracks, low}
 use Rattle.hub.proofs.Window.Reached.{reached-fits}
-use Rattle.hub.proofs.Window.Followed.{Follows, follows}
+use Rattle.hub.proofs.Window.Followed.{Follows, follows, called-reached}
 
 -- An opening that is accepted is within bounds, and its record is fresh.
 pub record InRange (o : Opening) : Type 0 where
   pub permits : (1 ≤ o .permits) × (o .permits ≤ 32)
   pub parties : (1 ≤ o .parties) × (o .parties ≤ 32)
+  pub differ : radiosDiffer o ≡ true
   pub hub : opening o .hub ≡ fresh o
 
 pub in-range : (o : Opening) → opening o .answer ≡ Answer.Opened → InRange o
 unfolding openingIf
-in-range o = go (upTo32 (o .permits)) (upTo32 (o .parties)) refl refl
+in-range o = go (upTo32 (o .permits)) (upTo32 (o .parties)) (radiosDiffer o) refl refl refl
   where
     range : (x : ℕ) → upTo32 x ≡ true → (1 ≤ x) × (x ≤ 32)
     range x e = (leb-true 1 x (first (leb 1 x) _ e), leb-true x 32 (second (leb 1 x) _ e))
 
-    go : (a b : Bool) → upTo32 (o .permits) ≡ a → upTo32 (o .parties) ≡ b
-        → openingIf a b o .answer ≡ Answer.Opened → InRange o
-    go false b x y e = let z : _≡_ {A = ℕ} 0 1 = cc in let w : ⊥ = omega arith in absurd w
-    go true false x y e = let z : _≡_ {A = ℕ} 0 1 = cc in let w : ⊥ = omega arith in absurd w
-    go true true x y e =
+    go : (a b d : Bool) → upTo32 (o .permits) ≡ a → upTo32 (o .parties) ≡ b → radiosDiffer o ≡ d
+        → openingIf a b d o .answer ≡ Answer.Opened → InRange o
+    go false b d x y z e = let i : _≡_ {A = ℕ} 0 1 = cc in let w : ⊥ = omega arith in absurd w
+    go true false d x y z e = let i : _≡_ {A = ℕ} 0 1 = cc in let w : ⊥ = omega arith in absurd w
+    go true true false x y z e = let i : _≡_ {A = ℕ} 0 1 = cc in let w : ⊥ = omega arith in absurd w
+    go true true true x y z e =
         record {
           permits = range (o .permits) x;
           parties = range (o .parties) y;
-          hub = ap₂ (λ (a b : Bool). openingIf a b o .hub) x y;
+          differ = z;
+          hub = λ i. openingIf (x i) (y i) (z i) o .hub;
         }
 
 -- A fresh record shows a fresh queue.
-fresh-reached : (o : Opening) → 1 ≤ o .parties → o .parties ≤ PARTIES
-    → Reached (o .permits) (fresh o) (queue.fresh o)
+fresh-tracks : (o : Opening) → 1 ≤ o .parties → o .parties ≤ PARTIES
+    → Tracks (o .permits) (fresh o) (queue.fresh o)
 unfolding fresh queue.fresh readSeat pick isOneOf
-fresh-reached o a b =
+fresh-tracks o a b =
     record {
       permits = refl;
       size = refl;
@@ -89,6 +93,7 @@ fresh-reached o a b =
             opening = refl;
             figures = refl;
             slots = refl;
+            pool = refl;
             window =
                 record {
                   before = λ t i. (let z : ⊥ = omega arith in absurd z);
@@ -137,10 +142,10 @@ module _ (k : ℕ) (k₁ : 1 ≤ k) (k₂ : k ≤ 32) where
           }
       go false i =
           let a = f .alike i in
-          let n = next-good k (x .queue) (x .reached .inv) c e (x .agrees) in
+          let n = next-good k (x .queue) (x .reached .tracks .inv) c e (x .agrees) in
           record {
             queue = queue.next (x .queue) c;
-            reached = a .0;
+            reached = called-reached k h (x .queue) (x .reached) c _ (a .0);
             agrees =
                 subst (λ (r : Answer). Agrees (entered e c r) (queue.next (x .queue) c))
                 (sym (a .1)) (n .1);
@@ -187,6 +192,12 @@ ring-sum o l g v s b w x y =
     small : (j : ℕ) → j < PLACES → (0 + j) % PLACES ≡ j
     small j i = omega arith
 
+pub ring-count : (k : ℕ) (h : Hub) (m : Queue) → Tracks k h m → (w : Place → ℕ)
+    → w Place.Empty ≡ 0 → w Place.Done ≡ 0 → cellSum w m ≡ weight w (placesOf (h .places))
+ring-count k h m r w =
+    ring-sum (h .oldest) (h .places) (m .cells) (r .shows .window) (r .size)
+    (omega (arith, low k h m r, near (r .inv .tickets))) w
+
 -- The unserved waits are those that will draw a ticket and those that live with one.
 unserved-count : (l : List Phase) → count isUnserved l ≡ weight suspending l + weight live l
 unfolding pick isOneOf
@@ -196,17 +207,16 @@ unserved-count l =
     ∙ weight-add suspending live l
 
 -- What the account of a schedule comes to.
-accounts : (k : ℕ) (h : Hub) (m : Queue) (e : Ledger) → Reached k h m → Agrees e m
+accounts : (k : ℕ) (h : Hub) (m : Queue) (e : Ledger) → Tracks k h m → Agrees e m
     → Accounts k e h
 unfolding isPlaceOf
 accounts k h m e r a =
-    let near-end : h .oldest + PLACES ≤ TICKETS = omega (arith, low k h m r, near (r .inv .tickets)) in
     let bring : count (isOneOf (Phase.Resuming ∷ Phase.ResumingAt 0 ∷ [])) (e .phases)
     ≡ sum resuming m =
     count-pick _ (e .phases) ∙ ap (weight resuming) (a .replayed) in
     let decline : count (isOneOf (Phase.Refusing 0 ∷ [])) (e .phases) ≡ sum refusing m =
     count-pick _ (e .phases) ∙ ap (weight refusing) (a .replayed) in
-    let hold : count (isOneOf (Phase.Holding ∷ Phase.Releasing ∷ [])) (e .phases)
+    let hold : count (isOneOf (Phase.Holding ∷ Phase.Releasing ∷ Phase.Fetching ∷ [])) (e .phases)
     ≡ sum holding m =
     count-pick _ (e .phases) ∙ ap (weight holding) (a .replayed) in
     let whole = way-whole k m (r .inv) in
@@ -247,20 +257,18 @@ accounts k h m e r a =
           omega (
             arith,
             a .permits,
-            ring-sum (h .oldest) (h .places) (m .cells) (r .shows .window) (r .size) near-end
-                permitCell refl refl,
+            ring-count k h m r permitCell refl refl,
           );
       refusals =
           omega (
             arith,
             a .refusals,
-            ring-sum (h .oldest) (h .places) (m .cells) (r .shows .window) (r .size) near-end
-                refusedCell refl refl,
+            ring-count k h m r refusedCell refl refl,
           );
       holders = omega (arith, a .held, hold);
       most = omega (arith, a .held, held-most k m (r .inv));
       calm = λ q p t i.
-          let rest : Calm (phases m) = subst Calm (a .replayed) q in
+          let rest : Settled (phases m) = λ j. rest-settled _ (subst Calm (a .replayed) q j) in
           let z : phaseIn (phases m) p ≡ Phase.Waiting t =
           ap (λ (l : List Phase). phaseIn l p) (sym (a .replayed)) ∙ i in (
             omega (arith, a .held, all-held k m (r .inv) rest p t z),
@@ -270,15 +278,19 @@ accounts k h m e r a =
 
 -- From an accepted opening.
 module _ (o : Opening) (e : opening o .answer ≡ Answer.Opened) where
-  start : InRange o
+  pub start : InRange o
   start = in-range o e
 
   first-reached : Reached (o .permits) (opening o .hub) (queue.fresh o)
   first-reached =
       subst (λ (h : Hub). Reached (o .permits) h (queue.fresh o)) (sym (start .hub))
-      (fresh-reached o (start .parties .0) (start .parties .1))
+      (record {
+        tracks = fresh-tracks o (start .parties .0) (start .parties .1);
+        differ = unfold fresh in start .differ;
+        radios = λ n. fresh-kept o (start .permits .1);
+      })
 
-  schedule : (cs : List Call)
+  pub schedule : (cs : List Call)
       → Account (o .permits) (start .permits .0) (start .permits .1) (run (opening o .hub) cs)
       (ledger (opened o) (entries (opening o .hub) cs))
   schedule cs =
@@ -290,7 +302,7 @@ pub demand3 : Demand3
 unfolding Demand3
 demand3 o e cs =
     let x = schedule o e cs in
-    accounts (o .permits) _ (x .queue) _ (x .reached) (x .agrees)
+    accounts (o .permits) _ (x .queue) _ (x .reached .tracks) (x .agrees)
 
 pub every-record-fits : ReachedFits
 unfolding ReachedFits
@@ -305,12 +317,13 @@ module _ (k : ℕ) (k₁ : 1 ≤ k) (k₂ : k ≤ 32) where
       → Shows (run h cs) (queue.run m (heard h cs))
       × (withoutSevens (answers h cs) ≡ queue.answers m (heard h cs))
   unfolding run answers heard withoutSevens queue.run queue.answers
-  refined h m [] r = (r .shows, refl)
+  refined h m [] r = (r .tracks .shows, refl)
   refined h m (c ∷ cs) r =
       go (isSeven (called h c .answer)) refl
       (λ e. refined (called h c .hub) m cs
       (subst (λ (g : Hub). Reached k g m) (sym (f .seven e)) r))
-      (λ e. refined (called h c .hub) (queue.next m c) cs (f .alike e .0))
+      (λ e. refined (called h c .hub) (queue.next m c) cs
+      (called-reached k h m r c _ (f .alike e .0)))
     where
       f : Follows k h m c (look h (c .party)) (moveOf h c)
       f = follows k h m r c k₁ k₂

@@ -14,7 +14,6 @@ use Rattle.hub.specs.declared.record.Phase.the-variants.{Free, Waiting, 
 use Rattle.hub.specs.declared.record.Phase.the-variants.{Cancelling, Refusing, Resuming}
 use Rattle.hub.specs.declared.record.Phase.the-variants.{ResumingAt}
 use Rattle.hub.specs.declared.record.Place.{Place}
-use Rattle.hub.specs.Demand3.{Calm}
 use Rattle.hub.specs.Ledger.{phaseIn}
 use Rattle.hub.specs.Phases.{isOneOf, ticketOf}
 use Rattle.hub.specs.Queue.{Queue, phases, places}
@@ -29,7 +28,7 @@ use Rattle.hub.proofs.Invariant.Weights.{above-live, permitCell, cancel
 use Rattle.hub.proofs.Invariant.Weights.{sum, cellSum, TICKETS, handing-resuming}
 use Rattle.hub.proofs.Invariant.Tickets.{one-in, near, resumed-most}
 use Rattle.hub.proofs.Invariant.Keep.{Inv, permits}
-use Rattle.hub.proofs.Invariant.Rest.{idle, no-permits}
+use Rattle.hub.proofs.Invariant.Rest.{Settled, idle, no-permits}
 
 -- One ticket is once in a row of tickets, so a party is counted at most once over all of them.
 same-once : (u o j : ℕ) → sumFrom (same u) o j ≤ 1
@@ -182,8 +181,8 @@ module _ (k : ℕ) (m : Queue) (inv : Inv k m) where
       go (pos n) e = omega (arith, inv .owing, permits k m inv, ap up e, ap down e)
       go (negsuc n) e = omega (arith, held-most, permits k m inv, ap up e)
 
--- Everybody at rest.
-module _ (k : ℕ) (m : Queue) (inv : Inv k m) (rest : Calm (phases m)) where
+-- Everybody at rest, or about to fetch a radio.
+module _ (k : ℕ) (m : Queue) (inv : Inv k m) (rest : Settled (phases m)) where
   -- With somebody waiting, exactly k hold.
   pub all-held : (p t : ℕ) → phaseIn (phases m) p ≡ Waiting t → sum holding m ≡ k
   unfolding pick isOneOf

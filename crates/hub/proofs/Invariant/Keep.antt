@@ -1,7 +1,7 @@
 -- The invariant of the queue: the tickets, and the permits and the counter beside them. One law by
 -- which every move keeps it.
 use Prim.Native.Nat.{ℕ, _+_, _≤_, _<_}
-use mathlib.Core.Path.{_≡_, sym, ap, subst}
+use mathlib.Core.Path.{_≡_, sym, ap, subst, _∙_}
 use mathlib.Core.Logic.{_⊎_, inl, inr}
 use native.Mathlib.Decide.{ℕ-discrete}
 use native.Mathlib.Omega.{arith}
@@ -10,6 +10,7 @@ use Rattle.hub.specs.declared.opening.Opening.{Opening}
 use Rattle.hub.specs.declared.record.Figures.{Figures}
 use Rattle.hub.specs.declared.record.Phase.{Phase}
 use Rattle.hub.specs.declared.record.Place.{Place}
+use Rattle.hub.specs.Basics.{bit}
 use Rattle.hub.specs.Ledger.{phaseIn}
 use Rattle.hub.specs.Queue.{Queue, phases, places}
 use Rattle.hub.specs.Record.{MAX-BEGUN}
@@ -17,7 +18,7 @@ use Rattle.hub.proofs.Laws.Lists.{weight-le}
 use Rattle.hub.proofs.Invariant.Weights.{same, same-other, lt, lt-pos}
 use Rattle.hub.proofs.Invariant.Weights.{up, down, calm, calm-down, calm-or}
 use Rattle.hub.proofs.Invariant.Weights.{holding, resuming, refusing, drawing, suspending}
-use Rattle.hub.proofs.Invariant.Weights.{live, handing, cancelling, own, hand, stand, refuse}
+use Rattle.hub.proofs.Invariant.Weights.{live, handing, cancelling, radioed, own, hand, stand, refuse}
 use Rattle.hub.proofs.Invariant.Weights.{stage, above, permitCell, cancelledCell, refusedCell}
 use Rattle.hub.proofs.Invariant.Weights.{spent, served, least, most, sum, cellSum}
 use Rattle.hub.proofs.Invariant.Weights.{refuse-own, refused-spent}
@@ -38,6 +39,8 @@ pub record Inv (k : ℕ) (m : Queue) : Type 0 where
   -- no permit is promised to two: what is still owed fits behind a ticket that is refused
   pub order : (t : ℕ) → m .figures .resumed ≤ t → 1 ≤ sum (refuse t) m + refusedCell (places m t)
       → down (m .figures .counter) ≤ sum suspending m + sum (above t) m
+  -- two phases occur on a hub with radios alone
+  pub radios : (p : ℕ) → radioed (phaseIn (phases m) p) ≤ bit (m .opening .named)
 
 -- Held + at the counter + on the way = K.
 pub permits : (k : ℕ) (m : Queue) → Inv k m
@@ -49,8 +52,9 @@ abbrev pub ShiftIn : Queue → Queue → ℕ → Phase → Phase → ℕ → Pla
 ShiftIn m m′ = Shift (phases m) (phases m′) (places m) (places m′)
 
 -- What a row owes to keep the sums and ticket t. Of each pair the second is after the move:
--- the counter c, the tickets issued n and resumed d, the acquires begun g; s is the stage of t.
-pub record Local (f x : Phase) (t : ℕ) (b a : Place) (c c′ : ℤ) (n n′ d d′ g g′ s : ℕ)
+-- the counter c, the tickets issued n and resumed d, the acquires begun g; s is the stage of t, and v
+-- is 1 on a hub with radios.
+pub record Local (f x : Phase) (t : ℕ) (b a : Place) (c c′ : ℤ) (n n′ d d′ g g′ s v : ℕ)
     : Type 0 where
   pub owing : holding x + suspending x + live x + up c′ + down c
       ≡ holding f + suspending f + live f + up c + down c′
@@ -69,6 +73,7 @@ pub record Local (f x : Phase) (t : ℕ) (b a : Place) (c c′ : ℤ) (n n′ d 
       × (refuse u x ≡ refuse u f) × (stand u f ≤ stand u x)
   pub later : d ≤ d′
   pub refusal : refuse t x + refusedCell a ≤ refuse t f + refusedCell b + calm c′
+  pub radios : radioed x ≤ v
 
 -- And what it owes to the other tickets, and to the order of the line.
 pub record Beside (f x : Phase) (t : ℕ) (c c′ : ℤ) (n n′ d d′ : ℕ) : Type 0 where
@@ -80,7 +85,7 @@ abbrev pub LocalIn : Queue → Figures → Phase → Phase → ℕ → Place →
 LocalIn m h f x t b a =
     let e = m .figures in
     Local f x t b a (e .counter) (h .counter) (e .issued) (h .issued) (e .resumed) (h .resumed)
-    (e .begun) (h .begun) (sum (stage t) m)
+    (e .begun) (h .begun) (sum (stage t) m) (bit (m .opening .named))
 
 abbrev pub BesideIn : Queue → Figures → Phase → Phase → ℕ → Type 0
 BesideIn m h f x t =
@@ -161,6 +166,11 @@ module _ (k : ℕ) (m m′ : Queue) (p : ℕ) (f x : Phase) (t : ℕ) (b a : Pla
         numbers = be .numbers;
       }
 
+  radios′ : (q : ℕ) → Dec (q ≡ p) → radioed (phaseIn (phases m′) q) ≤ bit (m .opening .named)
+  radios′ q (yes z) =
+      omega (arith, lo .radios, ap radioed (ap (phaseIn (phases m′)) z ∙ sh .now))
+  radios′ q (no y) = omega (arith, inv .radios q, ap radioed (sh .others q y))
+
   -- Every move keeps the invariant.
   pub keep : Names p t x b a → p < m .opening .parties
       → m′ .opening ≡ m .opening → Inv k m′
@@ -181,4 +191,6 @@ module _ (k : ℕ) (m m′ : Queue) (p : ℕ) (f x : Phase) (t : ℕ) (b a : Pla
           lo .owing,
         );
         order = order′;
+        radios = λ q.
+            omega (arith, radios′ q (ℕ-discrete q p), ap (λ (o : Opening). bit (o .named)) e);
       }

@@ -1,5 +1,6 @@
--- Everybody at rest: whoever owns a ticket waits with it, no standing ticket was drawn to resume, and
--- no permit lies at a place. All of it follows from the tickets' part of the invariant.
+-- Everybody at rest, or about to fetch a radio: whoever owns a ticket waits with it, no standing ticket
+-- was drawn to resume, and no permit lies at a place. All of it follows from the tickets' part of the
+-- invariant.
 use Prim.Native.Nat.{ℕ, _+_, _*_, _≤_, _<_}
 use mathlib.Core.Path.{_≡_, refl, sym, ap, _∙_}
 use mathlib.Core.Bool.{Bool, true, false, cond, not, _&&_, _||_}
@@ -10,19 +11,32 @@ use borrow.Author.Tests.{eqb-true}
 use lib.Dec.{eqb}
 use Rattle.hub.specs.declared.record.Phase.{Phase}
 use Rattle.hub.specs.declared.record.Phase.the-variants.{Free, Holding, Waiting, Suspending}
-use Rattle.hub.specs.declared.record.Phase.the-variants.{Resuming, ResumingAt}
+use Rattle.hub.specs.declared.record.Phase.the-variants.{ResumingAt, Fetching}
 use Rattle.hub.specs.declared.record.Place.{Place}
 use Rattle.hub.specs.declared.record.Place.the-variants.{Permit}
 use Rattle.hub.specs.Basics.{among, bit, weight}
-use Rattle.hub.specs.Demand3.{Calm}
 use Rattle.hub.specs.Ledger.{phaseIn}
 use Rattle.hub.specs.Phases.{isOneOf, isPermit, isPlaceOf, rank, ticketOf, atRest}
 use Rattle.hub.proofs.Laws.Lists.{weight-scale}
 use Rattle.hub.proofs.Laws.Phases.{every-phase, every-place, place-of}
 use Rattle.hub.proofs.Laws.Ranges.{sum-zero}
-use Rattle.hub.proofs.Invariant.Weights.{same, same-self, same-le, lt-yes, one, pick, suspending, own, hand}
+use Rattle.hub.proofs.Invariant.Weights.{same, same-self, same-le, lt-yes, in-longer}
+use Rattle.hub.proofs.Invariant.Weights.{one, pick, suspending, own}
 use Rattle.hub.proofs.Invariant.Weights.{stage, permitCell, spent, served, most, total, TICKETS}
 use Rattle.hub.proofs.Invariant.Tickets.{Tickets, one-in, permit-below, resumed-most}
+
+abbrev pub quiet : List Phase
+quiet = Free ∷ Holding ∷ Waiting 0 ∷ Fetching ∷ []
+
+abbrev pub settled : Phase → Bool
+settled = isOneOf quiet
+
+abbrev pub Settled : List Phase → Type 0
+Settled l = (p : ℕ) → settled (phaseIn l p) ≡ true
+
+pub rest-settled : (f : Phase) → atRest f ≡ true → settled f ≡ true
+unfolding isOneOf
+rest-settled f e = in-longer (Free ∷ Holding ∷ Waiting 0 ∷ []) quiet (rank f) refl e
 
 -- A phase of one list is in no other that has none of its phases.
 abbrev apart : List Phase → List Phase → Bool
@@ -45,9 +59,9 @@ not-both (x ∷ xs) l r e i j =
     go false z false y w v ih = ih w v j
 
 module _ {l : List Phase} {g : ℕ → Place} {n i r b q e : ℕ} (inv : Tickets l g n i r b q e)
-    (rest : Calm l) where
-  -- A weight on busy phases alone is nothing.
-  pub idle : (xs : List Phase) (w : ℕ → ℕ) → apart xs (Free ∷ Holding ∷ Waiting 0 ∷ []) ≡ true
+    (rest : Settled l) where
+  -- A weight on other phases alone is nothing.
+  pub idle : (xs : List Phase) (w : ℕ → ℕ) → apart xs quiet ≡ true
       → weight (pick xs w) l ≡ 0
   unfolding pick isOneOf
   idle xs w a =
@@ -75,9 +89,9 @@ module _ {l : List Phase} {g : ℕ → Place} {n i r b q e : ℕ} (inv : Tickets
             (λ j h. omega (arith, each (phaseIn l j), ap (λ c. bit (not c)) (rest j))),
       )
     where
-      each : (f : Phase) → 3 * own t f ≤ stage t f + 3 * bit (not (atRest f))
+      each : (f : Phase) → 3 * own t f ≤ stage t f + 3 * bit (not (settled f))
       each =
-          every-phase (λ f. 3 * own t f ≤ stage t f + 3 * bit (not (atRest f)))
+          every-phase (λ f. 3 * own t f ≤ stage t f + 3 * bit (not (settled f)))
           (λ u. omega (arith, same-le u t))
 
   -- A ticket that stands has not been drawn to resume: nobody hands it, and it is not served.

@@ -9,11 +9,11 @@ use native.Mathlib.Omega.{arith}
 use lib.Dec.{ltb, eqb}
 use lib.IntN.{ℤ}
 use lib.ListN.{length, set, length-set}
-use lib.Seq.{getD-set-same, getD-set-other}
+use lib.Seq.{getD-set-same, getD-set-other, set-getD}
 use borrow.Author.Tests.{eq-eqb, ne-eqb}
 use Rattle.hub.specs.declared.answers.Answer.{Answer}
 use Rattle.hub.specs.Moves.{Move}
-use Rattle.hub.specs.Moves.{Refuse, Act, Put, Wake}
+use Rattle.hub.specs.Moves.{Refuse, Tell, Act, Put, Wake}
 use Rattle.hub.specs.declared.moves.Op.{Op}
 use Rattle.hub.specs.declared.record.Figures.{Figures}
 use Rattle.hub.specs.declared.record.PartySlot.{PartySlot}
@@ -65,10 +65,11 @@ isAcquire Op.Acquire = 1
 isAcquire Op.Step = 0
 isAcquire Op.Cancel = 0
 isAcquire Op.Release = 0
+isAcquire Op.Radio = 0
 
 pub record Reports (o : Op) (p : ℕ) (r : Answer) (m m′ : Queue) : Type 0 where
   pub success : ltb (printed r .code) 0x20 ≡ false
-  pub moved : phases m′ ≡ phasesAfter o p (printed r) (phases m)
+  pub moved : phases m′ ≡ phasesAfter (m .opening .named) o p (printed r) (phases m)
   pub held : sum holding m′ + takes (printed r .code) ≡ sum holding m + gives (printed r .code)
   pub permits : cellSum permitCell m′ + clears (printed r .code)
       ≡ cellSum permitCell m + leaves (printed r .code)
@@ -90,6 +91,7 @@ pub record Next (k : ℕ) (o : Op) (p : ℕ) (r : Answer) (m m′ : Queue) : Typ
 -- A good move, before the tidying: no refusal by 1, and otherwise the above.
 abbrev pub Good : ℕ → Op → ℕ → Queue → Phase → Move → Type 0
 Good k o p m f (Refuse r) = isListed (Refuse r) ≡ true
+Good k o p m f (Tell y) = Next k o p y m m
 Good k o p m f (Act c) = Next k o p (c .answer) m (acted m p c)
 Good k o p m f (Put a c) = Next k o p (c .answer) m (acted (placed m f a) p c)
 Good k o p m f (Wake q s a c) =
@@ -106,7 +108,13 @@ pub record Says (o : Op) (f x : Phase) (b a : Place) (r : Answer) (g g′ : ℕ)
 -- A queue with one slot, the cells and the figures set.
 abbrev pub set-in : Queue → ℕ → PartySlot → (ℕ → PlaceSlot) → Figures → Queue
 set-in m p s g h =
-    record { opening = m .opening; figures = h; cells = g; slots = writeSlot (m .slots) p s }
+    record {
+      opening = m .opening;
+      figures = h;
+      cells = g;
+      slots = writeSlot (m .slots) p s;
+      pool = m .pool;
+    }
 
 module _ (m : Queue) (p : ℕ) (f : Phase) (s : PartySlot) (t : ℕ) (i : p < length (phases m))
     (e : phaseIn (phases m) p ≡ f) where
@@ -173,9 +181,9 @@ module _ (k : ℕ) (m : Queue) (p : ℕ) (l : p < m .opening .parties) (inv : In
   -- What the answer tells of the phases and of the counter.
   abbrev pub Tells : Op → Phase → Phase → Answer → ℤ → Type 0
   Tells o f x r c =
-      (phasesAfter o p (printed r) (phases m)
-      ≡ set (phases m) p (phaseAfter o (phaseIn (phases m) p) (printed r)))
-      × (phaseAfter o f (printed r) ≡ x)
+      (phasesAfter (m .opening .named) o p (printed r) (phases m)
+      ≡ set (phases m) p (phaseAfter (m .opening .named) o (phaseIn (phases m) p) (printed r)))
+      × (phaseAfter (m .opening .named) o f (printed r) ≡ x)
       × (c ≡ counterAfter (printed r .code) (m .figures .counter))
       × (ltb (printed r .code) 0x20 ≡ false)
 
@@ -183,6 +191,13 @@ module _ (k : ℕ) (m : Queue) (p : ℕ) (l : p < m .opening .parties) (inv : In
   Serves d r =
       (xs : List ℕ) → AllBelow (m .figures .resumed) xs
       → AllBelow d (servedAfter p (printed r) (phases m) xs)
+
+  told : (o : Op) (f x : Phase) (r : Answer) (c : ℤ) → phaseIn (phases m) p ≡ f → Tells o f x r c
+      → phasesAfter (m .opening .named) o p (printed r) (phases m) ≡ set (phases m) p x
+  told o f x r c e te =
+      te .0
+      ∙ ap (λ g. set (phases m) p (phaseAfter (m .opening .named) o g (printed r))) e
+      ∙ ap (λ g. set (phases m) p g) (te .1)
 
   row : {o : Op} {f x : Phase} {t : ℕ} {b a : Place} (m′ : Queue) (r : Answer)
       → ShiftIn m m′ p f x t b a → phases m′ ≡ set (phases m) p x → m′ .opening ≡ m .opening
@@ -197,11 +212,7 @@ module _ (k : ℕ) (m : Queue) (p : ℕ) (l : p < m .opening .parties) (inv : In
         reports =
             record {
               success = te .3;
-              moved =
-                  ps
-                  ∙ sym (te .0
-                  ∙ ap (λ g. set (phases m) p (phaseAfter o g (printed r))) (sh .was)
-                  ∙ ap (λ g. set (phases m) p g) (te .1));
+              moved = ps ∙ sym (told o f x r _ (sh .was) te);
               held = omega (arith, sh .sums holding, sa .held);
               permits = omega (arith, sh .cellSums permitCell, sa .permits);
               refusals = omega (arith, sh .cellSums refusedCell, sa .refusals);
@@ -236,6 +247,32 @@ module _ (k : ℕ) (m : Queue) (p : ℕ) (l : p < m .opening .parties) (inv : In
   phase-row {o} {f} {h} {r} s t e lo be nm sa te sv =
       row _ r (shift-phase m p f s t (inside (inv .tickets) p l) e (places m t) h refl)
       (write-phase (m .slots) p s) refl lo be nm sa te sv
+
+  -- An answer that moves nothing.
+  pub tell-row : {o : Op} {f : Phase} {r : Answer} → phaseIn (phases m) p ≡ f
+      → Says o f f Place.Empty Place.Empty r (m .figures .begun) (m .figures .begun)
+      → Tells o f f r (m .figures .counter) → Serves (m .figures .resumed) r
+      → Next k o p r m m
+  tell-row {o} {f} {r} e sa te sv =
+      record {
+        inv = inv;
+        opening = refl;
+        reports =
+            record {
+              success = te .3;
+              moved =
+                  sym (told o f f r _ e te ∙ ap (set (phases m) p) (sym e)
+                  ∙ set-getD (phases m) p Phase.Free);
+              held = omega (arith, sa .held);
+              permits = omega (arith, sa .permits);
+              refusals = omega (arith, sa .refusals);
+              counter = te .2;
+              resumed = omega arith;
+              begins = sa .begins;
+              room = omega arith;
+              serves = sv;
+            };
+      }
 
   -- A cell that the row leaves alone: its party stands there as before, or this one still does.
   pub names-kept : (t : ℕ) (f x : Phase) → phaseIn (phases m) p ≡ f → stand t f ≤ stand t x

@@ -1,6 +1,6 @@
 -- The queue keeps its invariant, and the ledger of its answers agrees with it, on every schedule.
 use Prim.Native.Nat.{ℕ, zero, suc, _+_, _≤_, _<_}
-use mathlib.Core.Path.{_≡_, refl, sym, ap, subst, _∙_}
+use mathlib.Core.Path.{_≡_, refl, sym, ap, ap₂, subst, _∙_}
 use mathlib.Core.Bool.{Bool, true, false, cond}
 use mathlib.Core.List.{List, [], _∷_}
 use native.Mathlib.Omega.{arith}
@@ -11,7 +11,7 @@ use Rattle.hub.specs.declared.answers.Answer.{Answer}
 use Rattle.hub.specs.declared.answers.Refusal.{Refusal}
 use Rattle.hub.specs.declared.moves.Call.{Call}
 use Rattle.hub.specs.Moves.{Move}
-use Rattle.hub.specs.Moves.{Refuse, Act, Put, Wake}
+use Rattle.hub.specs.Moves.{Refuse, Tell, Act, Put, Wake}
 use Rattle.hub.specs.declared.moves.Op.{Op}
 use Rattle.hub.specs.declared.opening.Opening.{Opening}
 use Rattle.hub.specs.declared.record.PartySlot.{PartySlot}
@@ -19,6 +19,7 @@ use Rattle.hub.specs.declared.record.Phase.{Phase}
 use Rattle.hub.specs.declared.record.Place.{Place}
 use Rattle.hub.specs.declared.record.Place.the-variants.{Empty, Cancelled, Done}
 use Rattle.hub.specs.declared.record.PlaceSlot.{PlaceSlot}
+use Rattle.hub.specs.declared.record.Pool.{Pool}
 use Rattle.hub.specs.Answers.{printed, refusalCode}
 use Rattle.hub.specs.Basics.{weight}
 use Rattle.hub.specs.Calls.{answerOf, checked}
@@ -28,7 +29,7 @@ use Rattle.hub.specs.Ledger.{phasesAfter, counterAfter, servedAfter}
 use Rattle.hub.specs.Look.{seenBy}
 use Rattle.hub.specs.Phases.{isOneOf, isPlaceOf, isCancelled}
 use Rattle.hub.specs.Queue.{Queue, phases, places, write, canSkip, skipped, skip, tidied}
-use Rattle.hub.specs.Queue.{acted, placed, woken, apply, look, moveOf, next, fresh}
+use Rattle.hub.specs.Queue.{acted, placed, woken, apply, look, moveOf, withPool, next, fresh}
 use Rattle.hub.specs.Record.{PARTIES, freeSlot, phasesOf, withPlace}
 use Rattle.hub.specs.Table.{decide}
 use Rattle.hub.proofs.Laws.Bools.{if-true, if-false}
@@ -37,12 +38,12 @@ use Rattle.hub.proofs.Laws.Phases.{place-of}
 use Rattle.hub.proofs.Laws.Ranges.{sumFrom, sum-set, sum-zero}
 use Rattle.hub.proofs.Invariant.Weights.{same-self, lt-no, lt-suc, pick, most}
 use Rattle.hub.proofs.Invariant.Weights.{holding, resuming, refusing, drawing, suspending}
-use Rattle.hub.proofs.Invariant.Weights.{live, handing, cancelling, own, hand, refuse, stage}
+use Rattle.hub.proofs.Invariant.Weights.{live, handing, cancelling, radioed, own, hand, refuse, stage}
 use Rattle.hub.proofs.Invariant.Weights.{sum, permitCell, cancelledCell, refusedCell, cellSum}
 use Rattle.hub.proofs.Invariant.Weights.{TICKETS}
 use Rattle.hub.proofs.Invariant.Tickets.{near}
 use Rattle.hub.proofs.Invariant.Keep.{Inv, ShiftIn, keep}
-use Rattle.hub.proofs.Invariant.Rows.{Good, Next, Reports, write-same, write-other}
+use Rattle.hub.proofs.Invariant.Rows.{Good, Next, write-same, write-other}
 use Rattle.hub.proofs.Invariant.Walk.{decide-good, all-more}
 
 pub is-cancelled : (a : Place) → isCancelled a ≡ true → a ≡ Cancelled
@@ -50,6 +51,7 @@ is-cancelled = place-of Cancelled
 
 -- What the tidying leaves alone.
 pub record Quiet (m m′ : Queue) : Type 0 where
+  pub opening : m′ .opening ≡ m .opening
   pub slots : m′ .slots ≡ m .slots
   pub counter : m′ .figures .counter ≡ m .figures .counter
   pub permits : cellSum permitCell m′ ≡ cellSum permitCell m
@@ -99,6 +101,7 @@ module _ (k : ℕ) (m : Queue) (inv : Inv k m) (e : places m (m .figures .resume
         same-self resumed,
         lt-suc resumed resumed,
         inv .tickets .at resumed,
+        inv .radios 0,
         ap most e,
       ))
       (record {
@@ -111,6 +114,7 @@ module _ (k : ℕ) (m : Queue) (inv : Inv k m) (e : places m (m .figures .resume
   unfolding isPlaceOf
   skipped-quiet =
       record {
+        opening = refl;
         slots = refl;
         counter = refl;
         permits = omega (arith, skipped-shift .cellSums permitCell);
@@ -120,11 +124,19 @@ module _ (k : ℕ) (m : Queue) (inv : Inv k m) (e : places m (m .figures .resume
 
 quiet-self : (m : Queue) → Quiet m m
 quiet-self m =
-    record { slots = refl; counter = refl; permits = refl; refusals = refl; resumed = omega arith }
+    record {
+      opening = refl;
+      slots = refl;
+      counter = refl;
+      permits = refl;
+      refusals = refl;
+      resumed = omega arith;
+    }
 
 quiet-then : (m m₁ m₂ : Queue) → Quiet m m₁ → Quiet m₁ m₂ → Quiet m m₂
 quiet-then m m₁ m₂ a b =
     record {
+      opening = b .opening ∙ a .opening;
       slots = b .slots ∙ a .slots;
       counter = b .counter ∙ a .counter;
       permits = b .permits ∙ a .permits;
@@ -152,6 +164,7 @@ tidied-keeps k m inv = skip-keeps k (m .figures .issued) m inv
 
 -- The ledger e agrees with the queue m.
 pub record Agrees (e : Ledger) (m : Queue) : Type 0 where
+  pub named : e .named ≡ m .opening .named
   pub replayed : e .phases ≡ phases m
   pub held : e .gave ≡ e .took + sum holding m
   pub counter : e .counter ≡ m .figures .counter
@@ -159,11 +172,15 @@ pub record Agrees (e : Ledger) (m : Queue) : Type 0 where
   pub refusals : e .refused ≡ e .met + cellSum refusedCell m
   pub served : AllBelow (m .figures .resumed) (e .served)
 
-reports-agree : (o : Op) (p : ℕ) (r : Answer) (m m′ : Queue) (e : Ledger) → Reports o p r m m′
-    → Agrees e m → Agrees (succeeded o p (printed r) e) m′
-reports-agree o p r m m′ e s a =
+reports-agree : (k : ℕ) (o : Op) (p : ℕ) (r : Answer) (m m′ : Queue) (e : Ledger)
+    → Next k o p r m m′ → Agrees e m → Agrees (succeeded o p (printed r) e) m′
+reports-agree k o p r m m′ e n a =
+    let s = n .reports in
     record {
-      replayed = ap (phasesAfter o p (printed r)) (a .replayed) ∙ sym (s .moved);
+      named = a .named ∙ sym (ap (λ (x : Opening). x .named) (n .opening));
+      replayed =
+          ap₂ (λ (b : Bool). phasesAfter b o p (printed r)) (a .named) (a .replayed)
+          ∙ sym (s .moved);
       held = omega (arith, a .held, s .held);
       counter = ap (counterAfter (printed r .code)) (a .counter) ∙ sym (s .counter);
       permits = omega (arith, a .permits, s .permits);
@@ -178,6 +195,7 @@ reports-agree o p r m m′ e s a =
 quiet-agrees : (m m′ : Queue) (e : Ledger) → Quiet m m′ → Agrees e m → Agrees e m′
 quiet-agrees m m′ e q a =
     record {
+      named = a .named ∙ sym (ap (λ (x : Opening). x .named) (q .opening));
       replayed = a .replayed ∙ ap phasesOf (sym (q .slots));
       held =
           a .held
@@ -203,6 +221,7 @@ refusal-code Refusal.AtRest = refl
 refusal-code Refusal.NotWaiting = refl
 refusal-code Refusal.NotCancellable = refl
 refusal-code Refusal.NotHolding = refl
+refusal-code Refusal.SameRadios = refl
 
 abbrev pub entered : Ledger → Call → Answer → Ledger
 entered e c r = enter e (record { call = c; answer = printed r })
@@ -211,18 +230,39 @@ pub refused-same : (e : Ledger) (c : Call) (r : Refusal) → entered e c (Answer
 unfolding enter
 refused-same e c r = if-true _ e _ (refusal-code r)
 
+-- Radios do not matter to either.
+pub with-pool-inv : (k : ℕ) (m : Queue) (q : Pool) → Inv k m → Inv k (withPool q m)
+with-pool-inv k m q i =
+    record { tickets = i .tickets; owing = i .owing; order = i .order; radios = i .radios }
+
+with-pool-agrees : (e : Ledger) (m : Queue) (q : Pool) → Agrees e m → Agrees e (withPool q m)
+with-pool-agrees e m q a =
+    record {
+      named = a .named;
+      replayed = a .replayed;
+      held = a .held;
+      counter = a .counter;
+      permits = a .permits;
+      refusals = a .refusals;
+      served = a .served;
+    }
+
 -- One call: the queue keeps the invariant and stays in agreement.
 module _ (k : ℕ) (m : Queue) (inv : Inv k m) (c : Call) where
+  told : (r : Answer) (m′ : Queue) (e : Ledger) → Agrees e m → Next k (c .op) (c .party) r m m′
+      → Inv k m′ × Agrees (entered e c r) m′
+  unfolding enter
+  told r m′ e a n = (
+    n .inv,
+    subst (λ (g : Ledger). Agrees g m′) (sym (if-false _ e _ (n .reports .success)))
+        (reports-agree k (c .op) (c .party) r m m′ e n a),
+  )
+
   after : (r : Answer) (m′ : Queue) (e : Ledger) → Agrees e m → Next k (c .op) (c .party) r m m′
       → Inv k (tidied m′) × Agrees (entered e c r) (tidied m′)
-  unfolding enter
   after r m′ e a n =
-      let t = tidied-keeps k m′ (n .inv) in (
-        t .0,
-        subst (λ (g : Ledger). Agrees g (tidied m′)) (sym (if-false _ e _ (n .reports .success)))
-            (quiet-agrees m′ (tidied m′) _ (t .1)
-            (reports-agree (c .op) (c .party) r m m′ e (n .reports) a)),
-      )
+      let t = tidied-keeps k m′ (n .inv) in
+      (t .0, quiet-agrees m′ (tidied m′) _ (t .1) (told r m′ e a n .1))
 
   apply-good : (v : Move)
       → Good k (c .op) (c .party) m (look m (c .party) .slot .phase) v
@@ -232,6 +272,7 @@ module _ (k : ℕ) (m : Queue) (inv : Inv k m) (c : Call) where
   unfolding apply seenBy
   apply-good (Refuse r) g e a =
       (inv, subst (λ (x : Ledger). Agrees x m) (sym (refused-same e c r)) a)
+  apply-good (Tell y) g e a = told y _ e a g
   apply-good (Act x) g e a = after (x .answer) _ e a g
   apply-good (Put b x) g e a = after (x .answer) _ e a g
   apply-good (Wake q s b x) g e a = after (x .answer) _ e a g
@@ -245,7 +286,9 @@ module _ (k : ℕ) (m : Queue) (inv : Inv k m) (c : Call) where
 
   pub next-good : (e : Ledger) → Agrees e m
       → Inv k (next m c) × Agrees (entered e c (answerOf (moveOf m c))) (next m c)
-  next-good e a = apply-good (moveOf m c) (move-good _ refl) e a
+  next-good e a =
+      let g = apply-good (moveOf m c) (move-good _ refl) e a in
+      (with-pool-inv k _ _ (g .0), with-pool-agrees _ _ _ (g .1))
 
 -- A queue just opened.
 module _ (o : Opening) where
@@ -298,6 +341,7 @@ module _ (o : Opening) where
             };
         owing = omega (arith, none holding refl, none suspending refl, none live refl);
         order = λ t i j. omega (arith, none (refuse t) refl, j);
+        radios = λ p. omega (arith, ap radioed (all-free PARTIES p));
       }
     where
       all-free : (n i : ℕ) → phaseIn (phasesOf (replicate n freeSlot)) i ≡ Phase.Free
@@ -309,6 +353,7 @@ module _ (o : Opening) where
   unfolding fresh AllBelow pick isOneOf isPlaceOf
   fresh-agrees =
       record {
+        named = refl;
         replayed = refl;
         counter = refl;
         served = tt;

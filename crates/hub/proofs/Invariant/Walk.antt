@@ -1,4 +1,4 @@
--- The one walk of the step table: each row is good. So are the three other calls.
+-- The one walk of the step table: each row is good. So are the other calls.
 use Prim.Native.Nat.{ℕ, suc, _+_, _*_, _≤_, _<_}
 use mathlib.Core.Path.{_≡_, refl, sym, ap, subst, _∙_}
 use mathlib.Core.Bool.{Bool, true, false}
@@ -11,13 +11,14 @@ use lib.ListN.{set}
 use lib.Seq.{set-set, set-comm}
 use Rattle.hub.specs.Moves.{Move}
 use Rattle.hub.specs.declared.moves.Op.{Op}
-use Rattle.hub.specs.declared.moves.Op.the-variants.{Acquire, Step, Cancel, Release}
+use Rattle.hub.specs.declared.moves.Op.the-variants.{Acquire, Step, Cancel, Release, Radio}
+use Rattle.hub.specs.declared.moves.Sight.{Sight}
 use Rattle.hub.specs.declared.record.PartySlot.{PartySlot}
 use Rattle.hub.specs.declared.record.Phase.{Phase}
 use Rattle.hub.specs.declared.record.Phase.the-variants.{Free, Holding, Waiting, Acquiring}
 use Rattle.hub.specs.declared.record.Phase.the-variants.{Suspending, Ticketed, Aborting}
 use Rattle.hub.specs.declared.record.Phase.the-variants.{Cancelling, Refusing, Releasing}
-use Rattle.hub.specs.declared.record.Phase.the-variants.{Resuming, ResumingAt}
+use Rattle.hub.specs.declared.record.Phase.the-variants.{Resuming, ResumingAt, Fetching, Storing}
 use Rattle.hub.specs.declared.record.Place.{Place}
 use Rattle.hub.specs.declared.record.Place.the-variants.{Empty, Waiting as WaitedBy, Permit}
 use Rattle.hub.specs.declared.record.Place.the-variants.{Cancelled, Refused, Done}
@@ -33,7 +34,7 @@ use Rattle.hub.specs.Record.{MAX-BEGUN, emptySeat, freeSlot, readSlot, w
 use Rattle.hub.specs.Table.{aboveZero, belowZero, acquire, cancel, release, decide, step, stepIn}
 use Rattle.hub.specs.Table.{stepAcquiring, stepSuspending, stepTicketed, stepReleasing}
 use Rattle.hub.specs.Table.{stepResuming, resumeWaiter, stepResumingAt, stepAborting}
-use Rattle.hub.specs.Table.{stepCancelling, stepRefusing}
+use Rattle.hub.specs.Table.{stepCancelling, stepRefusing, stepFetching, stepStoring, tellRadio}
 use Rattle.hub.proofs.Laws.Lists.{weight-scale}
 use Rattle.hub.proofs.Laws.Phases.{every-phase, one-of}
 use Rattle.hub.proofs.Laws.Slots.{read-phase, write-phase}
@@ -46,7 +47,7 @@ use Rattle.hub.proofs.Invariant.Tickets.{AtIn, Names, one-in, exact, ha
 use Rattle.hub.proofs.Invariant.Tickets.{near, party-in, inside, mine, here}
 use Rattle.hub.proofs.Invariant.Keep.{Inv, ShiftIn, keep}
 use Rattle.hub.proofs.Invariant.Rows.{Good, set-in, write-twice, shift-place, shift-phase}
-use Rattle.hub.proofs.Invariant.Rows.{place-row, phase-row, names-kept}
+use Rattle.hub.proofs.Invariant.Rows.{place-row, phase-row, tell-row, names-kept}
 
 pub all-more : (d d′ : ℕ) → d ≤ d′ → (xs : List ℕ) → AllBelow d xs → AllBelow d′ xs
 unfolding AllBelow
@@ -68,40 +69,85 @@ module _ (k : ℕ) (m : Queue) (p : ℕ) (l : p < m .opening .parties) (inv : In
   abbrev resumed : ℕ
   resumed = m .figures .resumed
 
+  -- What the party sees, had the hub radios or not.
+  abbrev seeing : Bool → Sight
+  seeing v =
+      let s = look m p in
+      record {
+        party = s .party;
+        kind = s .kind;
+        slot = s .slot;
+        seat = s .seat;
+        waiter = s .waiter;
+        figures = s .figures;
+        named = v;
+        radio = s .radio;
+        stocked = s .stocked;
+      }
+
   -- Rows on the counter alone. The ticket next issued stands for all: nothing happens to it.
-  asked : (u : Bool) → aboveZero (m .figures .counter) ≡ u
+  asked : (u v : Bool) → aboveZero (m .figures .counter) ≡ u → m .opening .named ≡ v
       → phaseIn (phases m) p ≡ Acquiring
-      → Good k Step p m Acquiring (stepAcquiring u (look m p))
+      → Good k Step p m Acquiring (stepAcquiring u (seeing v))
   unfolding stepAcquiring pick isOneOf isPlaceOf seenBy phaseAfter phasesAfter counterAfter servedAfter
-  asked true e f =
+  asked true true e n f =
+      phase-row k m p l inv _ issued f
+      (omega (arith, inv .tickets .at issued, took-above (m .figures .counter) e, ap bit n))
+      (omega (arith, took-above (m .figures .counter) e))
+      (names-kept k m p l inv issued _ _ f (omega arith))
+      (omega arith) (refl, rw n, refl, refl) (λ xs a. a)
+  asked true false e n f =
       phase-row k m p l inv _ issued f
       (omega (arith, inv .tickets .at issued, took-above (m .figures .counter) e))
       (omega (arith, took-above (m .figures .counter) e))
       (names-kept k m p l inv issued _ _ f (omega arith))
-      (omega arith) (refl, refl, refl, refl) (λ xs a. a)
-  asked false e f =
+      (omega arith) (refl, rw n, refl, refl) (λ xs a. a)
+  asked false v e n f =
       phase-row k m p l inv _ issued f
       (omega (arith, inv .tickets .at issued, took-below (m .figures .counter) e))
       (omega (arith, took-below (m .figures .counter) e))
       (names-kept k m p l inv issued _ _ f (omega arith))
       (omega arith) (refl, refl, refl, refl) (λ xs a. a)
 
-  giving-back : (u : Bool) → belowZero (m .figures .counter) ≡ u
+  giving-back : (u v : Bool) → belowZero (m .figures .counter) ≡ u → m .opening .named ≡ v
       → phaseIn (phases m) p ≡ Releasing
-      → Good k Step p m Releasing (stepReleasing u (look m p))
+      → Good k Step p m Releasing (stepReleasing u (seeing v))
   unfolding stepReleasing pick isOneOf isPlaceOf seenBy phaseAfter phasesAfter counterAfter servedAfter
-  giving-back true e f =
+  giving-back true v e n f =
       phase-row k m p l inv _ issued f
       (omega (arith, inv .tickets .at issued, gave-below (m .figures .counter) e))
       (omega (arith, gave-below (m .figures .counter) e))
       (names-kept k m p l inv issued _ _ f (omega arith))
       (omega arith) (refl, refl, refl, refl) (λ xs a. a)
-  giving-back false e f =
+  giving-back false true e n f =
+      phase-row k m p l inv _ issued f
+      (omega (arith, inv .tickets .at issued, gave-above (m .figures .counter) e, ap bit n))
+      (omega (arith, gave-above (m .figures .counter) e))
+      (names-kept k m p l inv issued _ _ f (omega arith))
+      (omega arith) (refl, rw n, refl, refl) (λ xs a. a)
+  giving-back false false e n f =
       phase-row k m p l inv _ issued f
       (omega (arith, inv .tickets .at issued, gave-above (m .figures .counter) e))
       (omega (arith, gave-above (m .figures .counter) e))
       (names-kept k m p l inv issued _ _ f (omega arith))
-      (omega arith) (refl, refl, refl, refl) (λ xs a. a)
+      (omega arith) (refl, rw n, refl, refl) (λ xs a. a)
+
+  -- Rows on a radio: no permit moves.
+  fetching : (u : Bool) → phaseIn (phases m) p ≡ Fetching
+      → Good k Step p m Fetching (stepFetching u (look m p))
+  unfolding stepFetching pick isOneOf isPlaceOf seenBy phaseAfter phasesAfter counterAfter servedAfter
+  fetching true f =
+      phase-row k m p l inv _ issued f (omega (arith, inv .tickets .at issued)) (omega arith)
+      (names-kept k m p l inv issued _ _ f (omega arith)) (omega arith) (refl, refl, refl, refl)
+      (λ xs a. a)
+  fetching false f = tell-row k m p l inv f (omega arith) (refl, refl, refl, refl) (λ xs a. a)
+
+  storing : phaseIn (phases m) p ≡ Storing → Good k Step p m Storing (stepStoring (look m p))
+  unfolding stepStoring pick isOneOf isPlaceOf seenBy phaseAfter phasesAfter counterAfter servedAfter
+  storing f =
+      phase-row k m p l inv _ issued f (omega (arith, inv .tickets .at issued)) (omega arith)
+      (names-kept k m p l inv issued _ _ f (omega arith)) (omega arith) (refl, refl, refl, refl)
+      (λ xs a. a)
 
   -- A new ticket: nobody owned it, and its cell is empty or has a permit.
   fresh-cell : (least (places m issued) ≡ 0) × (1 ≤ most (places m issued))
@@ -381,7 +427,8 @@ module _ (k : ℕ) (m : Queue) (p : ℕ) (l : p < m .opening .parties) (inv : In
       -- the three at once
       abbrev together : (ℕ → PlaceSlot) → List PartySlot → Queue
       together c ss =
-          record { opening = m .opening; figures = m .figures; cells = c; slots = ss }
+          record
+          { opening = m .opening; figures = m .figures; cells = c; slots = ss; pool = m .pool }
 
       abbrev three : Queue
       three =
@@ -508,17 +555,19 @@ module _ (k : ℕ) (m : Queue) (p : ℕ) (l : p < m .opening .parties) (inv : In
   step-good Free e = refl
   step-good Holding e = refl
   step-good (Waiting t) e = refl
-  step-good Acquiring e = asked _ refl e
+  step-good Acquiring e = asked _ _ refl refl e
   step-good Suspending e = unnumbered e
   step-good (Ticketed t) e = numbered t _ (sym (seen (Ticketed t) e)) e
   step-good (Aborting t) e = giving-up t _ refl e
   step-good (Cancelling t) e = cancelling t _ (sym (seen (Cancelling t) e)) e
   step-good (Refusing t) e = refusing t _ (sym (seen (Refusing t) e)) e
-  step-good Releasing e = giving-back _ refl e
+  step-good Releasing e = giving-back _ _ refl refl e
   step-good Resuming e = carrying e
   step-good (ResumingAt t) e = handing t e _ (sym (seen (ResumingAt t) e)) refl
+  step-good Fetching e = fetching _ e
+  step-good Storing e = storing e
 
-  -- The three other calls. The party's own phase is what its slot says.
+  -- The other calls. The party's own phase is what its slot says.
   abbrev phase : Phase
   phase = readSlot (m .slots) p .phase
 
@@ -560,9 +609,17 @@ module _ (k : ℕ) (m : Queue) (p : ℕ) (l : p < m .opening .parties) (inv : In
       (omega arith) (names-kept k m p l inv issued _ _ f (omega arith)) (omega arith)
       (refl, refl, refl, refl) (λ xs a. a)
 
+  radio-good : (a : Bool) → Good k Radio p m phase (tellRadio a (look m p))
+  unfolding tellRadio isPlaceOf phaseAfter phasesAfter counterAfter servedAfter
+  radio-good true =
+      tell-row k m p l inv (is-of phase refl) (omega arith) (refl, refl, refl, refl) (λ xs a. a)
+  radio-good false =
+      tell-row k m p l inv (is-of phase refl) (omega arith) (refl, refl, refl, refl) (λ xs a. a)
+
   pub decide-good : (o : Op) → Good k o p m (look m p .slot .phase) (decide o false (look m p))
   unfolding decide seenBy
   decide-good Acquire = acquire-good _ _ refl refl
   decide-good Step = step-good _ (sym (read-phase (m .slots) p))
   decide-good Cancel = cancel-good _ _ refl
   decide-good Release = release-good _ refl
+  decide-good Radio = radio-good _

@@ -14,7 +14,7 @@ use Rattle.hub.specs.declared.record.Phase.{Phase}
 use Rattle.hub.specs.declared.record.Phase.the-variants.{Holding, Waiting, Acquiring}
 use Rattle.hub.specs.declared.record.Phase.the-variants.{Suspending, Ticketed, Aborting}
 use Rattle.hub.specs.declared.record.Phase.the-variants.{Cancelling, Refusing, Releasing}
-use Rattle.hub.specs.declared.record.Phase.the-variants.{Resuming, ResumingAt}
+use Rattle.hub.specs.declared.record.Phase.the-variants.{Resuming, ResumingAt, Fetching, Storing}
 use Rattle.hub.specs.declared.record.Place.{Place}
 use Rattle.hub.specs.declared.record.Place.the-variants.{Empty, Waiting as WaitedBy, Permit}
 use Rattle.hub.specs.declared.record.Place.the-variants.{Cancelled, Refused, Done}
@@ -136,11 +136,11 @@ abbrev pub one : ℕ → ℕ
 one t = 1
 
 -- A phase that is in one list is in a longer one.
-abbrev within : List Phase → List Phase → Bool
+abbrev pub within : List Phase → List Phase → Bool
 within [] l = true
 within (x ∷ xs) l = among (map rank l) (rank x) && within xs l
 
-in-longer : (xs l : List Phase) (r : ℕ) → within xs l ≡ true
+pub in-longer : (xs l : List Phase) (r : ℕ) → within xs l ≡ true
     → among (map rank xs) r ≡ true → among (map rank l) r ≡ true
 in-longer [] l r e i = cc
 in-longer (x ∷ xs) l r e i =
@@ -182,7 +182,7 @@ count-pick l xs = weight-same (λ f. bit (isOneOf l f)) (pick l one) (λ f. each
 
 -- Who holds, who brings a permit, who refuses one; who may draw a ticket, who will.
 abbrev pub holding : Phase → ℕ
-holding = pick (Holding ∷ Releasing ∷ []) one
+holding = pick (Holding ∷ Releasing ∷ Fetching ∷ []) one
 
 abbrev pub resuming : Phase → ℕ
 resuming = pick (Resuming ∷ ResumingAt 0 ∷ []) one
@@ -209,6 +209,10 @@ carrying = pick (Resuming ∷ []) one
 
 abbrev pub cancelling : Phase → ℕ
 cancelling = pick (Cancelling 0 ∷ []) one
+
+-- Who is about to fetch a radio, or to put one back.
+abbrev pub radioed : Phase → ℕ
+radioed = pick (Fetching ∷ Storing ∷ []) one
 
 -- Of ticket t: its owner, its hand, who stands at its place, who refuses it.
 abbrev pub own : ℕ → Phase → ℕ

@@ -28,9 +28,9 @@ use Rattle.hub.proofs.Laws.Seats.{written-size}
 use Rattle.hub.proofs.Invariant.Weights.{lt-pos, spent}
 use Rattle.hub.proofs.Invariant.Schedules.{is-cancelled, skipped-inv}
 use Rattle.hub.proofs.Window.Ring.{window-write, window-up}
-use Rattle.hub.proofs.Window.Shown.{Reached, low, high, ticket-place}
+use Rattle.hub.proofs.Window.Shown.{Tracks, low, high, ticket-place}
 
-module _ (k : ℕ) (h : Hub) (m : Queue) (r : Reached k h m) where
+module _ (k : ℕ) (h : Hub) (m : Queue) (r : Tracks k h m) where
   -- The place of a party's ticket is written in both.
   pub placed-window : (p : ℕ) (f : Phase) → phaseIn (phases m) p ≡ f → (a : PlaceSlot)
       → Window (h .oldest) (placed h f a .places) (queue.placed m f a .cells)
@@ -56,7 +56,7 @@ module _ (k : ℕ) (h : Hub) (m : Queue) (r : Reached k h m) where
           )
 
 -- The tidying moves the ring of a record alone.
-module _ (k : ℕ) (h : Hub) (s : Ring) (m : Queue) (r : Reached k (withRing h s) m) where
+module _ (k : ℕ) (h : Hub) (s : Ring) (m : Queue) (r : Tracks k (withRing h s) m) where
   same : s .resumed ≡ m .figures .resumed
   same = ap (λ (f : Figures). f .resumed) (r .shows .figures)
 
@@ -86,9 +86,9 @@ module _ (k : ℕ) (h : Hub) (s : Ring) (m : Queue) (r : Reached k (withRing h s
       lt-pos (m .figures .resumed) (m .figures .issued)
       (omega (arith, r .inv .tickets .at (m .figures .resumed) .owned, ap spent c))
 
-  skipped-reached : places m (m .figures .resumed) ≡ Cancelled
-      → Reached k (withRing h (skipped s)) (queue.skipped m)
-  skipped-reached c =
+  skipped-tracks : places m (m .figures .resumed) ≡ Cancelled
+      → Tracks k (withRing h (skipped s)) (queue.skipped m)
+  skipped-tracks c =
       record {
         permits = r .permits;
         size = written-size (s .places) (r .size) (s .resumed) _;
@@ -99,6 +99,7 @@ module _ (k : ℕ) (h : Hub) (s : Ring) (m : Queue) (r : Reached k (withRing h s
               opening = r .shows .opening;
               figures = ap (λ (f : Figures). withResumed (f .resumed + 1) f) (r .shows .figures);
               slots = r .shows .slots;
+              pool = r .shows .pool;
               window =
                   subst
                   (λ (t : ℕ).
@@ -121,8 +122,8 @@ module _ (k : ℕ) (h : Hub) (s : Ring) (m : Queue) (r : Reached k (withRing h s
       below : s .resumed < s .oldest + PLACES
       below = omega (arith, high k (withRing h s) m r, same, issued-more c)
 
-  retired-reached : canRetire s ≡ true → Reached k (withRing h (retired s)) m
-  retired-reached e =
+  retired-tracks : canRetire s ≡ true → Tracks k (withRing h (retired s)) m
+  retired-tracks e =
       record {
         permits = r .permits;
         size = written-size (s .places) (r .size) (s .oldest) emptySeat;
@@ -133,6 +134,7 @@ module _ (k : ℕ) (h : Hub) (s : Ring) (m : Queue) (r : Reached k (withRing h s
               opening = r .shows .opening;
               figures = r .shows .figures;
               slots = r .shows .slots;
+              pool = r .shows .pool;
               window =
                   window-up (s .oldest) (s .places) (m .cells) (r .size) (r .shows .window)
                   (place-of Done _ e);
@@ -140,61 +142,61 @@ module _ (k : ℕ) (h : Hub) (s : Ring) (m : Queue) (r : Reached k (withRing h s
       }
 
 -- Both first loops run alike, however much fuel each has beyond the tickets issued.
-skip-reached : (k n n′ : ℕ) (h : Hub) (s : Ring) (m : Queue) → Reached k (withRing h s) m
+skip-tracks : (k n n′ : ℕ) (h : Hub) (s : Ring) (m : Queue) → Tracks k (withRing h s) m
     → m .figures .issued ≤ m .figures .resumed + n → m .figures .issued ≤ m .figures .resumed + n′
-    → Reached k (withRing h (skip n s)) (queue.skip n′ m)
+    → Tracks k (withRing h (skip n s)) (queue.skip n′ m)
 unfolding skip queue.skip
-skip-reached k zero zero h s m r i j = r
-skip-reached k zero (suc n′) h s m r i j = go (queue.canSkip m) refl
+skip-tracks k zero zero h s m r i j = r
+skip-tracks k zero (suc n′) h s m r i j = go (queue.canSkip m) refl
   where
     go : (b : Bool) → queue.canSkip m ≡ b
-        → Reached k (withRing h s) (cond b (queue.skip n′ (queue.skipped m)) m)
+        → Tracks k (withRing h s) (cond b (queue.skip n′ (queue.skipped m)) m)
     go false e = r
     go true e = let z : ⊥ = omega (arith, issued-more k h s m r (is-cancelled _ e)) in absurd z
-skip-reached k (suc n) zero h s m r i j = go (canSkip s) refl
+skip-tracks k (suc n) zero h s m r i j = go (canSkip s) refl
   where
-    go : (b : Bool) → canSkip s ≡ b → Reached k (withRing h (cond b (skip n (skipped s)) s)) m
+    go : (b : Bool) → canSkip s ≡ b → Tracks k (withRing h (cond b (skip n (skipped s)) s)) m
     go false e = r
     go true e =
         let c = is-cancelled _ (sym (skip-test k h s m r) ∙ e) in
         let z : ⊥ = omega (arith, issued-more k h s m r c) in absurd z
-skip-reached k (suc n) (suc n′) h s m r i j =
+skip-tracks k (suc n) (suc n′) h s m r i j =
     subst
     (λ (b : Bool).
-    Reached k (withRing h (cond (canSkip s) (skip n (skipped s)) s))
+    Tracks k (withRing h (cond (canSkip s) (skip n (skipped s)) s))
     (cond b (queue.skip n′ (queue.skipped m)) m))
     (skip-test k h s m r)
     (go (canSkip s) refl
-    (λ e. skip-reached k n n′ h (skipped s) (queue.skipped m)
-    (skipped-reached k h s m r (is-cancelled _ (sym (skip-test k h s m r) ∙ e)))
+    (λ e. skip-tracks k n n′ h (skipped s) (queue.skipped m)
+    (skipped-tracks k h s m r (is-cancelled _ (sym (skip-test k h s m r) ∙ e)))
     (omega arith) (omega arith)))
   where
     go : (b : Bool) → canSkip s ≡ b
         → (canSkip s ≡ true
-        → Reached k (withRing h (skip n (skipped s))) (queue.skip n′ (queue.skipped m)))
-        → Reached k (withRing h (cond b (skip n (skipped s)) s))
+        → Tracks k (withRing h (skip n (skipped s))) (queue.skip n′ (queue.skipped m)))
+        → Tracks k (withRing h (cond b (skip n (skipped s)) s))
         (cond b (queue.skip n′ (queue.skipped m)) m)
     go false e f = r
     go true e f = f e
 
-retire-reached : (k n : ℕ) (h : Hub) (s : Ring) (m : Queue) → Reached k (withRing h s) m
-    → Reached k (withRing h (retire n s)) m
+retire-tracks : (k n : ℕ) (h : Hub) (s : Ring) (m : Queue) → Tracks k (withRing h s) m
+    → Tracks k (withRing h (retire n s)) m
 unfolding retire
-retire-reached k zero h s m r = r
-retire-reached k (suc n) h s m r =
+retire-tracks k zero h s m r = r
+retire-tracks k (suc n) h s m r =
     go (canRetire s) refl
-    (λ e. retire-reached k n h (retired s) m (retired-reached k h s m r e))
+    (λ e. retire-tracks k n h (retired s) m (retired-tracks k h s m r e))
   where
     go : (b : Bool) → canRetire s ≡ b
-        → (canRetire s ≡ true → Reached k (withRing h (retire n (retired s))) m)
-        → Reached k (withRing h (cond b (retire n (retired s)) s)) m
+        → (canRetire s ≡ true → Tracks k (withRing h (retire n (retired s))) m)
+        → Tracks k (withRing h (cond b (retire n (retired s)) s)) m
     go false e f = r
     go true e f = f e
 
-pub tidied-reached : (k : ℕ) (h : Hub) (m : Queue) → Reached k h m
-    → Reached k (tidied h) (queue.tidied m)
+pub tidied-tracks : (k : ℕ) (h : Hub) (m : Queue) → Tracks k h m
+    → Tracks k (tidied h) (queue.tidied m)
 unfolding tidied
-tidied-reached k h m r =
-    retire-reached k PLACES h _ _
-    (skip-reached k PLACES (m .figures .issued) h _ m r (omega (arith, low k h m r, high k h m r))
+tidied-tracks k h m r =
+    retire-tracks k PLACES h _ _
+    (skip-tracks k PLACES (m .figures .issued) h _ m r (omega (arith, low k h m r, high k h m r))
     (omega arith))

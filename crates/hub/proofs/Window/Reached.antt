@@ -1,6 +1,6 @@
 -- Every record that a schedule reaches fits.
 use Prim.Native.Nat.{ℕ, _+_, _≤_, _<_}
-use mathlib.Core.Path.{_≡_, refl, sym, ap, subst, _∙_}
+use mathlib.Core.Path.{_≡_, refl, sym, ap, ap₂, subst, _∙_}
 use mathlib.Core.Bool.{Bool, true, false, cond, _&&_, _||_}
 use mathlib.Core.List.{[], _∷_}
 use native.Mathlib.Omega.{arith}
@@ -8,7 +8,7 @@ use borrow.Author.Tests.{lt-ltb, le-leb, ltb-true, ltb-false, eq-eqb}
 use lib.Dec.{ltb, leb, eqb}
 use lib.IntN.{ℤ, pos, negsuc}
 use Rattle.hub.specs.Moves.{Move}
-use Rattle.hub.specs.Moves.{Refuse, Act, Put, Wake}
+use Rattle.hub.specs.Moves.{Refuse, Tell, Act, Put, Wake}
 use Rattle.hub.specs.declared.moves.Op.{Op}
 use Rattle.hub.specs.declared.moves.Sight.{Sight}
 use Rattle.hub.specs.declared.opening.Opening.{Opening}
@@ -20,14 +20,16 @@ use Rattle.hub.specs.declared.record.Place.{Place}
 use Rattle.hub.specs.declared.record.Place.the-variants.{Empty, Waiting as WaitedBy, Permit}
 use Rattle.hub.specs.declared.record.Place.the-variants.{Cancelled, Refused, Done}
 use Rattle.hub.specs.declared.record.PlaceSlot.{PlaceSlot}
-use Rattle.hub.specs.Basics.{allOf, implies, upTo32}
+use Rattle.hub.specs.Basics.{allOf, bit, implies, upTo32}
 use Rattle.hub.specs.Fits.{counterFits, figuresFit, inWindow, ticketFits, placeListed}
-use Rattle.hub.specs.Fits.{partyFits, standsAt, placeFits, fits}
+use Rattle.hub.specs.Fits.{partyFits, standsAt, placeFits, radiosFit, fits}
 use Rattle.hub.specs.Ledger.{phaseIn}
 use Rattle.hub.specs.Look.{look, seenBy}
-use Rattle.hub.specs.Phases.{byWaiter, isOneOf, isFree, isWaiting, stands, ticketOf}
+use Rattle.hub.specs.Opening.{radiosDiffer}
+use Rattle.hub.specs.Phases.{byWaiter, isOneOf, isFree, isWaiting, ofRadios, stands, ticketOf}
 use Rattle.hub.specs.Queue.{Queue, phases, places}
 use Rattle.hub.specs.Queue as queue
+use Rattle.hub.specs.Radios.{rearranged}
 use Rattle.hub.specs.Record.{PARTIES, MAX-BEGUN, readSlot}
 use Rattle.hub.specs.Ring.{PLACES, readPlace}
 use Rattle.hub.specs.Table.{decide, step, stepIn}
@@ -38,19 +40,21 @@ use Rattle.hub.proofs.Laws.Ranges.{all-true}
 use Rattle.hub.proofs.Laws.Slots.{read-phase}
 use Rattle.hub.proofs.Laws.Table.{isListed, listed-is-tabled}
 use Rattle.hub.proofs.Invariant.Weights.{same, same-self, same-eq, up, down, pick, one, drawing}
-use Rattle.hub.proofs.Invariant.Weights.{suspending, live, carrying, own, hand, stand}
+use Rattle.hub.proofs.Invariant.Weights.{suspending, live, carrying, radioed, own, hand, stand}
 use Rattle.hub.proofs.Invariant.Weights.{sum, has-ticket}
 use Rattle.hub.proofs.Invariant.Tickets.{one-in, owner-below, hand-below, near, drawing-most}
 use Rattle.hub.proofs.Invariant.Tickets.{carried-most}
 use Rattle.hub.proofs.Invariant.Rows.{Good}
 use Rattle.hub.proofs.Invariant.Walk.{decide-good}
 use Rattle.hub.proofs.Invariant.Held.{short}
-use Rattle.hub.proofs.Window.Shown.{Reached, low, high, has-place, read-same, look-same}
+use Rattle.hub.proofs.Radios.Kept.{Kept}
+use Rattle.hub.proofs.Window.Shown.{Reached, Tracks, low, high, has-place, read-same, look-same}
 
 -- A good move is one that the table lists.
 good-listed : (k : ℕ) (o : Op) (p : ℕ) (m : Queue) (f : Phase) (v : Move)
     → Good k o p m f v → isListed v ≡ true
 good-listed k o p m f (Refuse r) g = g
+good-listed k o p m f (Tell y) g = refl
 good-listed k o p m f (Act c) g = refl
 good-listed k o p m f (Put a c) g = refl
 good-listed k o p m f (Wake q s a c) g = refl
@@ -73,7 +77,17 @@ where-true : (b c : Bool) → (b ≡ true → c ≡ true) → implies b c ≡ tr
 where-true true c f = f refl
 where-true false c f = refl
 
-module _ (k : ℕ) (h : Hub) (m : Queue) (r : Reached k h m) where
+-- A phase of radios in the count is one in the test.
+pub with-radios : (f : Phase) (b : Bool) → radioed f ≤ bit b → implies (ofRadios f) b ≡ true
+unfolding pick
+with-radios f b = go (ofRadios f) b
+  where
+    go : (a b : Bool) → cond a 1 0 ≤ bit b → implies a b ≡ true
+    go true true i = refl
+    go true false i = let z : ⊥ = omega arith in absurd z
+    go false b i = refl
+
+module _ (k : ℕ) (h : Hub) (m : Queue) (r : Tracks k h m) where
   -- the figures of both, one by one
   fig : {A : Type 0} (w : Figures → A) → w (h .figures) ≡ w (m .figures)
   fig w = ap w (r .shows .figures)
@@ -198,10 +212,13 @@ module _ (k : ℕ) (h : Hub) (m : Queue) (r : Reached k h m) where
   unfolding partyFits isOneOf seenBy
   party-fits p =
       both _ _
+      (both _ _
       (both _ _ (present (ltb p (h .opening .parties)) refl)
       (ap (ticketFits (h .figures) (h .oldest)) (read-same k h m r p) ∙ ticket-fits p _ refl))
       (sym (listed-is-tabled (look h p))
-      ∙ ap (λ (s : Sight). isListed (step s)) (look-same k h m r p) ∙ listed p _ refl)
+      ∙ ap (λ (s : Sight). isListed (step s)) (look-same k h m r p) ∙ listed p _ refl))
+      (ap₂ (λ (f : Phase) (o : Opening). implies (ofRadios f) (o .named)) (read-same k h m r p)
+      (r .shows .opening) ∙ with-radios (phaseIn (phases m) p) (m .opening .named) (r .inv .radios p))
     where
       present : (b : Bool) → ltb p (h .opening .parties) ≡ b
           → b || isFree (readSlot (h .slots) p .phase) ≡ true
@@ -229,9 +246,20 @@ module _ (k : ℕ) (h : Hub) (m : Queue) (r : Reached k h m) where
       go Refused e = refl
       go Done e = refl
 
-  pub reached-fits : 1 ≤ k → k ≤ 32 → fits h ≡ true
-  unfolding fits
-  reached-fits a b =
-      both _ _
-      (both _ _ (figures-fit a b) (all-true (partyFits h) 0 PARTIES (λ p i j. party-fits p)))
-      (all-true (placeFits h) (h .oldest) PLACES place-fits)
+-- Each radio is somewhere once.
+radios-fit : (h : Hub) → radiosDiffer (h .opening) ≡ true → (h .opening .named ≡ true → Kept h)
+    → radiosFit h ≡ true
+unfolding radiosFit rearranged
+radios-fit h d e =
+    both _ _ d (where-true _ _ (λ i. all-true _ 0 256 (λ b x y. eq-eqb _ _ (e i .same b))))
+
+pub reached-fits : (k : ℕ) (h : Hub) (m : Queue) → Reached k h m → 1 ≤ k → k ≤ 32 → fits h ≡ true
+unfolding fits
+reached-fits k h m r a b =
+    let t = r .tracks in
+    both _ _
+    (both _ _
+    (both _ _ (figures-fit k h m t a b)
+    (all-true (partyFits h) 0 PARTIES (λ p i j. party-fits k h m t p)))
+    (all-true (placeFits h) (h .oldest) PLACES (place-fits k h m t)))
+    (radios-fit h (r .differ) (r .radios))

@@ -5,6 +5,7 @@ use mathlib.Core.Bool.{Bool, true, false, cond}
 use mathlib.Core.List.{List}
 use native.Mathlib.Decide.{decLe}
 use native.Mathlib.Omega.{arith}
+use lib.Dec.{leb}
 use lib.ListN.{length}
 use Rattle.hub.specs.declared.record.Figures.{Figures}
 use Rattle.hub.specs.declared.record.Hub.{Hub}
@@ -16,9 +17,11 @@ use Rattle.hub.specs.Basics.{bit}
 use Rattle.hub.specs.Kinds.{kindOf}
 use Rattle.hub.specs.Ledger.{phaseIn}
 use Rattle.hub.specs.Look.{look, seenBy}
+use Rattle.hub.specs.Opening.{radiosDiffer}
 use Rattle.hub.specs.Phases.{byTicket, byWaiter, isOneOf, isPlaceOf, ticketOf}
 use Rattle.hub.specs.Queue.{Queue, phases, places}
 use Rattle.hub.specs.Queue as queue
+use Rattle.hub.specs.Radios.{handOf}
 use Rattle.hub.specs.Record.{emptySeat, freeSlot, phasesOf, readSlot}
 use Rattle.hub.specs.Refinement.{Shows}
 use Rattle.hub.specs.Ring.{PLACES, readSeat}
@@ -28,16 +31,23 @@ use Rattle.hub.proofs.Invariant.Weights.{lt-le, lt-pos, pick, drawing, 
 use Rattle.hub.proofs.Invariant.Weights.{served, sum, has-ticket}
 use Rattle.hub.proofs.Invariant.Tickets.{one-in, drawing-most, resumed-most}
 use Rattle.hub.proofs.Invariant.Keep.{Inv}
+use Rattle.hub.proofs.Radios.Kept.{Kept}
 
--- A record that a schedule reaches: it shows a queue that keeps the invariant.
-pub record Reached (k : ℕ) (h : Hub) (m : Queue) : Type 0 where
+-- The record h tracks the queue m: it shows it, and the queue keeps the invariant.
+pub record Tracks (k : ℕ) (h : Hub) (m : Queue) : Type 0 where
   pub permits : h .opening .permits ≡ k
   pub size : length (h .places) ≡ PLACES
   pub shows : Shows h m
   pub inv : Inv k m
   pub room : m .figures .issued + sum drawing m ≤ h .oldest + PLACES
 
-module _ (k : ℕ) (h : Hub) (m : Queue) (r : Reached k h m) where
+-- A record that a schedule reaches: on a hub with radios, they are those of its opening.
+pub record Reached (k : ℕ) (h : Hub) (m : Queue) : Type 0 where
+  pub tracks : Tracks k h m
+  pub differ : radiosDiffer (h .opening) ≡ true
+  pub radios : h .opening .named ≡ true → Kept h
+
+module _ (k : ℕ) (h : Hub) (m : Queue) (r : Tracks k h m) where
   -- The oldest ticket has been issued, and drawn to resume: the one before it is done.
   pub low : (h .oldest ≤ m .figures .issued) × (h .oldest ≤ m .figures .resumed)
   unfolding isPlaceOf
@@ -145,4 +155,7 @@ module _ (k : ℕ) (h : Hub) (m : Queue) (r : Reached k h m) where
         seat = seat-same p i;
         waiter = byWaiter freeSlot (readSlot (r .shows .slots i)) (seat-same p i .place);
         figures = r .shows .figures i;
+        named = r .shows .opening i .named;
+        radio = handOf (r .shows .pool i) p;
+        stocked = leb 1 (r .shows .pool i .stored);
       }
