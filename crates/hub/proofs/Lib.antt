@@ -2,5 +2,6 @@
 pub mod Laws  -- of single definitions
 pub mod Edges  -- the paper's marked cases
 pub mod Invariant  -- why the permits add up
+pub mod Radios  -- why no radio is lost or doubled
 pub mod Window  -- the record beside the unbounded queue
 pub mod Demand3  -- the third demand
