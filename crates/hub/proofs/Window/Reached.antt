@@ -48,6 +48,7 @@ use Rattle.hub.proofs.Invariant.Rows.{Good}
 use Rattle.hub.proofs.Invariant.Walk.{decide-good}
 use Rattle.hub.proofs.Invariant.Held.{short}
 use Rattle.hub.proofs.Radios.Kept.{Kept}
+use Rattle.hub.proofs.Radios.Length.{kept-length}
 use Rattle.hub.proofs.Window.Shown.{Reached, Tracks, low, high, has-place, read-same, look-same}
 
 -- A good move is one that the table lists.
@@ -251,7 +252,9 @@ radios-fit : (h : Hub) → radiosDiffer (h .opening) ≡ true → (h .opening .n
     → radiosFit h ≡ true
 unfolding radiosFit rearranged
 radios-fit h d e =
-    both _ _ d (where-true _ _ (λ i. all-true _ 0 256 (λ b x y. eq-eqb _ _ (e i .same b))))
+    both _ _ d
+    (where-true _ _ (λ i. both _ _ (eq-eqb _ _ (kept-length h (e i)))
+    (all-true _ 0 256 (λ b x y. eq-eqb _ _ (e i .same b)))))
 
 pub reached-fits : (k : ℕ) (h : Hub) (m : Queue) → Reached k h m → 1 ≤ k → k ≤ 32 → fits h ≡ true
 unfolding fits
