@@ -15,12 +15,14 @@ use Rattle.hub.specs.declared.record.Hub.{Hub}
 use Rattle.hub.specs.declared.record.Outcome.{Outcome}
 use Rattle.hub.specs.declared.record.PartySlot.{PartySlot}
 use Rattle.hub.specs.declared.record.PlaceSlot.{PlaceSlot}
+use Rattle.hub.specs.declared.record.Pool.{Pool}
 use Rattle.hub.specs.Answers.{printed}
 use Rattle.hub.specs.Basics.{allFrom}
-use Rattle.hub.specs.Calls.{answerOf, apply, called, checked, isFull}
-use Rattle.hub.specs.Fits.{fits, figuresClauses, figuresFit, counterFits, partyFits, placeFits}
+use Rattle.hub.specs.Calls.{answerOf, apply, called, checked, isFull, withPool}
+use Rattle.hub.specs.Fits.{fits, figuresClauses, figuresFit, counterFits, partyFits, placeFits, radiosFit}
 use Rattle.hub.specs.Look.{look, seenBy}
-use Rattle.hub.specs.Moves.{Move}
+use Rattle.hub.specs.Moves.{Move, Refuse}
+use Rattle.hub.specs.Radios.{poolAfter}
 use Rattle.hub.specs.Record.{MAX-BEGUN, PARTIES}
 use Rattle.hub.specs.Ring.{PLACES}
 use Rattle.hub.specs.Table.{decide}
@@ -29,41 +31,60 @@ use Rattle.table.specs.declared.effect.Effect.{Effect}
 use Rattle.table.specs.Effect.{effectOf}
 use Rattle.table.specs.Small.{Small}
 use Rattle.transition.specs.Tidied.{tidiedBy}
+use Rattle.transition.proofs.Laws.Radios.{refused-pool}
 use Rattle.transition.proofs.Laws.Sight.{Reads, looked, sightOf}
 use Rattle.transition.proofs.Laws.Stored.{applied, stored, told}
 
 abbrev pub asks : Op → ℕ → Call
 asks o p = record { op = o; party = p }
 
+-- The radios once party p is answered y.
+abbrev pub radiosAfter : Hub → ℕ → Answer → Pool
+radiosAfter h p y = poolAfter (h .opening .named) (printed y) p (h .pool)
+
 -- What a move answers and leaves.
-abbrev outcome : Hub → Sight → Move → Outcome
-outcome h s m = record { answer = answerOf m; hub = apply h s m }
+abbrev outcome : Hub → ℕ → Move → Outcome
+outcome h p m =
+    record {
+      answer = answerOf m;
+      hub = withPool (radiosAfter h p (answerOf m)) (apply h (look h p) m);
+    }
 
 abbrev full : Hub → Bool
 full h = isFull (h .oldest) (h .figures .issued) (h .slots)
 
+-- A refusal leaves the record as it was.
+refusal : (h : Hub) (p : ℕ) (r : Refusal)
+    → record { answer = Answer.Refused r; hub = h } ≡ outcome h p (Refuse r)
+unfolding apply
+refusal h p r =
+    ap (λ (q : Pool). record { answer = Answer.Refused r; hub = withPool q h })
+    (sym (refused-pool (h .opening .named) r p (h .pool)))
+
 -- Refused by 1, and by 4.
 pub unfit : (h : Hub) (p : ℕ) (o : Op) → fits h ≡ false
     → record { answer = Answer.Refused Refusal.Unfit; hub = h } ≡ called h (asks o p)
-unfolding checked apply
+unfolding checked
 unfit h p o e =
-    sym (ap (λ (a : Bool).
-    outcome h (look h p) (checked a (ltb p (h .opening .parties)) (decide o (full h) (look h p)))) e)
+    refusal h p Refusal.Unfit
+    ∙ sym (ap (λ (a : Bool).
+    outcome h p (checked a (ltb p (h .opening .parties)) (decide o (full h) (look h p)))) e)
 
 pub no-such-party : (h : Hub) (p : ℕ) (o : Op) → fits h ≡ true → ltb p (h .opening .parties) ≡ false
     → record { answer = Answer.Refused Refusal.NoSuchParty; hub = h } ≡ called h (asks o p)
-unfolding checked apply
+unfolding checked
 no-such-party h p o e f =
-    sym (ap₂ (λ (a b : Bool).
-    outcome h (look h p) (checked a b (decide o (full h) (look h p)))) e f)
+    refusal h p Refusal.NoSuchParty
+    ∙ sym (ap₂ (λ (a b : Bool).
+    outcome h p (checked a b (decide o (full h) (look h p)))) e f)
 
 -- A call that neither refuses does what is decided.
 pub admitted : (h : Hub) (p : ℕ) (o : Op) → fits h ≡ true → ltb p (h .opening .parties) ≡ true
-    → outcome h (look h p) (decide o (full h) (look h p)) ≡ called h (asks o p)
+    → outcome h p (decide o (full h) (look h p)) ≡ called h (asks o p)
 unfolding checked
 admitted h p o e f =
     sym (ap₂ (λ (a b : Bool).
-    outcome h (look h p) (checked a b (decide o (full h) (look h p)))) e f)
+    outcome h p (checked a b (decide o (full h) (look h p)))) e f)
 
 -- The figures of a record that fits.
 pub record Counted (h : Hub) : Type 0 where
@@ -80,7 +101,7 @@ counted h e =
     let parties = allFrom (partyFits h) 0 PARTIES in
     let places = allFrom (placeFits h) (h .oldest) PLACES in
     let f = figuresFit (h .opening) (h .figures) (h .oldest) in
-    let all = first f parties (first (f && parties) places e) in
+    let all = first f parties (first (f && parties) places (first (f && parties && places) (radiosFit h) e)) in
     let cs = figuresClauses (h .opening) (h .figures) (h .oldest) in
     let k = clause 0 cs all in
     let n = clause 1 cs all in
@@ -118,15 +139,20 @@ module _ (h : Hub) (p : ℕ) (seat : PlaceSlot) (q : ℕ) (waiter : PartySlot)
     pub said : e .answer ≡ answerOf move
     said = ap (λ (e : Effect). e .answer) effect ∙ told move (look h p)
 
-    pub left : tidiedBy (e .turns) (stored h p e) ≡ apply h (look h p) move
-    left =
-        ap (λ (e : Effect). tidiedBy (e .turns) (stored h p e)) effect
-        ∙ applied h p (r .size) move
+    -- The radios are moved by the answer, before the tidying or after it.
+    pub left : (x : Pool) → x ≡ radiosAfter h p (e .answer)
+        → tidiedBy (e .turns) (withPool x (stored h p e))
+        ≡ withPool (radiosAfter h p (answerOf move)) (apply h (look h p) move)
+    left x ex =
+        ap₂ withPool (ex ∙ ap (radiosAfter h p) said)
+        (ap (λ (e : Effect). tidiedBy (e .turns) (stored h p e)) effect
+        ∙ applied h p (r .size) move)
 
     -- What the call answers and leaves, where the record fits and has the party.
-    pub outcome-is : fits h ≡ true → ltb p (h .opening .parties) ≡ true → (g : Hub)
-        → g ≡ tidiedBy (e .turns) (stored h p e)
+    pub outcome-is : fits h ≡ true → ltb p (h .opening .parties) ≡ true → (x : Pool)
+        → x ≡ radiosAfter h p (e .answer) → (g : Hub)
+        → g ≡ tidiedBy (e .turns) (withPool x (stored h p e))
         → record { answer = e .answer; hub = g } ≡ called h (asks o p)
-    outcome-is f n g eg =
-        ap₂ (λ (a : Answer) (x : Hub). record { answer = a; hub = x }) said (eg ∙ left)
+    outcome-is f n x ex g eg =
+        ap₂ (λ (a : Answer) (g : Hub). record { answer = a; hub = g }) said (eg ∙ left x ex)
         ∙ admitted h p o f n

@@ -66,6 +66,7 @@ pub tidies : (u : Hub) (k : ℕ) (f : Figures) (s t : Ring) → f ≡ withResume
       oldest = t .oldest;
       places = t .places;
       slots = u .slots;
+      pool = u .pool;
     } ≡ tidiedBy k u
 tidies u k f s t ef es et =
     ap (λ (f : Figures). record {
@@ -74,6 +75,7 @@ tidies u k f s t ef es et =
       oldest = t .oldest;
       places = t .places;
       slots = u .slots;
+      pool = u .pool;
     }) ef
     ∙ ap (λ (t : Ring). record {
       opening = u .opening;
@@ -81,4 +83,5 @@ tidies u k f s t ef es et =
       oldest = t .oldest;
       places = t .places;
       slots = u .slots;
+      pool = u .pool;
     }) (et ∙ ap (retire k) es)

@@ -5,7 +5,7 @@ use mathlib.Core.Bool.{Bool, true, false, cond}
 use mathlib.Core.List.{List}
 use native.Mathlib.Omega.{arith}
 use borrow.Author.Tests.{ltb-true, ltb-false}
-use lib.Dec.{ltb}
+use lib.Dec.{leb, ltb}
 use lib.ListN.{length, List·getD-eq-default}
 use Rattle.hub.specs.declared.moves.Sight.{Sight}
 use Rattle.hub.specs.declared.record.Hub.{Hub}
@@ -15,6 +15,7 @@ use Rattle.hub.specs.declared.record.PlaceSlot.{PlaceSlot}
 use Rattle.hub.specs.Kinds.{kindOf}
 use Rattle.hub.specs.Look.{look, seenBy}
 use Rattle.hub.specs.Phases.{byTicket, byWaiter, ticketOf}
+use Rattle.hub.specs.Radios.{handOf}
 use Rattle.hub.specs.Record.{PARTIES, emptySeat, freeSlot, readSlot}
 use Rattle.hub.specs.Ring.{readSeat}
 use Rattle.hub.proofs.Laws.Phases.{by-ticket, every-place, ticketed}
@@ -59,6 +60,9 @@ sightOf h p seat waiter =
       seat = seat;
       waiter = waiter;
       figures = h .figures;
+      named = h .opening .named;
+      radio = handOf (h .pool) p;
+      stocked = leb 1 (h .pool .stored);
     }
 
 -- A sight with the kind that the code looked up.
@@ -71,6 +75,9 @@ of-kind k s =
       seat = s .seat;
       waiter = s .waiter;
       figures = s .figures;
+      named = s .named;
+      radio = s .radio;
+      stocked = s .stocked;
     }
 
 pub looked : (h : Hub) (p : ℕ) (seat : PlaceSlot) (q : ℕ) (waiter : PartySlot)
@@ -84,6 +91,9 @@ looked h p seat q waiter r = λ i.
       seat = place i;
       waiter = (stood ∙ ap (λ (a : PlaceSlot). byWaiter freeSlot (readSlot (h .slots)) (a .place)) place) i;
       figures = h .figures;
+      named = h .opening .named;
+      radio = handOf (h .pool) p;
+      stocked = leb 1 (h .pool .stored);
     }
   where
     place : seat ≡ byTicket emptySeat (readSeat (h .places)) (readSlot (h .slots) p .phase)

@@ -6,6 +6,7 @@ use mathlib.Core.List.{List}
 use native.Mathlib.Omega.{arith}
 use lib.ListN.{length, length-set}
 use lib.Seq.{set-getD, set-out}
+use Rattle.hub.specs.declared.answers.Answer.{Answer}
 use Rattle.hub.specs.declared.moves.Sight.{Sight}
 use Rattle.hub.specs.declared.record.Figures.{Figures}
 use Rattle.hub.specs.declared.record.Hub.{Hub}
@@ -14,13 +15,13 @@ use Rattle.hub.specs.declared.record.Phase.{Phase}
 use Rattle.hub.specs.declared.record.PlaceSlot.{PlaceSlot}
 use Rattle.hub.specs.Calls.{answerOf, apply, ringOf, tidied, withRing}
 use Rattle.hub.specs.Look.{look, seenBy}
-use Rattle.hub.specs.Moves.{Move, Refuse, Act, Put, Wake}
+use Rattle.hub.specs.Moves.{Move, Refuse, Tell, Act, Put, Wake}
 use Rattle.hub.specs.Phases.{byTicket, ticketOf}
 use Rattle.hub.specs.Record.{PARTIES, emptySeat, freeSlot, readSlot, writeSlot}
 use Rattle.hub.specs.Ring.{PLACES, readSeat, writeSeat}
 use Rattle.hub.proofs.Laws.Phases.{by-ticket, ticketed}
 use Rattle.table.specs.declared.effect.Effect.{Effect}
-use Rattle.table.specs.Effect.{effectOf}
+use Rattle.table.specs.Effect.{effectOf, still as unmoved}
 use Rattle.transition.specs.Tidied.{tidiedBy}
 use Rattle.transition.proofs.Laws.Loops.{reclaimed-none}
 
@@ -80,6 +81,7 @@ put-same l x =
 -- An effect gives the tidying at most 256 turns.
 turns-few : (m : Move) (s : Sight) → effectOf m s .turns ≤ 256
 turns-few (Refuse r) s = omega arith
+turns-few (Tell y) s = omega arith
 turns-few (Act c) s = omega arith
 turns-few (Put a c) s = omega arith
 turns-few (Wake q x a c) s = omega arith
@@ -89,13 +91,22 @@ few-turns m s e is = omega (arith, ap (λ (e : Effect). e .turns) is, turns-few 
 
 pub told : (m : Move) (s : Sight) → effectOf m s .answer ≡ answerOf m
 told (Refuse r) s = refl
+told (Tell y) s = refl
 told (Act c) s = refl
 told (Put a c) s = refl
 told (Wake q x a c) s = refl
 
--- The record after the stores.
+-- The record after the stores, but for the radios.
 abbrev pub made : Hub → Figures → List PlaceSlot → List PartySlot → Hub
-made h f a l = record { opening = h .opening; figures = f; oldest = h .oldest; places = a; slots = l }
+made h f a l =
+    record {
+      opening = h .opening;
+      figures = f;
+      oldest = h .oldest;
+      places = a;
+      slots = l;
+      pool = h .pool;
+    }
 
 abbrev pub stored : Hub → ℕ → Effect → Hub
 stored h p e =
@@ -115,14 +126,20 @@ module _ (h : Hub) (p : ℕ) (size : length (h .slots) ≡ PARTIES) where
   no-waker x s =
       ap (λ (l : List PartySlot). writeSlot l p s) (sym (nobody (h .slots) PARTIES x (omega arith)))
 
+  -- A move that changes nothing.
+  unchanged : (y : Answer) → tidiedBy 0 (stored h p (unmoved y (look h p))) ≡ h
+  unfolding seenBy
+  unchanged y =
+      tidied-none _
+      ∙ ap₂ (made h (h .figures)) (put-same (h .places) (readSlot (h .slots) p .phase))
+      (no-waker _ _ ∙ same-slot (h .slots) p)
+
   pub applied : (m : Move)
       → let e = effectOf m (look h p) in
       tidiedBy (e .turns) (stored h p e) ≡ apply h (look h p) m
   unfolding seenBy apply
-  applied (Refuse r) =
-      tidied-none _
-      ∙ ap₂ (made h (h .figures)) (put-same (h .places) (readSlot (h .slots) p .phase))
-      (no-waker _ _ ∙ same-slot (h .slots) p)
+  applied (Refuse r) = unchanged (Answer.Refused r)
+  applied (Tell y) = unchanged y
   applied (Act c) =
       tidied-all _
       ∙ ap tidied

@@ -70,6 +70,18 @@ enum-known-phase-5 c = search needs
 step-resuming-at-requires : tie.Need-step-resuming-at-requires
 step-resuming-at-requires c κs = search needs
 
+enum-told-5 : tie.Need-enum-told-5
+enum-told-5 c = search needs
+
+step-fetching-requires : tie.Need-step-fetching-requires
+step-fetching-requires c κs = search needs
+
+enum-told-6 : tie.Need-enum-told-6
+enum-told-6 c = search needs
+
+step-storing-requires : tie.Need-step-storing-requires
+step-storing-requires c κs = search needs
+
 refused-requires : tie.Need-refused-requires
 refused-requires c κs = search needs
 
@@ -119,12 +131,22 @@ returns-9 c =
     in-phase (b .before .before .before .args .s) (b .phase5 .given .1) (c .step-resuming-at .ensures)
 
 returns-10 : tie.Need-returns-10
-unfolding stepIn
 returns-10 c =
+    let b = c .before in
+    in-phase (b .before .before .before .args .s) (b .enum-told5 .given .1) (c .step-fetching .ensures)
+
+returns-11 : tie.Need-returns-11
+returns-11 c =
+    let b = c .before in
+    in-phase (b .before .before .before .args .s) (b .enum-told6 .given .1) (c .step-storing .ensures)
+
+returns-12 : tie.Need-returns-12
+unfolding stepIn
+returns-12 c =
     let s = c .before .before .before .args .s in
     c .refused .ensures
     ∙ ap (λ (m : Move). effectOf m s)
-    (phase-arm (0 ∷ 1 ∷ 2 ∷ []) (λ f. stepIn f s) (s .slot .phase) refl (c .before .match .keys10))
+    (phase-arm (0 ∷ 1 ∷ 2 ∷ []) (λ f. stepIn f s) (s .slot .phase) refl (c .before .match .keys12))
 
 pub decide-step-spec : {M : Type 1} → statement M
 decide-step-spec =
@@ -148,6 +170,10 @@ decide-step-spec =
     step-resuming-requires
     enum-known-phase-5
     step-resuming-at-requires
+    enum-told-5
+    step-fetching-requires
+    enum-told-6
+    step-storing-requires
     refused-requires
     returns
     returns-2
@@ -158,4 +184,6 @@ decide-step-spec =
     returns-7
     returns-8
     returns-9
-    returns-10)
+    returns-10
+    returns-11
+    returns-12)

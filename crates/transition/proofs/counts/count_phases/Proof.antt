@@ -11,32 +11,24 @@ use Rattle.hub.specs.Phases.{isOneOf, rank}
 use Rattle.hub.specs.Record.{freeSlot, phasesOf}
 use Rattle.hub.proofs.Laws.Lists.{weight-map}
 use Rattle.transition.proofs.Laws.Counting.{Counting, bit-most, counting-on, counting-all}
-use mathlib.Core.Path.{_≡_, sym, ap, ap₂, _∙_}
-use mathlib.Core.List.{List, [], _∷_}
-use native.Mathlib.Omega.{arith}
-use Prim.Native.Nat.{ℕ, _-_}
-use Rattle.hub.specs.declared.record.PartySlot.{PartySlot}
-use Rattle.hub.specs.declared.record.Phase.{Phase}
-use Rattle.hub.specs.Basics.{among, bit, weight}
-use Rattle.hub.specs.Phases.{isOneOf, rank}
-use Rattle.hub.specs.Record.{freeSlot, phasesOf}
-use Rattle.hub.proofs.Laws.Lists.{weight-map}
-use Rattle.transition.proofs.Laws.Counting.{Counting, bit-most, counting-on, counting-all}
 use Rattle.transition.proofs.counts.count_phases.Statement.{statement}
 use Rattle.transition.proofs.counts.count_phases.Tie as tie
 
 abbrev Inv-loop : tie.InvT-loop
-Inv-loop slots first second n₀ p₀ n p =
-    Counting (λ (s : PartySlot). among (first ∷ second ∷ []) (rank (s .phase))) slots 32 p n
+Inv-loop slots first second third n₀ p₀ n p =
+    Counting (λ (s : PartySlot). among (first ∷ second ∷ third ∷ []) (rank (s .phase))) slots 32 p n
 
 abbrev μ-loop : tie.MeasureT-loop
-μ-loop slots first second n₀ p₀ n p = 32 - p
+μ-loop slots first second third n₀ p₀ n p = 32 - p
 
 phase-rank-requires : tie.Need-phase-rank-requires Inv-loop μ-loop
 phase-rank-requires c κs = search needs
 
 phase-rank-requires-2 : tie.Need-phase-rank-requires-2 Inv-loop μ-loop
 phase-rank-requires-2 c κs = search needs
+
+phase-rank-requires-3 : tie.Need-phase-rank-requires-3 Inv-loop μ-loop
+phase-rank-requires-3 c κs = search needs
 
 loop-holds : tie.Need-loop-holds Inv-loop μ-loop
 loop-holds c =
@@ -48,8 +40,8 @@ mul-slot c = search needs
 array-copy-out-slot : tie.Need-array-copy-out-slot Inv-loop μ-loop
 array-copy-out-slot c = search needs
 
-phase-rank-requires-3 : tie.Need-phase-rank-requires-3 Inv-loop μ-loop
-phase-rank-requires-3 c κs = search needs
+phase-rank-requires-4 : tie.Need-phase-rank-requires-4 Inv-loop μ-loop
+phase-rank-requires-4 c κs = search needs
 
 one-if-requires : tie.Need-one-if-requires Inv-loop μ-loop
 one-if-requires c κs = search needs
@@ -57,14 +49,17 @@ one-if-requires c κs = search needs
 add-n : tie.Need-add-n Inv-loop μ-loop
 add-n c =
     let l = c .before .before .before .before in
-    let f = l .before .before .phase-rank .result in
-    let s = l .before .phase-rank2 .result in
+    let keys =
+    l .before .before .before .phase-rank .result
+    ∷ l .before .before .phase-rank2 .result
+    ∷ l .before .phase-rank3 .result
+    ∷ [] in
     omega (
       arith,
       c .one-if .ensures,
       l .loop .inv .few,
       l .loop .inv .within,
-      bit-most (among (f ∷ s ∷ []) (c .before .phase-rank3 .result)),
+      bit-most (among keys (c .before .phase-rank4 .result)),
     )
 
 add-p : tie.Need-add-p Inv-loop μ-loop
@@ -76,24 +71,29 @@ loop-less c = search needs
 loop-again : tie.Need-loop-again Inv-loop μ-loop
 loop-again c =
     let l = c .before .before .before .before in
-    let f = l .before .before .phase-rank .result in
-    let s = l .before .phase-rank2 .result in
+    let keys =
+    l .before .before .before .phase-rank .result
+    ∷ l .before .before .phase-rank2 .result
+    ∷ l .before .phase-rank3 .result
+    ∷ [] in
     counting-on _ _ _ _ _ (l .loop .inv) freeSlot _ (c .before .before .before .loop-test .taken)
     (c .one-if .ensures
-    ∙ ap (λ (x : ℕ). bit (among (f ∷ s ∷ []) x)) (c .before .phase-rank3 .ensures))
+    ∙ ap (λ (x : ℕ). bit (among keys x)) (c .before .phase-rank4 .ensures))
 
 returns : tie.Need-returns Inv-loop μ-loop
 unfolding isOneOf
 returns c =
     let i = c .before .loop .inv in
     let b = c .before .before in
-    let a = b .before .before .args in
-    let among-two : ℕ → ℕ → Phase → ℕ = λ x y f. bit (among (x ∷ y ∷ []) (rank f)) in (
+    let a = b .before .before .before .args in
+    let passing : ℕ → ℕ → ℕ → Phase → ℕ = λ x y z f. bit (among (x ∷ y ∷ z ∷ []) (rank f)) in
+    let third = b .phase-rank3 .result in (
       counting-all _ _ _ _ _ i (c .loop-test .left)
-          ∙ sym (weight-map (among-two (b .before .phase-rank .result) (b .phase-rank2 .result))
+          ∙ sym (weight-map (passing (b .before .before .phase-rank .result) (b .before .phase-rank2 .result) third)
           (λ (s : PartySlot). s .phase) (a .t1))
-          ∙ ap₂ (λ (x y : ℕ). weight (among-two x y) (phasesOf (a .t1)))
-          (b .before .phase-rank .ensures) (b .phase-rank2 .ensures),
+          ∙ ap₂ (λ (x y : ℕ). weight (passing x y third) (phasesOf (a .t1)))
+          (b .before .before .phase-rank .ensures) (b .before .phase-rank2 .ensures)
+          ∙ ap (λ (z : ℕ). weight (passing (rank (a .a)) (rank (a .b)) z) (phasesOf (a .t1))) (b .phase-rank3 .ensures),
       omega (arith, i .few, i .within),
     )
 
@@ -105,10 +105,11 @@ count-phases-spec =
     μ-loop
     phase-rank-requires
     phase-rank-requires-2
+    phase-rank-requires-3
     loop-holds
     mul-slot
     array-copy-out-slot
-    phase-rank-requires-3
+    phase-rank-requires-4
     one-if-requires
     add-n
     add-p

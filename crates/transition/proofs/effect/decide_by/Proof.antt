@@ -29,6 +29,12 @@ enum-told-4 c = search needs
 decide-release-requires : tie.Need-decide-release-requires
 decide-release-requires c κs = search needs
 
+enum-told-5 : tie.Need-enum-told-5
+enum-told-5 c = search needs
+
+decide-radio-requires : tie.Need-decide-radio-requires
+decide-radio-requires c κs = search needs
+
 returns : tie.Need-returns
 unfolding table.decide
 returns c =
@@ -52,6 +58,12 @@ returns-4 c =
     let a = c .before .before .before .args in
     by-op 3 _ (a .s) (a .op) (c .before .before .match .keys4) (c .decide-release .ensures)
 
+returns-5 : tie.Need-returns-5
+unfolding table.decide
+returns-5 c =
+    let a = c .before .before .before .args in
+    by-op 4 _ (a .s) (a .op) (c .before .before .match .keys5) (c .decide-radio .ensures)
+
 pub decide-by-spec : {M : Type 1} → statement M
 decide-by-spec =
     tie.close
@@ -64,7 +76,10 @@ decide-by-spec =
     decide-cancel-requires
     enum-told-4
     decide-release-requires
+    enum-told-5
+    decide-radio-requires
     returns
     returns-2
     returns-3
-    returns-4)
+    returns-4
+    returns-5)

@@ -1,0 +1,84 @@
+-- The radios of a record that fits: no more of them are stored than the store has room for. And a
+-- refusal moves none.
+use Prim.Native.Nat.{ℕ, zero, suc, _+_, _≤_}
+use mathlib.Core.Path.{_≡_, refl, sym, ap, _∙_}
+use mathlib.Core.Bool.{Bool, true, false, _&&_}
+use mathlib.Core.List.{List}
+use native.Mathlib.Omega.{arith}
+use borrow.Author.Tests.{eqb-true}
+use lib.Dec.{eqb}
+use lib.ListN.{length, length-append, length-take, replicate, take}
+use Rattle.hub.specs.declared.answers.Answer.{Answer}
+use Rattle.hub.specs.declared.answers.Refusal.{Refusal}
+use Rattle.hub.specs.declared.opening.Opening.{Opening}
+use Rattle.hub.specs.declared.record.Hub.{Hub}
+use Rattle.hub.specs.declared.record.Pool.{Pool}
+use Rattle.hub.specs.Answers.{Printed, printed}
+use Rattle.hub.specs.Basics.{allFrom, implies}
+use Rattle.hub.specs.Fits.{figuresFit, fits, partyFits, placeFits, radiosFit}
+use Rattle.hub.specs.Opening.{radiosDiffer}
+use Rattle.hub.specs.Radios.{STORE, moved, poolAfter, radiosIn, radiosOf, rearranged, ringFrom, whole}
+use Rattle.hub.specs.Record.{PARTIES}
+use Rattle.hub.specs.Ring.{PLACES}
+use Rattle.hub.proofs.Laws.Bools.{first, second}
+
+-- On a hub with radios the code moves one by the answer; on another the pool stays.
+module _ (named : Bool) (y : Printed) (p : ℕ) (q : Pool) where
+  pub with-radios : (x : Pool) → named ≡ true → x ≡ moved y p q → x ≡ poolAfter named y p q
+  unfolding poolAfter
+  with-radios x n e = rw n e
+
+  pub without-radios : named ≡ false → q ≡ poolAfter named y p q
+  unfolding poolAfter
+  without-radios n = rw n
+
+-- No refusal moves a radio.
+pub refused-pool : (named : Bool) (r : Refusal) (p : ℕ) (q : Pool)
+    → poolAfter named (printed (Answer.Refused r)) p q ≡ q
+unfolding poolAfter moved
+refused-pool false r p q = refl
+refused-pool true Refusal.Unfit p q = refl
+refused-pool true Refusal.BadPermits p q = refl
+refused-pool true Refusal.BadParties p q = refl
+refused-pool true Refusal.NoSuchParty p q = refl
+refused-pool true Refusal.NotFree p q = refl
+refused-pool true Refusal.Exhausted p q = refl
+refused-pool true Refusal.Full p q = refl
+refused-pool true Refusal.AtRest p q = refl
+refused-pool true Refusal.NotWaiting p q = refl
+refused-pool true Refusal.NotCancellable p q = refl
+refused-pool true Refusal.NotHolding p q = refl
+refused-pool true Refusal.SameRadios p q = refl
+
+ring-size : (l : List ℕ) (i n : ℕ) → length (ringFrom l i n) ≡ n
+unfolding ringFrom
+ring-size l i zero = refl
+ring-size l i (suc n) = ap suc (ring-size l (suc i) n)
+
+few-radios : (o : Opening) → length (radiosOf o) ≤ STORE
+unfolding radiosOf whole
+few-radios o = simp length-take (omega arith)
+
+stored-within : (h : Hub) → h .pool .stored ≤ length (radiosIn (h .slots) (h .places) (h .pool))
+unfolding radiosIn
+stored-within h =
+    simp length-append (omega (arith, ring-size (h .pool .store) (h .pool .first) (h .pool .stored)))
+
+-- On a hub with radios whose record fits.
+pub few-stored : (h : Hub) → fits h ≡ true → h .opening .named ≡ true → h .pool .stored ≤ STORE
+unfolding fits radiosFit rearranged
+few-stored h e n =
+    let parties = allFrom (partyFits h) 0 PARTIES in
+    let places = allFrom (placeFits h) (h .oldest) PLACES in
+    let f = figuresFit (h .opening) (h .figures) (h .oldest) in
+    let r = second (radiosDiffer (h .opening)) _ (second (f && parties && places) (radiosFit h) e) in
+    let same = rearranged (radiosIn (h .slots) (h .places) (h .pool)) (radiosOf (h .opening)) in
+    let s : same ≡ true = sym (ap (λ (b : Bool). implies b same) n) ∙ r in
+    let l = length (radiosIn (h .slots) (h .places) (h .pool)) in
+    let m = length (radiosOf (h .opening)) in
+    omega (
+      arith,
+      stored-within h,
+      few-radios (h .opening),
+      eqb-true l m (first (eqb l m) _ s),
+    )
