@@ -1,5 +1,5 @@
--- What every call keeps of the radios. A refusal, 37 and 39 move none, the tidying makes and takes no permit, and
--- every other answer moves one as its row says.
+-- What every call keeps of the radios: a refusal, 37 and 39 move none, the tidying makes and takes no permit,
+-- and every other answer moves one as its row says, or none.
 use Prim.Native.Nat.{ℕ, zero, suc, _+_, _%_, _≤_}
 use mathlib.Core.Path.{_≡_, refl, sym, ap, subst, _∙_}
 use mathlib.Core.Bool.{Bool, true, false, cond}
@@ -10,23 +10,19 @@ use lib.ListN.{length, set, replicate, length-append, length-map, length-replica
 use lib.Seq.{length-take-le, map-set-same}
 use Rattle.hub.specs.Moves.{Move, Refuse, Tell, Act, Put, Wake}
 use Rattle.hub.specs.declared.moves.Call.{Call}
-use Rattle.hub.specs.declared.moves.Sight.{Sight}
 use Rattle.hub.specs.declared.opening.Opening.{Opening}
 use Rattle.hub.specs.declared.record.Hub.{Hub}
 use Rattle.hub.specs.declared.record.PartySlot.{PartySlot}
 use Rattle.hub.specs.declared.record.Phase.{Phase}
 use Rattle.hub.specs.declared.record.Place.{Place}
 use Rattle.hub.specs.declared.record.PlaceSlot.{PlaceSlot}
-use Rattle.hub.specs.declared.record.Pool.{Pool}
-use Rattle.hub.specs.Answers.{Printed, printed}
-use Rattle.hub.specs.Basics.{among, bit, count, weight}
-use Rattle.hub.specs.Calls.{answerOf, apply, called, checked, moveOf, placed, ringOf, tidied, withPool}
-use Rattle.hub.specs.Fits.{fits}
+use Rattle.hub.specs.Answers.{printed}
+use Rattle.hub.specs.Basics.{bit, count, weight}
+use Rattle.hub.specs.Calls.{answerOf, apply, called, checked, moveOf, placed, ringOf, tidied}
 use Rattle.hub.specs.Look.{look, seenBy}
 use Rattle.hub.specs.Opening.{fresh}
-use Rattle.hub.specs.Phases.{byTicket, hasRadio, isOneOf, isPermit, isPlaceOf, ticketOf}
-use Rattle.hub.specs.Radios.{STORE, fetch, handOf, handTo, laidAt, layAt, moved, occurs, poolAfter}
-use Rattle.hub.specs.Radios.{putBack, radiosIn, radiosOf, shown, storedIn, whole}
+use Rattle.hub.specs.Phases.{byTicket, hasRadio, isOneOf, isPermit, isPlaceOf}
+use Rattle.hub.specs.Radios.{STORE, moved, occurs, poolAfter, radiosIn, radiosOf, shown, storedIn, whole}
 use Rattle.hub.specs.Record.{PARTIES, emptySeat, freeSlot, phasesOf, placesOf, writeSlot}
 use Rattle.hub.specs.Ring.{PLACES, Ring, canRetire, canSkip, readPlace, readSeat, retire, retired}
 use Rattle.hub.specs.Ring.{skip, skipped, writeSeat}
@@ -129,18 +125,17 @@ tidied-slots : (h : Hub) → tidied h .slots ≡ h .slots
 unfolding tidied
 tidied-slots h = refl
 
+-- What a move leaves.
 map-set : {A B : Type 0} (f : A → B) (l : List A) (i : ℕ) (x : A) → map f (set l i x) ≡ set (map f l) i (f x)
 map-set f [] i x = refl
 map-set f (y ∷ l) zero x = refl
 map-set {B = B} f (y ∷ l) (suc i) x = ap (λ (r : List B). f y ∷ r) (map-set f l i x)
 
-placed-permits : (h : Hub) (f : Phase) (a : PlaceSlot)
+placed-permits : (h : Hub) (a : PlaceSlot) (f : Phase)
     → permitsAt (placed h f a .places)
     ≡ byTicket (permitsAt (h .places)) (λ t. set (permitsAt (h .places)) (t % PLACES) (isPermit (a .place))) f
 unfolding writeSeat
-placed-permits h f a =
-    phases-alike (λ f. permitsAt (placed h f a .places)) (λ f. byTicket (permitsAt (h .places)) (λ t. set (permitsAt (h .places)) (t % PLACES) (isPermit (a .place))) f)
-    (λ t. simp map-set) f
+placed-permits h a = phases-alike _ _ (λ t. simp map-set)
 
 module _ (h : Hub) (c : Call) (named : h .opening .named ≡ true) (k : Kept h) where
   abbrev p : ℕ
@@ -154,13 +149,7 @@ module _ (h : Hub) (c : Call) (named : h .opening .named ≡ true) (k : Kept h) 
         hands = k .hands;
         laid = k .laid;
         store = k .store;
-        few =
-            omega (
-              arith,
-              radios-count (h .slots) (h .places) (h .pool) (omega arith) (omega arith),
-              k .few,
-              k .counted,
-            );
+        few = omega (arith, radios-count (h .slots) (h .places) (h .pool) (omega arith) (omega arith));
       }
 
   -- The check before the call refuses, and moves nothing.

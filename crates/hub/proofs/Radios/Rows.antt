@@ -4,15 +4,13 @@ use Prim.Native.Nat.{ℕ, _%_, _≤_, _<_}
 use mathlib.Core.Path.{_≡_, refl, sym, ap, subst, _∙_}
 use mathlib.Core.Bool.{Bool, true, false}
 use mathlib.Core.List.{List}
-use native.Mathlib.Decide.{decLe}
 use native.Mathlib.Omega.{arith}
 use borrow.Author.Tests.{leb-true}
-use lib.Dec.{leb, eqb}
-use lib.ListN.{length, getD, set, length-map, List·getD-map, List·getD-eq-default}
+use lib.Dec.{leb}
+use lib.ListN.{length, getD, set, length-map, List·getD-map}
 use lib.Seq.{set-getD}
 use Rattle.hub.specs.declared.answers.Answer.{Answer}
-use Rattle.hub.specs.Moves.{Move}
-use Rattle.hub.specs.Moves.{Refuse, Tell, Act, Put, Wake}
+use Rattle.hub.specs.Moves.{Move, Refuse, Tell, Act, Put, Wake}
 use Rattle.hub.specs.declared.moves.Op.{Op}
 use Rattle.hub.specs.declared.record.Hub.{Hub}
 use Rattle.hub.specs.declared.record.PartySlot.{PartySlot}
@@ -33,12 +31,13 @@ use Rattle.hub.specs.Phases.{isPlaceOf, isWaiting, ticketOf}
 use Rattle.hub.specs.Radios.{moved}
 use Rattle.hub.specs.Record.{PARTIES, emptySeat, freeSlot, readSlot}
 use Rattle.hub.specs.Ring.{PLACES, readPlace, readSeat}
-use Rattle.hub.specs.Table.{acquire, cancel, decide, release, stepIn, tellRadio, withPermit, withoutPermit}
+use Rattle.hub.specs.Table.{acquire, cancel, decide, release, stepIn, tellRadio}
 use Rattle.hub.specs.Table.{stepAcquiring, stepSuspending, stepTicketed, stepReleasing}
 use Rattle.hub.specs.Table.{stepResuming, resumeWaiter, stepResumingAt, stepAborting}
 use Rattle.hub.specs.Table.{stepCancelling, stepRefusing, stepFetching, stepStoring}
+use Rattle.hub.specs.Table.{withPermit, withoutPermit}
 use Rattle.hub.proofs.Laws.Phases.{one-of}
-use Rattle.hub.proofs.Radios.Ways.{Same, Sized, carriers, permitsAt, unmoved}
+use Rattle.hub.proofs.Radios.Ways.{Same, Sized, carriers, permitsAt, unmoved, within}
 use Rattle.hub.proofs.Radios.Ways.{fetched, stored, left, passed, found, dropped}
 
 module _ (h : Hub) (p : ℕ) (named : h .opening .named ≡ true)
@@ -55,10 +54,11 @@ module _ (h : Hub) (p : ℕ) (named : h .opening .named ≡ true)
   abbrev After : List Bool → List Bool → Pool → Type 0
   After = Same bs cs (h .pool)
 
-  -- Of the slot's phase, of the place's state after, only this counts.
+  -- Where a permit is when the place of the ticket of f is a.
   abbrev marked : Phase → PlaceSlot → List Bool
   marked f a = byTicket cs (λ t. set cs (t % PLACES) (isPermit (a .place))) f
 
+  -- What a move of the party, in phase f, has to show.
   abbrev pub Goes : Phase → Move → Type 0
   Goes f (Refuse r) = After bs cs (moved (printed (Answer.Refused r)) p (h .pool))
   Goes f (Tell y) = After bs cs (moved (printed y) p (h .pool))
@@ -70,13 +70,11 @@ module _ (h : Hub) (p : ℕ) (named : h .opening .named ≡ true)
       After (set (set bs q (hasRadio (x .phase))) p (hasRadio (c .slot .phase))) (marked f a)
       (moved (printed (c .answer)) p (h .pool))
 
+  -- What the slot of a party says of its radio; what a place says of a permit.
   radio-of : (w : ℕ) {f : Phase} → readSlot (h .slots) w .phase ≡ f → getD bs w false ≡ hasRadio f
   unfolding isOneOf readSlot
   radio-of w e =
       List·getD-map (λ (x : PartySlot). hasRadio (x .phase)) (h .slots) w freeSlot ∙ ap hasRadio e
-
-  mine : {f : Phase} → phase ≡ f → getD bs p false ≡ hasRadio f
-  mine = radio-of p
 
   there : (t : ℕ) {a : Place} → readPlace (h .places) t ≡ a → getD cs (t % PLACES) false ≡ isPermit a
   unfolding isPlaceOf readSeat
@@ -87,54 +85,52 @@ module _ (h : Hub) (p : ℕ) (named : h .opening .named ≡ true)
   -- Only a party with a slot is not free.
   party-in : (w : ℕ) {f : Phase} → readSlot (h .slots) w .phase ≡ f → isFree f ≡ false → w < PARTIES
   unfolding isOneOf readSlot
-  party-in w e i = go (decLe (length (h .slots)) w)
-    where
-      go : Dec (length (h .slots) ≤ w) → w < PARTIES
-      go (yes j) =
-          let d = List·getD-eq-default (h .slots) freeSlot j in
-          let z : _≡_ {A = ℕ} 0 1 = cc in omega arith
-      go (no j) = omega (arith, length-map (h .slots) (λ (x : PartySlot). hasRadio (x .phase)))
+  party-in w e i =
+      let j = within (h .slots) w freeSlot (λ z. (let y : _≡_ {A = ℕ} 0 1 = cc in omega arith)) in
+      omega (arith, length-map (h .slots) (λ (x : PartySlot). hasRadio (x .phase)))
 
   -- The party has a radio as before; the place has a permit as before.
   party-still : {b : Bool} {cs′ : List Bool} {q : Pool} → getD bs p false ≡ b
       → After bs cs′ q → After (set bs p b) cs′ q
-  party-still {cs′ = cs′} {q = q} e = subst (λ (l : List Bool). After l cs′ q) (sym (set-getD bs p false) ∙ ap (set bs p) e)
+  party-still {cs′ = cs′} {q = q} e =
+      subst (λ (l : List Bool). After l cs′ q) (sym (set-getD bs p false) ∙ ap (set bs p) e)
 
   place-still : (t : ℕ) {c : Bool} {bs′ : List Bool} {q : Pool} → getD cs (t % PLACES) false ≡ c
       → After bs′ cs q → After bs′ (set cs (t % PLACES) c) q
   place-still t {bs′ = bs′} {q = q} e =
-      subst (λ (l : List Bool). After bs′ l q) (sym (set-getD cs (t % PLACES) false) ∙ ap (set cs (t % PLACES)) e)
+      subst (λ (l : List Bool). After bs′ l q)
+      (sym (set-getD cs (t % PLACES) false) ∙ ap (set cs (t % PLACES)) e)
 
   asked : (z : Bool) → phase ≡ Acquiring → Goes Acquiring (stepAcquiring z (look h p))
   unfolding stepAcquiring isOneOf moved seenBy
   asked true e =
-      party-still (mine e ∙ sym (ap (λ n. hasRadio (withPermit n)) named)) unmoved
-  asked false e = party-still (mine e) unmoved
+      party-still (radio-of p e ∙ sym (ap (λ n. hasRadio (withPermit n)) named)) unmoved
+  asked false e = party-still (radio-of p e) unmoved
 
   giving-back : (z : Bool) → phase ≡ Releasing → Goes Releasing (stepReleasing z (look h p))
   unfolding stepReleasing isOneOf moved seenBy
-  giving-back true e = party-still (mine e) unmoved
+  giving-back true e = party-still (radio-of p e) unmoved
   giving-back false e =
-      party-still (mine e ∙ sym (ap (λ n. hasRadio (withoutPermit n)) named)) unmoved
+      party-still (radio-of p e ∙ sym (ap (λ n. hasRadio (withoutPermit n)) named)) unmoved
 
   giving-up : (t : ℕ) (z : Bool) → phase ≡ Aborting t → Goes (Aborting t) (stepAborting t z (look h p))
   unfolding stepAborting isOneOf moved seenBy
-  giving-up t true e = party-still (mine e) unmoved
-  giving-up t false e = party-still (mine e) unmoved
+  giving-up t true e = party-still (radio-of p e) unmoved
+  giving-up t false e = party-still (radio-of p e) unmoved
 
   fetching : (z : Bool) → leb 1 (h .pool .stored) ≡ z → phase ≡ Fetching
       → Goes Fetching (stepFetching z (look h p))
   unfolding stepFetching isOneOf moved seenBy
   fetching true i e =
-      fetched bs cs (h .pool) s p (mine e) (party-in p e refl) (leb-true 1 (h .pool .stored) i)
+      fetched bs cs (h .pool) s p (radio-of p e) (party-in p e refl) (leb-true 1 (h .pool .stored) i)
   fetching false i e = unmoved
 
   numbered : (t : ℕ) (a : Place) → readPlace (h .places) t ≡ a → phase ≡ Ticketed t
       → Goes (Ticketed t) (stepTicketed t a (look h p))
   unfolding stepTicketed isOneOf isPlaceOf moved seenBy
-  numbered t Empty i e = party-still (mine e) (place-still t (there t i) unmoved)
+  numbered t Empty i e = party-still (radio-of p e) (place-still t (there t i) unmoved)
   numbered t Permit i e =
-      found bs cs (h .pool) s t (there t i) p (mine e) (party-in p e refl)
+      found bs cs (h .pool) s t (there t i) p (radio-of p e) (party-in p e refl)
   numbered t (WaitedBy q) i e = unmoved
   numbered t Cancelled i e = unmoved
   numbered t Refused i e = unmoved
@@ -144,9 +140,9 @@ module _ (h : Hub) (p : ℕ) (named : h .opening .named ≡ true)
       → Goes (Cancelling t) (stepCancelling t a (look h p))
   unfolding stepCancelling isOneOf isPlaceOf moved seenBy
   cancelling t (WaitedBy q) i e =
-      party-still (mine e) (place-still t (there t i) unmoved)
+      party-still (radio-of p e) (place-still t (there t i) unmoved)
   cancelling t Permit i e =
-      found bs cs (h .pool) s t (there t i) p (mine e) (party-in p e refl)
+      found bs cs (h .pool) s t (there t i) p (radio-of p e) (party-in p e refl)
   cancelling t Empty i e = unmoved
   cancelling t Cancelled i e = unmoved
   cancelling t Refused i e = unmoved
@@ -156,8 +152,8 @@ module _ (h : Hub) (p : ℕ) (named : h .opening .named ≡ true)
       → Goes (Refusing t) (stepRefusing t a (look h p))
   unfolding stepRefusing isOneOf isPlaceOf moved seenBy
   refusing t (WaitedBy q) i e =
-      party-still (mine e) (place-still t (there t i) unmoved)
-  refusing t Permit i e = party-still (mine e) (dropped bs cs (h .pool) s t (there t i))
+      party-still (radio-of p e) (place-still t (there t i) unmoved)
+  refusing t Permit i e = party-still (radio-of p e) (dropped bs cs (h .pool) s t (there t i))
   refusing t Empty i e = unmoved
   refusing t Cancelled i e = unmoved
   refusing t Refused i e = unmoved
@@ -171,19 +167,19 @@ module _ (h : Hub) (p : ℕ) (named : h .opening .named ≡ true)
   handing-to t q true i w e =
       let x = one-of (Waiting 0) (readSlot (h .slots) q .phase) w in
       place-still t (there t i)
-      (passed bs cs (h .pool) s p (mine e) q (radio-of q x) (party-in q x refl))
-  handing-to t q false i w e = left bs cs (h .pool) s p (mine e) t (there t i)
+      (passed bs cs (h .pool) s p (radio-of p e) q (radio-of q x) (party-in q x refl))
+  handing-to t q false i w e = left bs cs (h .pool) s p (radio-of p e) t (there t i)
 
   handing : (t : ℕ) (a : Place) → readPlace (h .places) t ≡ a → look h p .seat .place ≡ a
       → phase ≡ ResumingAt t → Goes (ResumingAt t) (stepResumingAt t a (look h p))
   unfolding stepResumingAt isOneOf isPlaceOf moved seenBy
-  handing t Empty i j e = left bs cs (h .pool) s p (mine e) t (there t i)
+  handing t Empty i j e = left bs cs (h .pool) s p (radio-of p e) t (there t i)
   handing t (WaitedBy q) i j e =
       handing-to t q _ i
       (ap (λ (a : Place). isWaiting (byWaiter freeSlot (readSlot (h .slots)) a .phase)) (sym j)) e
-  handing t Cancelled i j e = party-still (mine e) (place-still t (there t i) unmoved)
+  handing t Cancelled i j e = party-still (radio-of p e) (place-still t (there t i) unmoved)
   handing t Refused i j e =
-      place-still t (there t i) (stored bs cs (h .pool) s p (mine e))
+      place-still t (there t i) (stored bs cs (h .pool) s p (radio-of p e))
   handing t Permit i j e = unmoved
   handing t Done i j e = unmoved
 
@@ -199,35 +195,35 @@ module _ (h : Hub) (p : ℕ) (named : h .opening .named ≡ true)
   step-goes Holding e = unmoved
   step-goes (Waiting t) e = unmoved
   step-goes Acquiring e = asked _ e
-  step-goes Suspending e = party-still (mine e) unmoved
+  step-goes Suspending e = party-still (radio-of p e) unmoved
   step-goes (Ticketed t) e = numbered t _ (seen e) e
   step-goes (Aborting t) e = giving-up t _ e
   step-goes (Cancelling t) e = cancelling t _ (seen e) e
   step-goes (Refusing t) e = refusing t _ (seen e) e
   step-goes Releasing e = giving-back _ e
-  step-goes Resuming e = party-still (mine e) unmoved
+  step-goes Resuming e = party-still (radio-of p e) unmoved
   step-goes (ResumingAt t) e = handing t _ (seen e) refl e
   step-goes Fetching e = fetching _ refl e
-  step-goes Storing e = stored bs cs (h .pool) s p (mine e)
+  step-goes Storing e = stored bs cs (h .pool) s p (radio-of p e)
 
   acquire-goes : (a b d : Bool) → isFree phase ≡ a → Goes phase (acquire a b d (look h p))
   unfolding acquire isOneOf moved seenBy
   acquire-goes false b d e = unmoved
   acquire-goes true true d e = unmoved
   acquire-goes true false true e = unmoved
-  acquire-goes true false false e = party-still (mine (one-of Free phase e)) unmoved
+  acquire-goes true false false e = party-still (radio-of p (one-of Free phase e)) unmoved
 
   cancel-goes : (a b : Bool) → isWaiting phase ≡ a
       → Goes phase (cancel a b (ticketOf phase) (look h p))
   unfolding cancel isOneOf moved seenBy
   cancel-goes false b e = unmoved
   cancel-goes true true e = unmoved
-  cancel-goes true false e = party-still (mine (one-of (Waiting 0) phase e)) unmoved
+  cancel-goes true false e = party-still (radio-of p (one-of (Waiting 0) phase e)) unmoved
 
   release-goes : (a : Bool) → isHolding phase ≡ a → Goes phase (release a (look h p))
   unfolding release isOneOf moved seenBy
   release-goes false e = unmoved
-  release-goes true e = party-still (mine (one-of Holding phase e)) unmoved
+  release-goes true e = party-still (radio-of p (one-of Holding phase e)) unmoved
 
   told : (a : Bool) → Goes phase (tellRadio a (look h p))
   unfolding tellRadio moved

@@ -1,6 +1,6 @@
--- The ways that a radio goes: what is taken from a party, a place or the store is with one other after, so that
--- all radios weigh as before, whatever each weighs. With 1 for each that is their count; with 1 for radio b alone,
--- how often b is among them.
+-- The ways that a radio goes: what is taken from a party, a place or the store is with one other after, so
+-- that all radios weigh as before, whatever each weighs. With 1 for each that is their count; with 1 for
+-- radio b alone, how often b is among them.
 use Prim.Native.Nat.{ℕ, zero, suc, _+_, _%_, _≤_, _<_}
 use mathlib.Core.Path.{_≡_, refl, ap, _∙_}
 use mathlib.Core.Bool.{Bool, true, false, cond}
@@ -9,7 +9,7 @@ use mathlib.Core.Logic.{_≢_}
 use native.Mathlib.Decide.{decLe}
 use native.Mathlib.Nat.{le-of-suc-le-suc, not-suc-le-zero}
 use native.Mathlib.Omega.{arith}
-use lib.ListN.{length, getD, set, length-map, length-set, List·getD-eq-default}
+use lib.ListN.{length, getD, set, length-set, List·getD-eq-default}
 use lib.Seq.{getD-set-other, set-getD}
 use Rattle.hub.specs.declared.record.PartySlot.{PartySlot}
 use Rattle.hub.specs.declared.record.PlaceSlot.{PlaceSlot}
@@ -136,41 +136,46 @@ pub record Same (bs cs : List Bool) (q : Pool) (bs′ cs′ : List Bool) (q′ :
 pub unmoved : {bs cs : List Bool} {q : Pool} → Same bs cs q bs cs q
 unmoved = record { sizes = refl; weigh = λ g. refl }
 
-inside : (bs : List Bool) (i : ℕ) → getD bs i false ≡ true → i < length bs
-inside bs i e = go (decLe (length bs) i)
+-- An element that is not what stands for one past the end is in the list.
+pub within : {A : Type 0} (l : List A) (i : ℕ) (d : A) → (getD l i d ≡ d → ⊥) → i < length l
+within l i d n = go (decLe (length l) i)
   where
-    go : Dec (length bs ≤ i) → i < length bs
-    go (yes h) =
-        let d = List·getD-eq-default bs false h in
-        let z : _≡_ {A = ℕ} 0 1 = cc in omega arith
+    go : Dec (length l ≤ i) → i < length l
+    go (yes h) = absurd (n (List·getD-eq-default l d h))
     go (no h) = omega arith
 
+inside : (bs : List Bool) (i : ℕ) → getD bs i false ≡ true → i < length bs
+inside bs i e = within bs i false (λ z. (let y : _≡_ {A = ℕ} 0 1 = cc in omega arith))
+
 module _ (bs cs : List Bool) (q : Pool) (s : Sized bs cs q) where
-  -- To the store's end, if there is room.
-  stored-more : (r : ℕ) (g : ℕ → ℕ) → q .stored < STORE
+  -- To the store's end: there is room, if one radio is elsewhere.
+  put-back : (r : ℕ) (g : ℕ → ℕ) → 1 ≤ sum one bs (q .hands) + sum one cs (q .laid)
       → weight g (storedIn (putBack r q)) ≡ weight g (storedIn q) + g r
   unfolding weight FirstInFirstOut
-  stored-more r g h =
-      omega (arith, ap (weight g) (first-in-first-out q (s .store) .0 r h), weight-append g (storedIn q) (r ∷ []))
+  put-back r g h =
+      let i = count-ring (q .store) (q .first) (q .stored) in
+      let e = first-in-first-out q (s .store) .0 r (omega arith) in
+      omega (arith, ap (weight g) e, weight-append g (storedIn q) (r ∷ []))
+
+  -- To party p.
+  given : (p : ℕ) → getD bs p false ≡ false → p < PARTIES → (r : ℕ) (g : ℕ → ℕ)
+      → sum g (set bs p true) (set (q .hands) p r) ≡ sum g bs (q .hands) + g r
+  given p e h r g =
+      omega (arith, sum-set g bs (q .hands) (omega arith) p (omega arith) false true e r)
 
   -- From the store to party p: 36.
   pub fetched : (p : ℕ) → getD bs p false ≡ false → p < PARTIES → 1 ≤ q .stored
       → Same bs cs q (set bs p true) cs (fetch p q)
   unfolding weight
   fetched p e h n =
+      let r = getD (q .store) (q .first % STORE) 0 in
       record {
         sizes = simp length-set;
-        weigh = λ g.
-            omega (
-              arith,
-              ap (weight g) (stored-first q p n),
-              sum-set g bs (q .hands) (omega arith) p (omega arith) false true e
-                  (getD (q .store) (q .first % STORE) 0),
-            );
+        weigh = λ g. omega (arith, ap (weight g) (stored-first q p n), given p e h r g);
       }
 
   module _ (p : ℕ) (e : getD bs p false ≡ true) where
-    -- From party p, wherever to.
+    -- From party p.
     gone : (g : ℕ → ℕ) → sum g (set bs p false) (q .hands) + g (handOf q p) ≡ sum g bs (q .hands)
     unfolding handOf
     gone g = omega (arith, sum-turn g bs (q .hands) (omega arith) p (inside bs p e) true false e)
@@ -180,23 +185,19 @@ module _ (bs cs : List Bool) (q : Pool) (s : Sized bs cs q) where
     stored =
         record {
           sizes = simp length-set;
-          weigh = λ g.
-              let i : q .stored < STORE = omega (arith, gone one, count-ring (q .store) (q .first) (q .stored)) in
-              omega (arith, gone g, stored-more (handOf q p) g i);
+          weigh = λ g. omega (arith, gone g, put-back (handOf q p) g (omega (arith, gone one)));
         }
 
     -- To the place of ticket t: 29, 2B.
     pub left : (t : ℕ) → getD cs (t % PLACES) false ≡ false
         → Same bs cs q (set bs p false) (set cs (t % PLACES) true) (layAt t (handOf q p) q)
     left t f =
+        let r = handOf q p in
         record {
           sizes = simp length-set;
           weigh = λ g.
-              omega (
-                arith,
-                gone g,
-                sum-set g cs (q .laid) (omega arith) (t % PLACES) (omega arith) false true f (handOf q p),
-              );
+              let i = sum-set g cs (q .laid) (omega arith) (t % PLACES) (omega arith) false true f r in
+              omega (arith, gone g);
         }
 
     -- To the waiter w: 2A.
@@ -204,6 +205,7 @@ module _ (bs cs : List Bool) (q : Pool) (s : Sized bs cs q) where
         → Same bs cs q (set (set bs w true) p false) cs (handTo w (handOf q p) q)
     unfolding handOf
     passed w f h =
+        let r = handOf q p in
         let o : p ≢ w = λ z. (let y : _≡_ {A = ℕ} 0 1 = cc in omega arith) in
         let i = getD-set-other bs w p true false o ∙ e in
         record {
@@ -211,16 +213,16 @@ module _ (bs cs : List Bool) (q : Pool) (s : Sized bs cs q) where
           weigh = λ g.
               omega (
                 arith,
-                sum-set g bs (q .hands) (omega arith) w (omega arith) false true f (handOf q p),
-                sum-turn g (set bs w true) (set (q .hands) w (handOf q p))
-                    (omega (arith, length-set bs w true, length-set (q .hands) w (handOf q p))) p
+                given w f h r g,
+                sum-turn g (set bs w true) (set (q .hands) w r)
+                    (omega (arith, length-set bs w true, length-set (q .hands) w r)) p
                     (inside (set bs w true) p i) true false i,
-                ap g (getD-set-other (q .hands) w p (handOf q p) 0 o),
+                ap g (getD-set-other (q .hands) w p r 0 o),
               );
         }
 
   module _ (t : ℕ) (e : getD cs (t % PLACES) false ≡ true) where
-    -- From the place of ticket t, wherever to.
+    -- From the place of ticket t.
     cleared : (g : ℕ → ℕ)
         → sum g (set cs (t % PLACES) false) (q .laid) + g (laidAt q t) ≡ sum g cs (q .laid)
     unfolding laidAt
@@ -233,12 +235,7 @@ module _ (bs cs : List Bool) (q : Pool) (s : Sized bs cs q) where
     found p f h =
         record {
           sizes = simp length-set;
-          weigh = λ g.
-              omega (
-                arith,
-                cleared g,
-                sum-set g bs (q .hands) (omega arith) p (omega arith) false true f (laidAt q t),
-              );
+          weigh = λ g. omega (arith, cleared g, given p f h (laidAt q t) g);
         }
 
     -- To the store: 33.
@@ -246,7 +243,5 @@ module _ (bs cs : List Bool) (q : Pool) (s : Sized bs cs q) where
     dropped =
         record {
           sizes = simp length-set;
-          weigh = λ g.
-              let i : q .stored < STORE = omega (arith, cleared one, count-ring (q .store) (q .first) (q .stored)) in
-              omega (arith, cleared g, stored-more (laidAt q t) g i);
+          weigh = λ g. omega (arith, cleared g, put-back (laidAt q t) g (omega (arith, cleared one)));
         }
