@@ -8,8 +8,9 @@ use native.Mathlib.Nat.{le-antisymm}
 use native.Mathlib.Omega.{arith}
 use borrow.Author.Tests.{eq-eqb, ne-eqb, eqb-false}
 use lib.Dec.{eqb}
-use lib.ListN.{length, getD, set, take, drop, replicate, length-set, take-append-drop}
-use lib.Seq.{take-append-le, take-all, take-suc, take-take, getD-set-same, getD-set-other}
+use lib.ListN.{length, getD, set, take, drop, replicate, length-append}
+use lib.ListN.{length-replicate, length-set, take-append-drop}
+use lib.Seq.{length-take-le, take-append-le, take-all, take-suc, take-take, getD-set-same, getD-set-other}
 use Rattle.hub.specs.declared.opening.Opening.{Opening}
 use Rattle.hub.specs.Basics.{among, bit}
 use Rattle.hub.specs.Radios.{STORE, differ, radiosOf, whole}
@@ -19,6 +20,12 @@ pub whole-same : (l : List ℕ) → length l ≡ STORE → whole l ≡ l
 unfolding whole
 whole-same l e =
     take-append-le STORE l (replicate STORE 0) (omega (arith, e)) ∙ take-all STORE l (omega (arith, e))
+
+pub whole-length : (l : List ℕ) → length (whole l) ≡ STORE
+unfolding whole
+whole-length l =
+    length-take-le STORE (l ++ replicate STORE 0)
+    (omega (arith, length-append l (replicate STORE 0), length-replicate {A = ℕ} STORE 0))
 
 pub radios-of : (o : Opening) → length (o .radios) ≡ STORE → radiosOf o ≡ take (o .permits) (o .radios)
 unfolding radiosOf

@@ -6,8 +6,8 @@ use mathlib.Core.Bool.{Bool, true, false, cond}
 use mathlib.Core.List.{List, [], _∷_, _++_, map}
 use native.Mathlib.Omega.{arith}
 use lib.Dec.{eqb, ltb}
-use lib.ListN.{length, set, replicate, length-append, length-map, length-replicate}
-use lib.Seq.{length-take-le, map-set-same}
+use lib.ListN.{length, set, replicate, length-map, length-replicate}
+use lib.Seq.{map-set-same}
 use Rattle.hub.specs.Moves.{Move, Refuse, Tell, Act, Put, Wake}
 use Rattle.hub.specs.declared.moves.Call.{Call}
 use Rattle.hub.specs.declared.opening.Opening.{Opening}
@@ -29,6 +29,7 @@ use Rattle.hub.specs.Ring.{skip, skipped, writeSeat}
 use Rattle.hub.proofs.Laws.Bools.{if-false, second}
 use Rattle.hub.proofs.Laws.Opening.{kept-opening}
 use Rattle.hub.proofs.Laws.Phases.{phases-alike, place-of}
+use Rattle.hub.proofs.Laws.Radios.{whole-length}
 use Rattle.hub.proofs.Radios.Store.{ring-take}
 use Rattle.hub.proofs.Radios.Ways.{Same, Sized, carriers, count-ring, one, permitsAt, radios-count}
 use Rattle.hub.proofs.Radios.Ways.{radios-weigh, unmoved}
@@ -195,12 +196,6 @@ none-shown f has x e (suc n) [] = refl
 none-shown f has x e (suc n) (r ∷ rs) = if-false (has (f x)) _ _ e ∙ none-shown f has x e n rs
 
 module _ (o : Opening) (few : o .permits ≤ STORE) where
-  whole-size : length (whole (o .radios)) ≡ STORE
-  unfolding whole
-  whole-size =
-      length-take-le STORE (o .radios ++ replicate STORE 0)
-      (omega (arith, length-append (o .radios) (replicate STORE 0), length-replicate {A = ℕ} STORE 0))
-
   stored-only : radiosIn (fresh o .slots) (fresh o .places) (fresh o .pool) ≡ storedIn (fresh o .pool)
   unfolding fresh radiosIn isOneOf isPlaceOf
   stored-only =
@@ -217,7 +212,7 @@ module _ (o : Opening) (few : o .permits ≤ STORE) where
         places = length-replicate PLACES emptySeat;
         hands = length-replicate {A = ℕ} PARTIES 0;
         laid = length-replicate {A = ℕ} PLACES 0;
-        store = whole-size;
+        store = whole-length (o .radios);
         few = few;
         counted =
             radios-count (fresh o .slots) (fresh o .places) (fresh o .pool) refl refl
@@ -226,5 +221,5 @@ module _ (o : Opening) (few : o .permits ≤ STORE) where
             ∙ count-ring (fresh o .pool .store) 0 (o .permits);
         same = λ b.
             ap (occurs b)
-            (stored-only ∙ ring-take (whole (o .radios)) 0 (o .permits) whole-size (omega arith));
+            (stored-only ∙ ring-take (whole (o .radios)) 0 (o .permits) (whole-length (o .radios)) (omega arith));
       }

@@ -1,14 +1,15 @@
 -- The radios of a record are as many as its opening's: the count of those that have one is K.
 use Prim.Native.Nat.{ℕ, _≤_}
 use mathlib.Core.Path.{_≡_, refl}
-use mathlib.Core.List.{List, [], _∷_, _++_}
+use mathlib.Core.List.{List, [], _∷_}
 use native.Mathlib.Omega.{arith}
-use lib.ListN.{length, replicate, length-append, length-replicate}
+use lib.ListN.{length}
 use lib.Seq.{length-take-le}
 use Rattle.hub.specs.declared.opening.Opening.{Opening}
 use Rattle.hub.specs.declared.record.Hub.{Hub}
 use Rattle.hub.specs.Basics.{weight}
 use Rattle.hub.specs.Radios.{STORE, radiosIn, radiosOf, whole}
+use Rattle.hub.proofs.Laws.Radios.{whole-length}
 use Rattle.hub.proofs.Radios.Ways.{one, radios-count, radios-weigh}
 use Rattle.hub.proofs.Radios.Kept.{Kept}
 
@@ -16,12 +17,6 @@ each-one : (l : List ℕ) → weight one l ≡ length l
 unfolding weight
 each-one [] = refl
 each-one (x ∷ l) = omega (arith, each-one l)
-
-pub whole-length : (l : List ℕ) → length (whole l) ≡ STORE
-unfolding whole
-whole-length l =
-    length-take-le STORE (l ++ replicate STORE 0)
-    (omega (arith, length-append l (replicate STORE 0), length-replicate {A = ℕ} STORE 0))
 
 pub radios-length : (o : Opening) → o .permits ≤ STORE → length (radiosOf o) ≡ o .permits
 unfolding radiosOf
