@@ -6,9 +6,11 @@
 //!
 //! Calls and counters carry the field's terms, the paper's word beside each
 //! where it differs: permit (link), acquire (ask), cancel (give up), release
-//! (give back), ticket (number of a wait), resume (hand-over). Phases and
-//! places keep the paper's names, save that a place with a link is `Permit`.
+//! (give back), ticket (number of a wait), resume (hand-over), pool (a hub
+//! with radios, opened by 02). Phases and places keep the paper's names, save
+//! that a place with a link is `Permit`.
 
+use std::collections::VecDeque;
 use std::env;
 use std::io::{self, BufRead, BufReader, BufWriter, ErrorKind, Write};
 use std::process::ExitCode;
@@ -19,6 +21,8 @@ mod tests;
 
 /// Most permits a hub may have (the paper's K).
 const MAX_PERMITS: u8 = 32;
+/// Most radios a hub may have: one for each permit.
+const MAX_RADIOS: usize = MAX_PERMITS as usize;
 /// Phases in the record, and so the most parties a hub may have.
 const PARTIES: usize = 32;
 /// Places in the ring.
@@ -29,6 +33,9 @@ const SPAN: u32 = PLACES as u32;
 const MAX_BEGUN: u32 = 1_000_000;
 /// How far the counter may lie from zero.
 const MAX_COUNTER: u32 = 32;
+
+/// A radio's name, a byte of the opening.
+type Radio = u8;
 
 /// The number of a wait. Place `ticket % PLACES` of the ring belongs to it.
 type Ticket = u32;
@@ -61,6 +68,24 @@ enum Phase {
     GivingBack,
     Carrying,
     Handing(Ticket),
+    /// On a hub with radios: it got a permit (21), its radio is still stored.
+    Fetching,
+    /// On a hub with radios: its permit is back (26), its radio is not yet.
+    PuttingBack,
+}
+
+impl Phase {
+    /// Whether a party in this phase has a radio, on a hub with radios.
+    const fn has_radio(self) -> bool {
+        matches!(
+            self,
+            Phase::Holding
+                | Phase::GivingBack
+                | Phase::PuttingBack
+                | Phase::Carrying
+                | Phase::Handing(_)
+        )
+    }
 }
 
 #[derive(Clone, Copy, Debug, PartialEq, Eq)]
@@ -90,6 +115,8 @@ enum Call {
     Cancel,
     /// Paper: give back.
     Release,
+    /// Paper: call 14. Which radio the party has.
+    Radio,
 }
 
 /// Each refusal is its number in the paper.
@@ -108,13 +135,15 @@ enum Refusal {
     NotHolding = 11,
     Malformed = 12,
     OutOfOrder = 13,
+    RadiosAlike = 14,
 }
 
 #[derive(Clone, Copy, Debug, PartialEq, Eq)]
 struct Answer {
     code: u8,
     woken: Option<u32>,
-    ticket: Option<Ticket>,
+    /// A ticket; of 39, a radio.
+    number: Option<u32>,
 }
 
 impl Answer {
@@ -122,7 +151,7 @@ impl Answer {
         Answer {
             code,
             woken: None,
-            ticket: None,
+            number: None,
         }
     }
 
@@ -130,7 +159,7 @@ impl Answer {
         Answer {
             code,
             woken: None,
-            ticket: Some(ticket),
+            number: Some(ticket),
         }
     }
 
@@ -138,9 +167,66 @@ impl Answer {
         Answer {
             code,
             woken: Some(woken),
-            ticket: Some(ticket),
+            number: Some(ticket),
         }
     }
+}
+
+/// The radios of a hub that was opened with them. Each is in one hand.
+#[derive(Clone, Debug, PartialEq, Eq)]
+struct Pool {
+    /// The opening's radios, of which the first K count.
+    opening: [Radio; MAX_RADIOS],
+    with_party: [Option<Radio>; PARTIES],
+    /// The radio of the permit that lies at each place of the ring.
+    at_place: [Option<Radio>; PLACES],
+    /// First in, first out: taken at the front, put back at the end.
+    store: VecDeque<Radio>,
+}
+
+/// Where a radio can be.
+#[derive(Clone, Copy)]
+enum Hand {
+    Party(usize),
+    /// The place of this ticket.
+    Place(Ticket),
+    Store,
+}
+
+impl Pool {
+    /// All radios stored, in the opening's order.
+    fn filled(radios: &[Radio]) -> Self {
+        let mut opening = [0; MAX_RADIOS];
+        opening[..radios.len()].copy_from_slice(radios);
+        Pool {
+            opening,
+            with_party: [None; PARTIES],
+            at_place: [None; PLACES],
+            store: radios.iter().copied().collect(),
+        }
+    }
+
+    /// Moves one radio; false if there is none to be moved.
+    fn pass(&mut self, from: Hand, to: Hand) -> bool {
+        let radio = match from {
+            Hand::Party(party) => self.with_party[party].take(),
+            Hand::Place(ticket) => self.at_place[ticket as usize % PLACES].take(),
+            Hand::Store => self.store.pop_front(),
+        };
+        let Some(radio) = radio else {
+            return false;
+        };
+        match to {
+            Hand::Party(party) => self.with_party[party] = Some(radio),
+            Hand::Place(ticket) => self.at_place[ticket as usize % PLACES] = Some(radio),
+            Hand::Store => self.store.push_back(radio),
+        }
+        true
+    }
+}
+
+fn any_alike(radios: &[Radio]) -> bool {
+    (1..radios.len()).any(|at| radios[..at].contains(&radios[at]))
 }
 
 #[derive(Clone, Debug, PartialEq, Eq)]
@@ -160,6 +246,8 @@ struct Hub {
     begun: u32,
     ring: [Place; PLACES],
     phases: [Phase; PARTIES],
+    /// On a hub with radios, where they are.
+    pool: Option<Pool>,
 }
 
 impl Hub {
@@ -180,10 +268,23 @@ impl Hub {
             begun: 0,
             ring: [Place::Empty; PLACES],
             phases: [Phase::Free; PARTIES],
+            pool: None,
         })
     }
 
-    /// One of the four calls. A refusal leaves the whole record alone.
+    /// The second opening (02), with as many radios as permits.
+    fn open_pool(permits: u8, parties: u8, radios: &[Radio]) -> Result<Hub, Refusal> {
+        let hub = Hub::open(permits, parties)?;
+        if any_alike(radios) {
+            return Err(Refusal::RadiosAlike);
+        }
+        Ok(Hub {
+            pool: Some(Pool::filled(radios)),
+            ..hub
+        })
+    }
+
+    /// One of the five calls. A refusal leaves the whole record alone.
     /// `check` says whether the record must be shown to fit first.
     fn call(&mut self, call: Call, party: u8, check: bool) -> Result<Answer, Refusal> {
         if check && !self.fits() {
@@ -198,8 +299,12 @@ impl Hub {
             Call::Step => self.step(party),
             Call::Cancel => self.cancel(party),
             Call::Release => self.release(party),
+            Call::Radio => Ok(self.radio(party)),
         }?;
-        self.tidy();
+        // Not yet (37) and which radio (39) change nothing.
+        if !matches!(answer.code, 0x37 | 0x39) {
+            self.tidy();
+        }
         Ok(answer)
     }
 
@@ -242,6 +347,22 @@ impl Hub {
         Ok(Answer::plain(0x20))
     }
 
+    /// Which radio a party has; none on a hub without radios.
+    fn radio(&self, party: usize) -> Answer {
+        let radio = self.pool.as_ref().and_then(|pool| pool.with_party[party]);
+        Answer {
+            code: 0x39,
+            woken: None,
+            number: radio.map(u32::from),
+        }
+    }
+
+    /// On a hub with radios, a permit that moves takes its radio along. False
+    /// if there was none to move.
+    fn pass_radio(&mut self, from: Hand, to: Hand) -> bool {
+        self.pool.as_mut().is_some_and(|pool| pool.pass(from, to))
+    }
+
     /// The step table. Counter tests look at the value before the change. A
     /// place in a state the table does not list means that the record never
     /// fitted; those arms answer so before anything is altered.
@@ -253,7 +374,11 @@ impl Hub {
                 let before = self.counter;
                 self.counter -= 1;
                 if before > 0 {
-                    (Phase::Holding, Answer::plain(0x21))
+                    let acquired = match self.pool {
+                        Some(_) => Phase::Fetching,
+                        None => Phase::Holding,
+                    };
+                    (acquired, Answer::plain(0x21))
                 } else {
                     (Phase::Unnumbered, Answer::plain(0x22))
                 }
@@ -270,6 +395,7 @@ impl Hub {
                 }
                 Place::Permit => {
                     self.set_place(t, Place::Done);
+                    self.pass_radio(Hand::Place(t), Hand::Party(party));
                     (Phase::Holding, Answer::of(0x25, t))
                 }
                 _ => return Err(Refusal::Misfit),
@@ -279,7 +405,11 @@ impl Hub {
                 let before = self.counter;
                 self.counter += 1;
                 if before >= 0 {
-                    (Phase::Free, Answer::plain(0x26))
+                    let released = match self.pool {
+                        Some(_) => Phase::PuttingBack,
+                        None => Phase::Free,
+                    };
+                    (released, Answer::plain(0x26))
                 } else {
                     (Phase::Carrying, Answer::plain(0x27))
                 }
@@ -292,17 +422,20 @@ impl Hub {
             Phase::Handing(t) => match self.place(t) {
                 Place::Empty => {
                     self.set_place(t, Place::Permit);
+                    self.pass_radio(Hand::Party(party), Hand::Place(t));
                     (Phase::Free, Answer::of(0x29, t))
                 }
                 Place::Waiting(waiter) => match self.phases.get_mut(waiter as usize) {
                     Some(phase @ Phase::Waiting(_)) => {
                         *phase = Phase::Holding;
                         self.set_place(t, Place::Done);
+                        self.pass_radio(Hand::Party(party), Hand::Party(waiter as usize));
                         (Phase::Free, Answer::waking(0x2A, t, waiter))
                     }
                     // The waiter is leaving and will find the permit.
                     _ => {
                         self.set_place(t, Place::Permit);
+                        self.pass_radio(Hand::Party(party), Hand::Place(t));
                         (Phase::Free, Answer::of(0x2B, t))
                     }
                 },
@@ -310,8 +443,10 @@ impl Hub {
                     self.set_place(t, Place::Done);
                     (Phase::Carrying, Answer::of(0x2C, t))
                 }
+                // The counter has this permit already; its radio is stored.
                 Place::Refused => {
                     self.set_place(t, Place::Done);
+                    self.pass_radio(Hand::Party(party), Hand::Store);
                     (Phase::Free, Answer::of(0x2D, t))
                 }
                 Place::Permit | Place::Done => return Err(Refusal::Misfit),
@@ -333,6 +468,7 @@ impl Hub {
                 }
                 Place::Permit => {
                     self.set_place(t, Place::Done);
+                    self.pass_radio(Hand::Place(t), Hand::Party(party));
                     (Phase::Carrying, Answer::of(0x31, t))
                 }
                 _ => return Err(Refusal::Misfit),
@@ -342,13 +478,30 @@ impl Hub {
                     self.set_place(t, Place::Refused);
                     (Phase::Free, Answer::of(0x32, t))
                 }
-                // Dropped here: the counter took this permit back at 2F.
+                // Dropped here: the counter took this permit back at 2F. Its
+                // radio is stored.
                 Place::Permit => {
                     self.set_place(t, Place::Done);
+                    self.pass_radio(Hand::Place(t), Hand::Store);
                     (Phase::Free, Answer::of(0x33, t))
                 }
                 _ => return Err(Refusal::Misfit),
             },
+
+            Phase::Fetching | Phase::PuttingBack if self.pool.is_none() => {
+                return Err(Refusal::Misfit)
+            }
+            Phase::Fetching => {
+                if self.pass_radio(Hand::Store, Hand::Party(party)) {
+                    (Phase::Holding, Answer::plain(0x36))
+                } else {
+                    (Phase::Fetching, Answer::plain(0x37))
+                }
+            }
+            Phase::PuttingBack => {
+                self.pass_radio(Hand::Party(party), Hand::Store);
+                (Phase::Free, Answer::plain(0x38))
+            }
         };
         self.phases[party] = phase;
         Ok(answer)
@@ -373,6 +526,7 @@ impl Hub {
         self.bounds_fit()
             && self.phases.iter().all(|&phase| self.phase_fits(phase))
             && (self.oldest..self.oldest + SPAN).all(|t| self.place_fits(t))
+            && self.radios_fit()
     }
 
     fn bounds_fit(&self) -> bool {
@@ -397,6 +551,7 @@ impl Hub {
     fn phase_fits(&self, phase: Phase) -> bool {
         match phase {
             Phase::Free | Phase::Holding | Phase::Asked | Phase::GivingBack => true,
+            Phase::Fetching | Phase::PuttingBack => self.pool.is_some(),
             Phase::Unnumbered => self.covers(self.next_ticket),
             Phase::Carrying => self.covers(self.next_resume),
             // Neither acts on its place: one rests, the other only counts.
@@ -432,6 +587,30 @@ impl Hub {
         }
     }
 
+    /// On a hub with radios the opening's are no two alike, and those with
+    /// the parties, at the places and in the store, together, are the same,
+    /// each once, in any order.
+    fn radios_fit(&self) -> bool {
+        let Some(pool) = &self.pool else {
+            return true;
+        };
+        let parties = (self.phases.iter().zip(pool.with_party))
+            .filter(|(phase, _)| phase.has_radio())
+            .map(|(_, radio)| radio);
+        let places = (self.ring.iter().zip(pool.at_place))
+            .filter(|&(&place, _)| place == Place::Permit)
+            .map(|(_, radio)| radio);
+        let stored = pool.store.iter().map(|&radio| Some(radio));
+        let hands: Option<Vec<Radio>> = parties.chain(places).chain(stored).collect();
+        let Some(mut hands) = hands else {
+            return false;
+        };
+        let mut opening = pool.opening[..usize::from(self.permits)].to_vec();
+        opening.sort_unstable();
+        hands.sort_unstable();
+        !any_alike(&opening) && hands == opening
+    }
+
     /// Whether the ring has a place for this ticket now.
     fn covers(&self, ticket: Ticket) -> bool {
         ticket >= self.oldest && ticket - self.oldest < SPAN
@@ -446,7 +625,9 @@ impl Hub {
     }
 
     fn holders(&self) -> u8 {
-        self.count_phases(|phase| matches!(phase, Phase::Holding | Phase::GivingBack))
+        self.count_phases(|phase| {
+            matches!(phase, Phase::Holding | Phase::GivingBack | Phase::Fetching)
+        })
     }
 
     fn waiters(&self) -> u8 {
@@ -462,17 +643,29 @@ impl Hub {
 }
 
 /// Longest line, in bytes before its line feed, that is looked into.
-const MAX_LINE: usize = 64;
+const MAX_LINE: usize = 160;
 /// Printed for a party that is not there.
 const NO_PARTY: u8 = 0xFF;
-/// Printed for a ticket that is not there.
-const NO_TICKET: Ticket = Ticket::MAX;
+/// Printed for a ticket or a radio that is not there.
+const NO_NUMBER: u32 = u32::MAX;
 /// Bytes read or written at a time.
 const BUFFER: usize = 64 * 1024;
 
 enum Frame {
-    Open { permits: u8, parties: u8 },
-    Call { call: Call, party: u8 },
+    Open {
+        permits: u8,
+        parties: u8,
+    },
+    /// Paper: opening 02.
+    OpenPool {
+        permits: u8,
+        parties: u8,
+        radios: Vec<Radio>,
+    },
+    Call {
+        call: Call,
+        party: u8,
+    },
 }
 
 fn parse(line: &[u8]) -> Option<Frame> {
@@ -481,6 +674,14 @@ fn parse(line: &[u8]) -> Option<Frame> {
     }
     match decode_hex(line)?[..] {
         [0x01, permits, parties] => Some(Frame::Open { permits, parties }),
+        // As many radios as it says, whether or not a hub may have so many.
+        [0x02, permits, parties, ref radios @ ..] if radios.len() == usize::from(permits) => {
+            Some(Frame::OpenPool {
+                permits,
+                parties,
+                radios: radios.to_vec(),
+            })
+        }
         [0x10, party] => Some(Frame::Call {
             call: Call::Acquire,
             party,
@@ -495,6 +696,10 @@ fn parse(line: &[u8]) -> Option<Frame> {
         }),
         [0x13, party] => Some(Frame::Call {
             call: Call::Release,
+            party,
+        }),
+        [0x14, party] => Some(Frame::Call {
+            call: Call::Radio,
             party,
         }),
         _ => None,
@@ -530,7 +735,17 @@ impl Program {
     fn answer(&mut self, line: &[u8]) -> (u8, Result<Answer, Refusal>) {
         match parse(line) {
             None => (NO_PARTY, Err(Refusal::Malformed)),
-            Some(Frame::Open { permits, parties }) => (NO_PARTY, self.open(permits, parties)),
+            Some(Frame::Open { permits, parties }) => {
+                (NO_PARTY, self.open(|| Hub::open(permits, parties)))
+            }
+            Some(Frame::OpenPool {
+                permits,
+                parties,
+                radios,
+            }) => {
+                let outcome = self.open(|| Hub::open_pool(permits, parties, &radios));
+                (NO_PARTY, outcome)
+            }
             Some(Frame::Call { call, party }) => {
                 let outcome = match &mut self.hub {
                     Some(hub) => hub.call(call, party, self.check),
@@ -541,11 +756,12 @@ impl Program {
         }
     }
 
-    fn open(&mut self, permits: u8, parties: u8) -> Result<Answer, Refusal> {
+    /// Either opening, if none was accepted yet.
+    fn open(&mut self, opening: impl FnOnce() -> Result<Hub, Refusal>) -> Result<Answer, Refusal> {
         if self.hub.is_some() {
             return Err(Refusal::OutOfOrder);
         }
-        self.hub = Some(Hub::open(permits, parties)?);
+        self.hub = Some(opening()?);
         Ok(Answer::plain(0x1F))
     }
 }
@@ -584,10 +800,10 @@ fn write_answer(
 ) -> io::Result<()> {
     let answer = outcome.unwrap_or_else(|refusal| Answer::plain(refusal as u8));
     let woken = answer.woken.unwrap_or(u32::from(NO_PARTY));
-    let ticket = answer.ticket.unwrap_or(NO_TICKET);
+    let number = answer.number.unwrap_or(NO_NUMBER);
     writeln!(
         output,
-        "{:02X}{party:02X}{woken:02X}{ticket:08X}",
+        "{:02X}{party:02X}{woken:02X}{number:08X}",
         answer.code
     )
 }

@@ -2,11 +2,19 @@
 //! answer and the record that the call left. So records that no opening
 //! reaches can be handed in too. tests/README.md lays the bytes out.
 
-use super::{Answer, Call, Hub, Phase, Place, Ticket, NO_PARTY, NO_TICKET, PARTIES, PLACES};
+use super::{Answer, Call, Hub, Phase, Place, Pool, Ticket};
+use super::{MAX_RADIOS, NO_NUMBER, NO_PARTY, PARTIES, PLACES};
 use std::io::{self, ErrorKind, Read, Write};
 
-/// Bytes of a record: K, n, five figures, then the places and the phases.
-pub const RECORD: usize = 2 + 5 * 4 + PLACES * 5 + PARTIES * 5;
+/// Bytes of a record but for its radios: K, n, five figures, the places and
+/// the phases.
+const LINKS: usize = 2 + 5 * 4 + PLACES * 5 + PARTIES * 5;
+/// Bytes of the radios: whether the hub has them, the opening's, one for each
+/// party, one for each place; how far the store is turned, how many it has,
+/// and room for the most.
+const RADIOS: usize = 1 + MAX_RADIOS + PARTIES + PLACES + 2 + MAX_RADIOS;
+/// Bytes of a record.
+pub const RECORD: usize = LINKS + RADIOS;
 /// Bytes of a case: a record, the call's code and its party.
 pub const CASE: usize = RECORD + 2;
 /// Bytes of a reply: an answer as on a line, and a record.
@@ -32,16 +40,17 @@ fn reply(case: &[u8; CASE]) -> Vec<u8> {
     let woken = answer.woken.map_or(NO_PARTY, |party| party as u8);
     let mut bytes = Vec::with_capacity(REPLY);
     bytes.extend([answer.code, call[1], woken]);
-    bytes.extend(answer.ticket.unwrap_or(NO_TICKET).to_be_bytes());
+    bytes.extend(answer.number.unwrap_or(NO_NUMBER).to_be_bytes());
     write_record(&hub, &mut bytes);
     bytes
 }
 
 fn read_call(byte: u8) -> Call {
-    match byte % 4 {
-        0 => Call::Acquire,
-        1 => Call::Step,
-        2 => Call::Cancel,
+    match byte % 5 {
+        0 => Call::Radio,
+        1 => Call::Acquire,
+        2 => Call::Step,
+        3 => Call::Cancel,
         _ => Call::Release,
     }
 }
@@ -53,7 +62,8 @@ fn number(bytes: &[u8], at: usize) -> u32 {
 
 fn read_record(bytes: &[u8]) -> Hub {
     let (figures, rest) = bytes.split_at(22);
-    let (places, phases) = rest.split_at(PLACES * 5);
+    let (places, rest) = rest.split_at(PLACES * 5);
+    let (phases, radios) = rest.split_at(PARTIES * 5);
     let mut hub = Hub {
         permits: figures[0],
         parties: figures[1],
@@ -64,6 +74,7 @@ fn read_record(bytes: &[u8]) -> Hub {
         oldest: number(figures, 18),
         ring: [Place::Empty; PLACES],
         phases: [Phase::Free; PARTIES],
+        pool: None,
     };
     for (place, bytes) in hub.ring.iter_mut().zip(places.chunks(5)) {
         *place = read_place(bytes[0], number(bytes, 1));
@@ -71,7 +82,41 @@ fn read_record(bytes: &[u8]) -> Hub {
     for (phase, bytes) in hub.phases.iter_mut().zip(phases.chunks(5)) {
         *phase = read_phase(bytes[0], number(bytes, 1));
     }
+    hub.pool = read_pool(&hub, radios);
     hub
+}
+
+/// The radio of a party that has none and of a place with no permit are passed
+/// over; so is how far the store is turned, for it is given from its front on.
+fn read_pool(hub: &Hub, bytes: &[u8]) -> Option<Pool> {
+    if bytes[0] % 2 == 0 {
+        return None;
+    }
+    let (opening, rest) = bytes[1..].split_at(MAX_RADIOS);
+    let (parties, rest) = rest.split_at(PARTIES);
+    let (places, store) = rest.split_at(PLACES);
+    let mut pool = Pool::filled(opening);
+    for party in 0..PARTIES {
+        pool.with_party[party] = hub.phases[party].has_radio().then_some(parties[party]);
+    }
+    for at in 0..PLACES {
+        pool.at_place[at] = (hub.ring[at] == Place::Permit).then_some(places[at]);
+    }
+    let count = usize::from(store[1]) % (MAX_RADIOS + 1);
+    pool.store = store[2..2 + count].iter().copied().collect();
+    Some(pool)
+}
+
+/// A radio that is not there is written as zero, and the store from its front
+/// on, turned by nothing.
+fn write_pool(pool: &Pool, bytes: &mut Vec<u8>) {
+    bytes.push(1);
+    bytes.extend(pool.opening);
+    bytes.extend(pool.with_party.map(Option::unwrap_or_default));
+    bytes.extend(pool.at_place.map(Option::unwrap_or_default));
+    bytes.extend([0, pool.store.len() as u8]);
+    bytes.extend(&pool.store);
+    bytes.extend(vec![0; MAX_RADIOS - pool.store.len()]);
 }
 
 fn write_record(hub: &Hub, bytes: &mut Vec<u8>) {
@@ -89,6 +134,10 @@ fn write_record(hub: &Hub, bytes: &mut Vec<u8>) {
     for (byte, number) in places.chain(phases) {
         bytes.push(byte);
         bytes.extend(number.to_be_bytes());
+    }
+    match &hub.pool {
+        Some(pool) => write_pool(pool, bytes),
+        None => bytes.extend([0; RADIOS]),
     }
 }
 
@@ -117,7 +166,7 @@ fn write_place(place: Place) -> (u8, u32) {
 
 /// The number counts for a phase that has one only.
 fn read_phase(byte: u8, t: Ticket) -> Phase {
-    match byte % 12 {
+    match byte % 14 {
         0 => Phase::Free,
         1 => Phase::Holding,
         2 => Phase::Waiting(t),
@@ -129,7 +178,9 @@ fn read_phase(byte: u8, t: Ticket) -> Phase {
         8 => Phase::Refusing(t),
         9 => Phase::GivingBack,
         10 => Phase::Carrying,
-        _ => Phase::Handing(t),
+        11 => Phase::Handing(t),
+        12 => Phase::Fetching,
+        _ => Phase::PuttingBack,
     }
 }
 
@@ -147,5 +198,7 @@ fn write_phase(phase: Phase) -> (u8, u32) {
         Phase::GivingBack => (9, 0),
         Phase::Carrying => (10, 0),
         Phase::Handing(t) => (11, t),
+        Phase::Fetching => (12, 0),
+        Phase::PuttingBack => (13, 0),
     }
 }

@@ -3,7 +3,13 @@
 
 use super::*;
 
-const CALLS: [Call; 4] = [Call::Acquire, Call::Step, Call::Cancel, Call::Release];
+const CALLS: [Call; 5] = [
+    Call::Acquire,
+    Call::Step,
+    Call::Cancel,
+    Call::Release,
+    Call::Radio,
+];
 
 /// Feeds the input through a reader of the given chunk size.
 fn run_chunked(input: &[u8], chunk: usize, check: bool) -> String {
@@ -16,7 +22,7 @@ fn run_chunked(input: &[u8], chunk: usize, check: bool) -> String {
 fn answers(input: impl AsRef<[u8]>) -> String {
     let input = input.as_ref();
     let output = run_chunked(input, BUFFER, true);
-    for chunk in [1, 2, 3, 7, 65] {
+    for chunk in [1, 2, 3, 7, 161] {
         assert_eq!(output, run_chunked(input, chunk, true));
     }
     assert_eq!(output, run_chunked(input, BUFFER, false));
@@ -88,6 +94,7 @@ mod paper {
                 ("1103", "0403FFFFFFFFFF"),
                 ("1203", "0403FFFFFFFFFF"),
                 ("1303", "0403FFFFFFFFFF"),
+                ("1403", "0403FFFFFFFFFF"),
                 ("10FF", "04FFFFFFFFFFFF"),
                 ("1102", "0802FFFFFFFFFF"),
                 ("1202", "0902FFFFFFFFFF"),
@@ -265,7 +272,7 @@ mod paper {
             let answer = Answer {
                 code,
                 woken,
-                ticket: Some(7),
+                number: Some(7),
             };
             assert_eq!(hub.call(Call::Step, 0, true), Ok(answer));
             assert_eq!(hub, expected);
@@ -283,10 +290,10 @@ mod frames {
 
     #[test]
     fn malformed_lines() {
-        let long = "0".repeat(65);
-        let full = "0".repeat(64);
+        let long = "0".repeat(161);
+        let full = "0".repeat(160);
         let longer = "1000".repeat(100_000);
-        let lines: [&[u8]; 31] = [
+        let lines: [&[u8]; 34] = [
             b"",
             b"1",
             b"100",
@@ -302,7 +309,10 @@ mod frames {
             b"130000",
             b"00",
             b"0000",
-            b"1400",
+            b"14",
+            b"140000",
+            b"1500",
+            b"02",
             b"0F00",
             b"7E00",
             b"FFFF",
@@ -339,7 +349,9 @@ mod frames {
                 let line = format!("{code:02X}{}\n", "01".repeat(length - 1));
                 let known = match code {
                     0x01 => length == 3,
-                    0x10..=0x13 => length == 2,
+                    // Its second byte says one radio.
+                    0x02 => length == 4,
+                    0x10..=0x14 => length == 2,
                     _ => false,
                 };
                 assert_eq!(last_answer(line) != MALFORMED, known);
@@ -393,6 +405,7 @@ mod frames {
                 ("1105", "0D05FFFFFFFFFF"),
                 ("12FE", "0DFEFFFFFFFFFF"),
                 ("1321", "0D21FFFFFFFFFF"),
+                ("1400", "0D00FFFFFFFFFF"),
                 ("010000", "02FFFFFFFFFFFF"),
                 ("1000", "0D00FFFFFFFFFF"),
                 ("010100", "03FFFFFFFFFFFF"),
@@ -776,6 +789,351 @@ mod fit {
     }
 }
 
+/// Radios by name (M-100).
+mod radios {
+    use super::*;
+
+    const ALIKE: &str = "0EFFFFFFFFFFFF";
+
+    #[test]
+    fn openings() {
+        let opened = "1FFFFFFFFFFFFF";
+        assert_run(&[("020101A7", opened)], "7E000000000001");
+        assert_run(&[("020220A7A6", opened)], "7E000000000002");
+        assert_run(&[("02010100", opened)], "7E000000000001");
+        let all: String = (0..32).map(|at| format!("{:02X}", 255 - at)).collect();
+        assert_run(&[(&format!("022020{all}"), opened)], "7E000000000020");
+        // Any two of them alike.
+        for first in 0..32 {
+            for second in first + 1..32 {
+                let mut radios: Vec<u8> = (100..132).collect();
+                radios[second] = radios[first];
+                assert_eq!(
+                    Hub::open_pool(32, 1, &radios).err(),
+                    Some(Refusal::RadiosAlike)
+                );
+            }
+        }
+    }
+
+    /// 12, 13, 2, 3, 14.
+    #[test]
+    fn refusals_of_an_opening_come_in_order() {
+        let of = |permits: u8, parties: u8, radios: usize| {
+            format!("02{permits:02X}{parties:02X}{}", "55".repeat(radios))
+        };
+        let wrong_lengths = [of(0, 0, 1), of(1, 0, 0), of(33, 0, 32), of(33, 0, 34)];
+        let long_lines = [of(78, 0, 78), of(255, 1, 255)];
+        for line in wrong_lengths.iter().chain(&long_lines) {
+            assert_run(&[(line, MALFORMED)], NOTHING_OPENED);
+        }
+        assert_run(&[("02", MALFORMED), ("0200", MALFORMED)], NOTHING_OPENED);
+        for line in [of(0, 1, 0), of(0, 0, 0), of(33, 0, 33), of(77, 1, 77)] {
+            assert_run(&[(&line, "02FFFFFFFFFFFF")], NOTHING_OPENED);
+        }
+        for line in [of(2, 0, 2), of(32, 33, 32), of(1, 255, 1)] {
+            assert_run(&[(&line, "03FFFFFFFFFFFF")], NOTHING_OPENED);
+        }
+        for line in [of(2, 1, 2), of(32, 32, 32)] {
+            assert_run(&[(&line, ALIKE)], NOTHING_OPENED);
+        }
+        for opening in ["010101", "02010155"] {
+            let mut pairs = vec![(opening, "1FFFFFFFFFFFFF")];
+            let lines = [of(0, 0, 0), of(2, 0, 2), of(2, 2, 2), of(1, 1, 1)];
+            pairs.extend(lines.iter().map(|line| (line.as_str(), "0DFFFFFFFFFFFF")));
+            assert_run(&pairs, "7E000000000001");
+        }
+    }
+
+    /// The first in is the first out, and every new answer.
+    #[test]
+    fn first_in_first_out() {
+        assert_run(
+            &[
+                ("020203A7A6", "1FFFFFFFFFFFFF"),
+                ("1000", "2000FFFFFFFFFF"),
+                ("1100", "2100FFFFFFFFFF"),
+                ("1400", "3900FFFFFFFFFF"),
+                ("1100", "3600FFFFFFFFFF"),
+                ("1400", "3900FF000000A7"),
+                ("1300", "2000FFFFFFFFFF"),
+                ("1400", "3900FF000000A7"),
+                ("1100", "2600FFFFFFFFFF"),
+                ("1400", "3900FF000000A7"),
+                ("1100", "3800FFFFFFFFFF"),
+                ("1400", "3900FFFFFFFFFF"),
+                ("1001", "2001FFFFFFFFFF"),
+                ("1101", "2101FFFFFFFFFF"),
+                ("1101", "3601FFFFFFFFFF"),
+                ("1401", "3901FF000000A6"),
+                ("1002", "2002FFFFFFFFFF"),
+                ("1102", "2102FFFFFFFFFF"),
+                ("1102", "3602FFFFFFFFFF"),
+                ("1402", "3902FF000000A7"),
+                ("1403", "0403FFFFFFFFFF"),
+            ],
+            "7E020000000000",
+        );
+    }
+
+    /// The counter has the permit again before the store has its radio.
+    #[test]
+    fn not_yet() {
+        assert_run(
+            &[
+                ("020102A7", "1FFFFFFFFFFFFF"),
+                ("1000", "2000FFFFFFFFFF"),
+                ("1100", "2100FFFFFFFFFF"),
+                ("1100", "3600FFFFFFFFFF"),
+                ("1300", "2000FFFFFFFFFF"),
+                ("1100", "2600FFFFFFFFFF"),
+                ("1001", "2001FFFFFFFFFF"),
+                ("1101", "2101FFFFFFFFFF"),
+                ("1101", "3701FFFFFFFFFF"),
+                ("1101", "3701FFFFFFFFFF"),
+                ("1301", "0B01FFFFFFFFFF"),
+                ("1001", "0501FFFFFFFFFF"),
+                ("1201", "0901FFFFFFFFFF"),
+                ("1000", "0500FFFFFFFFFF"),
+                ("1300", "0B00FFFFFFFFFF"),
+                ("1200", "0900FFFFFFFFFF"),
+            ],
+            "7E010000000000",
+        );
+    }
+
+    /// A pool in the middle of its life: 11 waits, 12 gives up, and all five
+    /// phases that have a radio, a place with one, and three stored.
+    fn sample() -> Hub {
+        use Phase::*;
+        let radios = [10, 11, 12, 13, 14, 15, 16, 17, 18];
+        let mut hub = Hub::open_pool(9, 10, &radios).unwrap();
+        hub.counter = 2;
+        hub.oldest = 500;
+        hub.next_ticket = 510;
+        hub.next_resume = 505;
+        let phases = [
+            Holding,
+            GivingBack,
+            PuttingBack,
+            Carrying,
+            Handing(500),
+            Fetching,
+            Waiting(507),
+            Refusing(508),
+            Numbered(509),
+            Free,
+        ];
+        hub.phases[..phases.len()].copy_from_slice(&phases);
+        hub.set_place(500, Place::Refused);
+        hub.set_place(507, Place::Waiting(6));
+        hub.set_place(508, Place::Permit);
+        let pool = hub.pool.as_mut().unwrap();
+        for (party, radio) in [14, 12, 10, 18, 16].iter().enumerate() {
+            pool.with_party[party] = Some(*radio);
+        }
+        pool.at_place[508 % PLACES] = Some(11);
+        pool.store = [17, 13, 15].into();
+        hub
+    }
+
+    fn pool(hub: &mut Hub) -> &mut Pool {
+        hub.pool.as_mut().unwrap()
+    }
+
+    fn assert_fits(what: &str, expected: bool, alter: impl FnOnce(&mut Hub)) {
+        let mut hub = sample();
+        alter(&mut hub);
+        assert_eq!(hub.fits(), expected, "{what}");
+        if !expected {
+            let before = hub.clone();
+            for call in CALLS {
+                for party in [0, 9, 10, 255] {
+                    assert_eq!(hub.call(call, party, true), Err(Refusal::Misfit), "{what}");
+                }
+            }
+            assert_eq!(hub, before, "{what}");
+        }
+    }
+
+    #[test]
+    fn radios_of_a_record_that_fits() {
+        assert_fits("sample", true, |_| {});
+        assert_fits("past K", true, |hub| pool(hub).opening[9] = 10);
+        assert_fits("two alike", false, |hub| pool(hub).opening[8] = 10);
+        assert_fits("alike, and so they are kept", false, |hub| {
+            pool(hub).opening[8] = 17;
+            pool(hub).with_party[3] = Some(17);
+        });
+        assert_fits("another order", true, |hub| {
+            pool(hub).opening[..9].reverse()
+        });
+        assert_fits("one more of K", false, |hub| hub.permits = 10);
+        assert_fits("one less of K", false, |hub| hub.permits = 8);
+        assert_fits("turned", true, |hub| pool(hub).store.rotate_left(1));
+        assert_fits("changed hands", true, |hub| {
+            pool(hub).with_party.swap(0, 4);
+        });
+        for party in 0..5 {
+            assert_fits("foreign", false, |hub| {
+                pool(hub).with_party[party] = Some(9)
+            });
+            assert_fits("twice", false, |hub| pool(hub).with_party[party] = Some(17));
+            assert_fits("lost", false, |hub| hub.phases[party] = Phase::Asked);
+        }
+        for radio in [9, 10, 17] {
+            assert_fits("place", false, |hub| {
+                pool(hub).at_place[508 % PLACES] = Some(radio)
+            });
+            assert_fits("more", false, |hub| pool(hub).store.push_back(radio));
+            assert_fits("stored", radio == 17, |hub| pool(hub).store[0] = radio);
+        }
+        assert_fits("fewer", false, |hub| pool(hub).store.truncate(2));
+        assert_fits("a place more", false, |hub| {
+            hub.set_place(755, Place::Permit);
+            pool(hub).at_place[755 % PLACES] = Some(10);
+        });
+        assert_fits("a place less", false, |hub| {
+            hub.set_place(508, Place::Done);
+            hub.phases[7] = Phase::Free;
+        });
+        assert_fits("no radios", false, |hub| hub.pool = None);
+        for busy in [2, 5] {
+            assert_fits("no radios", false, |hub| {
+                hub.pool = None;
+                hub.phases[7 - busy] = Phase::Free;
+            });
+        }
+        assert_fits("no radios, and nobody needs one", true, |hub| {
+            hub.pool = None;
+            hub.phases[2] = Phase::Free;
+            hub.phases[5] = Phase::Free;
+        });
+        // Nothing is asked of how many fetch, or of the counter.
+        assert_fits("all fetch", true, |hub| {
+            hub.phases[9] = Phase::Fetching;
+            hub.phases[8] = Phase::Fetching;
+            hub.counter = -32;
+        });
+    }
+
+    /// Each row that moves a radio, on the sample: where it was and is then.
+    #[test]
+    fn steps() {
+        let step = |party: u8, alter: &dyn Fn(&mut Hub)| {
+            let mut hub = sample();
+            alter(&mut hub);
+            assert!(hub.fits());
+            let answer = hub.call(Call::Step, party, true).unwrap();
+            assert!(hub.fits());
+            (answer.code, hub)
+        };
+        let (code, mut hub) = step(2, &|_| {});
+        assert_eq!((code, hub.phases[2]), (0x38, Phase::Free));
+        assert_eq!(pool(&mut hub).store, [17, 13, 15, 10]);
+        let (code, mut hub) = step(5, &|_| {});
+        assert_eq!((code, hub.phases[5]), (0x36, Phase::Holding));
+        assert_eq!(pool(&mut hub).store, [13, 15]);
+        assert_eq!(pool(&mut hub).with_party[5], Some(17));
+        let (code, mut hub) = step(4, &|_| {});
+        assert_eq!((code, hub.phases[4]), (0x2D, Phase::Free));
+        assert_eq!(pool(&mut hub).store, [17, 13, 15, 16]);
+        let (code, mut hub) = step(7, &|_| {});
+        assert_eq!((code, hub.phases[7]), (0x33, Phase::Free));
+        assert_eq!(pool(&mut hub).store, [17, 13, 15, 11]);
+        let (code, mut hub) = step(7, &|hub| hub.phases[7] = Phase::Cancelling(508));
+        assert_eq!((code, hub.phases[7]), (0x31, Phase::Carrying));
+        assert_eq!(pool(&mut hub).with_party[7], Some(11));
+        let (code, mut hub) = step(7, &|hub| hub.phases[7] = Phase::Numbered(508));
+        assert_eq!((code, hub.phases[7]), (0x25, Phase::Holding));
+        assert_eq!(pool(&mut hub).with_party[7], Some(11));
+        let (code, mut hub) = step(4, &|hub| hub.set_place(500, Place::Empty));
+        assert_eq!((code, hub.place(500)), (0x29, Place::Permit));
+        assert_eq!(pool(&mut hub).at_place[500 % PLACES], Some(16));
+        let waits = |phase| {
+            move |hub: &mut Hub| {
+                hub.phases[6] = phase;
+                hub.set_place(500, Place::Waiting(6));
+                hub.set_place(507, Place::Empty);
+            }
+        };
+        let (code, mut hub) = step(4, &waits(Phase::Waiting(500)));
+        assert_eq!((code, hub.phases[6]), (0x2A, Phase::Holding));
+        assert_eq!(pool(&mut hub).with_party[6], Some(16));
+        assert_eq!(pool(&mut hub).with_party[4], None);
+        let (code, mut hub) = step(4, &waits(Phase::GivingUp(500)));
+        assert_eq!((code, hub.place(500)), (0x2B, Place::Permit));
+        assert_eq!(pool(&mut hub).at_place[500 % PLACES], Some(16));
+        let (code, mut hub) = step(1, &|_| {});
+        assert_eq!((code, hub.phases[1]), (0x26, Phase::PuttingBack));
+        assert_eq!(pool(&mut hub).with_party[1], Some(12));
+        let (code, hub) = step(9, &|hub| hub.phases[9] = Phase::Asked);
+        assert_eq!((code, hub.phases[9]), (0x21, Phase::Fetching));
+    }
+
+    /// 37 and 39 change nothing in an untidy record, and refused ones neither.
+    #[test]
+    fn no_tidying() {
+        let mut hub = sample();
+        hub.set_place(505, Place::Cancelled);
+        hub.set_place(500, Place::Done);
+        hub.phases[4] = Phase::Holding;
+        let before = hub.clone();
+        let numbers = [
+            Some(14),
+            Some(12),
+            Some(10),
+            Some(18),
+            Some(16),
+            None,
+            None,
+            None,
+            None,
+            None,
+        ];
+        for (party, number) in (0..).zip(numbers) {
+            let answer = Answer {
+                number,
+                ..Answer::plain(0x39)
+            };
+            assert_eq!(hub.call(Call::Radio, party, true), Ok(answer));
+        }
+        assert_eq!(hub.call(Call::Radio, 10, true), Err(Refusal::NoSuchParty));
+        assert_eq!(hub, before);
+        // Nobody has the three that were stored.
+        hub.permits = 6;
+        pool(&mut hub).opening = Pool::filled(&[14, 12, 10, 18, 16, 11]).opening;
+        pool(&mut hub).store.clear();
+        let before = hub.clone();
+        assert_eq!(hub.call(Call::Step, 5, true), Ok(Answer::plain(0x37)));
+        assert_eq!(hub, before);
+        assert_eq!(hub.call(Call::Step, 2, true), Ok(Answer::plain(0x38)));
+        assert_eq!((hub.oldest, hub.next_resume), (501, 506));
+        assert_eq!(hub.call(Call::Step, 5, true), Ok(Answer::plain(0x36)));
+    }
+
+    /// Without radios nothing is as on a hub with them.
+    #[test]
+    fn hub_without_radios() {
+        assert_run(
+            &[
+                ("1400", "0D00FFFFFFFFFF"),
+                ("010102", "1FFFFFFFFFFFFF"),
+                ("1000", "2000FFFFFFFFFF"),
+                ("1100", "2100FFFFFFFFFF"),
+                ("1400", "3900FFFFFFFFFF"),
+                ("1402", "0402FFFFFFFFFF"),
+                ("1100", "0800FFFFFFFFFF"),
+                ("1300", "2000FFFFFFFFFF"),
+                ("1100", "2600FFFFFFFFFF"),
+                ("1100", "0800FFFFFFFFFF"),
+                ("1401", "3901FFFFFFFFFF"),
+            ],
+            "7E000000000001",
+        );
+    }
+}
+
 mod record_mode {
     use super::*;
     use records::{CASE, RECORD, REPLY};
@@ -806,6 +1164,13 @@ mod record_mode {
 
     const PLACE: usize = 22;
     const PHASE: usize = PLACE + 256 * 5;
+    const FLAG: usize = 1462;
+    const OPENING: usize = 1463;
+    const WITH: usize = 1495;
+    const AT: usize = 1527;
+    const TURNED: usize = 1783;
+    const COUNT: usize = 1784;
+    const STORE: usize = 1785;
 
     fn set(record: &mut [u8], at: usize, byte: u8, number: u32) {
         record[at] = byte;
@@ -814,7 +1179,7 @@ mod record_mode {
 
     #[test]
     fn sizes() {
-        assert_eq!((RECORD, CASE, REPLY), (1462, 1464, 1469));
+        assert_eq!((RECORD, CASE, REPLY), (1817, 1819, 1824));
     }
 
     /// The run, each record handed back in; the last one by hand.
@@ -889,15 +1254,115 @@ mod record_mode {
             set(&mut record, PLACE + 5 * place, state, party);
         }
         for party in 0..32 {
-            let phase = (party % 12) as u8;
+            let phase = (party % 14) as u8;
             let numbered = matches!(phase, 2 | 5..=8 | 11);
             let t = if numbered { 0xA1B2_C3D4 } else { 0 };
             set(&mut record, PHASE + 5 * party, phase, t);
         }
-        for (code, party) in [(0x10, 0), (0x11, 31), (0x12, 32), (0x13, 255)] {
-            let (answer, left) = reply(&record, code, party);
-            assert_eq!(answer, format!("01{party:02X}FFFFFFFFFF"));
-            assert_eq!(left, record);
+        let calls = [(0x10, 0), (0x11, 31), (0x12, 32), (0x13, 255), (0x14, 0)];
+        let mut with_radios = record.clone();
+        with_radios[FLAG] = 1;
+        for (at, byte) in with_radios[OPENING..TURNED].iter_mut().enumerate() {
+            *byte = 1 + (at % 255) as u8;
+        }
+        for party in 0..32 {
+            if !matches!(party % 14, 1 | 9..=11 | 13) {
+                with_radios[WITH + party] = 0;
+            }
+        }
+        for place in (0..256).filter(|place| place % 6 != 2) {
+            with_radios[AT + place] = 0;
+        }
+        with_radios[COUNT] = 31;
+        for (byte, value) in with_radios[STORE..RECORD - 1].iter_mut().zip(0x41..) {
+            *byte = value;
+        }
+        for record in [record, with_radios] {
+            for (code, party) in calls {
+                let (answer, left) = reply(&record, code, party);
+                assert_eq!(answer, format!("01{party:02X}FFFFFFFFFF"));
+                assert_eq!(left, record);
+            }
+        }
+    }
+
+    /// What counts for nothing is written as zero: all of the radios on a hub
+    /// without them, one with a party that has none and at a place with no
+    /// permit, those past the store's count, and how far the store is turned.
+    #[test]
+    fn radios_that_count_for_nothing() {
+        for flag in 0..=255u8 {
+            let mut record = opened(0, 0);
+            record[FLAG] = flag;
+            record[OPENING..].fill(0x77);
+            record[COUNT] = 33 + 2;
+            let mut expected = opened(0, 0);
+            if flag % 2 == 1 {
+                expected[FLAG] = 1;
+                expected[OPENING..WITH].fill(0x77);
+                expected[COUNT] = 2;
+                expected[STORE..STORE + 2].fill(0x77);
+            }
+            assert_eq!(reply(&record, 0x14, 0).1, expected);
+        }
+        for byte in 0..=255u8 {
+            let mut record = with_radios(&[1, 2, 3], 3);
+            record[COUNT] = byte;
+            let stored = usize::from(byte % 33);
+            let expected = if stored == 3 { 0x39 } else { 1 };
+            let output = replies(&[&record[..], &[0x14, 0]].concat());
+            assert_eq!(output[0], expected);
+            assert_eq!(output[7 + COUNT], byte % 33);
+        }
+    }
+
+    /// A record just opened with radios.
+    fn with_radios(radios: &[u8], parties: u8) -> Vec<u8> {
+        let mut record = opened(radios.len() as u8, parties);
+        record[FLAG] = 1;
+        record[COUNT] = radios.len() as u8;
+        for at in [OPENING, STORE] {
+            record[at..at + radios.len()].copy_from_slice(radios);
+        }
+        record
+    }
+
+    /// However the store is said to be turned, it is given from its front on.
+    #[test]
+    fn a_radio_taken_and_put_back() {
+        for turned in [0, 1, 31, 32, 255] {
+            let mut record = with_radios(&[0xA7, 0, 0x31], 4);
+            record[TURNED] = turned;
+            let run = [
+                (0x10, "2003FFFFFFFFFF"),
+                (0x11, "2103FFFFFFFFFF"),
+                (0x11, "3603FFFFFFFFFF"),
+                (0x14, "3903FF000000A7"),
+            ];
+            for (code, expected) in run {
+                let (answer, next) = reply(&record, code, 3);
+                assert_eq!(answer, expected);
+                record = next;
+                record[TURNED] = turned;
+            }
+            let mut expected = with_radios(&[0xA7, 0, 0x31], 4);
+            expected[5] = 2;
+            expected[17] = 1;
+            set(&mut expected, PHASE + 5 * 3, 1, 0);
+            expected[WITH + 3] = 0xA7;
+            expected[COUNT] = 2;
+            expected[STORE..STORE + 3].copy_from_slice(&[0, 0x31, 0]);
+            expected[TURNED] = turned;
+            assert_eq!(record, expected);
+            for (code, expected) in [(0x13, 0x20), (0x11, 0x26), (0x11, 0x38)] {
+                let (answer, next) = reply(&record, code, 3);
+                assert_eq!(answer, format!("{expected:02X}03FFFFFFFFFF"));
+                record = next;
+            }
+            let mut expected = with_radios(&[0xA7, 0, 0x31], 4);
+            expected[17] = 1;
+            expected[STORE..STORE + 3].copy_from_slice(&[0, 0x31, 0xA7]);
+            assert_eq!(record, expected);
         }
     }
 
@@ -910,7 +1375,7 @@ mod record_mode {
             set(&mut record, PLACE, byte, 7);
             set(&mut record, PHASE, byte, 7);
             let mut expected = opened(0, 0);
-            let (state, phase) = (byte % 6, byte % 12);
+            let (state, phase) = (byte % 6, byte % 14);
             set(&mut expected, PLACE, state, if state == 1 { 7 } else { 0 });
             let t = if matches!(phase, 2 | 5..=8 | 11) {
                 7
@@ -922,7 +1387,7 @@ mod record_mode {
             assert_eq!(answer, "0109FFFFFFFFFF");
             assert_eq!(left, expected);
             // On a fresh record each call is known by its answer.
-            let expected = ["20", "08", "09", "0B"][usize::from(byte % 4)];
+            let expected = ["39", "20", "08", "09", "0B"][usize::from(byte % 5)];
             assert_eq!(reply(&opened(1, 1), byte, 0).0[..2], *expected);
         }
     }
@@ -963,8 +1428,65 @@ impl Random {
     }
 }
 
+/// Where each radio is, from calls and answers alone.
+#[derive(Clone, Debug, PartialEq)]
+struct Whereabouts {
+    stored: Vec<Radio>,
+    with: [Option<Radio>; PARTIES],
+    /// The radios of the permits that lie at a place, with its ticket.
+    lying: Vec<(Ticket, Radio)>,
+}
+
+impl Whereabouts {
+    fn take(&mut self, party: usize) -> Radio {
+        self.with[party].take().expect("the party has a radio")
+    }
+
+    fn enter(&mut self, party: usize, answer: Answer) {
+        let t = answer.number.unwrap_or(0);
+        match answer.code {
+            0x36 => self.with[party] = Some(self.stored.remove(0)),
+            0x37 => assert_eq!(self.stored, []),
+            0x38 | 0x2D => {
+                let radio = self.take(party);
+                self.stored.push(radio);
+            }
+            0x29 | 0x2B => {
+                let radio = self.take(party);
+                self.lying.push((t, radio));
+            }
+            0x2A => {
+                let radio = self.take(party);
+                self.with[answer.woken.unwrap() as usize] = Some(radio);
+            }
+            0x25 | 0x31 | 0x33 => {
+                let at = self.lying.iter().position(|&(ticket, _)| ticket == t);
+                let (_, radio) = self.lying.remove(at.expect("a radio lies there"));
+                if answer.code == 0x33 {
+                    self.stored.push(radio);
+                } else {
+                    self.with[party] = Some(radio);
+                }
+            }
+            0x39 => assert_eq!(self.with[party].map(u32::from), answer.number),
+            _ => {}
+        }
+    }
+
+    /// All radios, sorted.
+    fn all(&self) -> Vec<Radio> {
+        let lying = self.lying.iter().map(|&(_, radio)| radio);
+        let with = self.with.iter().flatten().copied();
+        let mut all: Vec<Radio> = with.chain(lying).chain(self.stored.clone()).collect();
+        all.sort_unstable();
+        all
+    }
+}
+
 /// The paper's "Counting links", from calls and answers alone.
 struct Ledger {
+    /// The opening's radios, sorted, and where they are.
+    radios: Option<(Vec<Radio>, Whereabouts)>,
     permits: i32,
     phases: [Phase; PARTIES],
     held: i32,
@@ -978,8 +1500,18 @@ struct Ledger {
 }
 
 impl Ledger {
-    fn new(permits: u8) -> Self {
+    fn new(permits: u8, radios: Option<&[Radio]>) -> Self {
+        let stored = |radios: &[Radio]| Whereabouts {
+            stored: radios.to_vec(),
+            with: [None; PARTIES],
+            lying: Vec::new(),
+        };
+        let sorted = |mut radios: Vec<Radio>| {
+            radios.sort_unstable();
+            radios
+        };
         Ledger {
+            radios: radios.map(|radios| (sorted(radios.to_vec()), stored(radios))),
             permits: i32::from(permits),
             phases: [Phase::Free; PARTIES],
             held: 0,
@@ -992,6 +1524,16 @@ impl Ledger {
 
     fn enter(&mut self, call: Call, party: usize, answer: Answer) {
         use Phase::*;
+        let has_radios = self.radios.is_some();
+        if let Some((opening, whereabouts)) = &mut self.radios {
+            whereabouts.enter(party, answer);
+            assert_eq!(whereabouts.all(), *opening);
+        }
+        if call == Call::Radio {
+            assert_eq!((answer.code, answer.woken), (0x39, None));
+            assert!(has_radios || answer.number.is_none());
+            return;
+        }
         let own = match self.phases[party] {
             Numbered(t) | Waiting(t) | GivingUp(t) | Cancelling(t) | Refusing(t) | Handing(t) => {
                 Some(t)
@@ -999,17 +1541,21 @@ impl Ledger {
             _ => None,
         };
         // Only 23 and 28 bring a number; later answers repeat the party's own.
-        if let (Some(given), false) = (answer.ticket, matches!(answer.code, 0x23 | 0x28)) {
+        if let (Some(given), false) = (answer.number, matches!(answer.code, 0x23 | 0x28)) {
             assert_eq!(Some(given), own);
         }
         let numbered = matches!(answer.code, 0x23..=0x25 | 0x28..=0x2D | 0x30..=0x33);
-        assert_eq!(answer.ticket.is_some(), numbered);
-        let ticket = answer.ticket.or(own);
+        assert_eq!(answer.number.is_some(), numbered);
+        let ticket = answer.number.or(own);
         let t = || ticket.expect("an answer that needs a number");
         let phase = match (call, answer.code) {
             (Call::Acquire, 0x20) => Asked,
             (Call::Cancel, 0x20) => GivingUp(t()),
             (Call::Release, 0x20) => GivingBack,
+            (Call::Step, 0x21 | 0x37) if has_radios => Fetching,
+            (Call::Step, 0x26) if has_radios => PuttingBack,
+            (Call::Step, 0x36) if has_radios => Holding,
+            (Call::Step, 0x38) if has_radios => Free,
             (Call::Step, 0x21 | 0x25) => Holding,
             (Call::Step, 0x22) => Unnumbered,
             (Call::Step, 0x23) => Numbered(t()),
@@ -1068,7 +1614,8 @@ impl Ledger {
         let refusing = self.count(|p| matches!(p, Phase::Refusing(_)));
         let on_the_way = carried + self.lying - refusing - self.refused;
         assert_eq!(self.held + self.counter.max(0) + on_the_way, self.permits);
-        let holders = self.count(|p| matches!(p, Phase::Holding | Phase::GivingBack));
+        let holders =
+            self.count(|p| matches!(p, Phase::Holding | Phase::GivingBack | Phase::Fetching));
         assert_eq!(holders, self.held);
         assert!(holders <= self.permits);
         let standing = self.phases.iter().filter_map(|p| match p {
@@ -1088,6 +1635,15 @@ impl Ledger {
         assert_eq!(self.counter, hub.counter);
         assert_eq!(self.lying, places(Place::Permit));
         assert_eq!(self.refused, places(Place::Refused));
+        assert_eq!(self.radios.is_some(), hub.pool.is_some());
+        if let (Some((_, whereabouts)), Some(pool)) = (&self.radios, &hub.pool) {
+            assert_eq!(pool.with_party, whereabouts.with);
+            assert_eq!(Vec::from(pool.store.clone()), whereabouts.stored);
+            let lying = |&(t, radio)| pool.at_place[t as usize % PLACES] == Some(radio);
+            assert!(whereabouts.lying.iter().all(lying));
+            let at_places = pool.at_place.iter().flatten().count();
+            assert_eq!(at_places, whereabouts.lying.len());
+        }
     }
 }
 
@@ -1119,9 +1675,12 @@ impl Habits {
     fn next(&self, random: &mut Random, hub: &Hub) -> (Call, u8) {
         if random.one_in(50) {
             // Any call by any party, whether it makes sense or not.
-            return (CALLS[random.below(4) as usize], random.below(256) as u8);
+            return (CALLS[random.below(5) as usize], random.below(256) as u8);
         }
         let parties = u32::from(hub.parties);
+        if random.one_in(30) {
+            return (Call::Radio, random.below(parties) as u8);
+        }
         for _ in 0..8 {
             let party = random.below(parties) as u8;
             if self.frozen >> party & 1 == 1 && !random.one_in(500) {
@@ -1162,9 +1721,20 @@ mod schedules {
             let (most_permits, most_parties) = if random.one_in(3) { (32, 32) } else { (3, 6) };
             let permits = 1 + random.below(most_permits) as u8;
             let parties = 1 + random.below(most_parties) as u8;
+            if random.one_in(2) {
+                let first = random.below(256) as u8;
+                let radios: Vec<Radio> = (0..permits)
+                    .map(|at| first.wrapping_add(at.wrapping_mul(151)))
+                    .collect();
+                return Walk {
+                    hub: Hub::open_pool(permits, parties, &radios).unwrap(),
+                    ledger: Ledger::new(permits, Some(&radios)),
+                    random,
+                };
+            }
             Walk {
                 hub: Hub::open(permits, parties).unwrap(),
-                ledger: Ledger::new(permits),
+                ledger: Ledger::new(permits, None),
                 random,
             }
         }
@@ -1187,7 +1757,8 @@ mod schedules {
             self.ledger.assert_sound();
         }
 
-        /// Steps busy parties, in random order, until all rest.
+        /// Steps busy parties, in random order, until all rest. Whoever finds
+        /// the store empty is not alone: one that puts back is busy too.
         fn settle(&mut self, seen: &mut Seen) {
             loop {
                 let busy = self.ledger.busy();
@@ -1223,7 +1794,10 @@ mod schedules {
         // The schedules reached every answer, and every refusal a call can
         // meet but 1 (never, from an opening) and 6 (a million asks away).
         assert_eq!(seen[Refusal::Misfit as usize], 0);
-        for number in (0x20..=0x33).chain([4, 5, 7, 8, 9, 10, 11]) {
+        for number in (0x20..=0x33)
+            .chain(0x36..=0x39)
+            .chain([4, 5, 7, 8, 9, 10, 11])
+        {
             assert!(seen[number] > 0, "never met {:#04X}", number);
         }
         assert!(rests_with_waiters > 1_000);
@@ -1239,7 +1813,7 @@ mod schedules {
             let mut hub = any_record(&mut random);
             let fits = hub.fits();
             fitting += u64::from(fits);
-            let call = CALLS[random.below(4) as usize];
+            let call = CALLS[random.below(5) as usize];
             let party = random.below(34) as u8;
             let before = hub.clone();
             let outcome = hub.call(call, party, true);
@@ -1276,7 +1850,44 @@ mod schedules {
             hub.phases[party as usize] = any_phase(random, ticket);
             hub.set_place(ticket, any_place(random, party));
         }
+        if random.one_in(2) {
+            hub.pool = Some(any_pool(random, &hub));
+        }
         hub
+    }
+
+    /// Radios dealt to whoever should have one, the rest stored; at times one
+    /// of them is another.
+    fn any_pool(random: &mut Random, hub: &Hub) -> Pool {
+        let radios: Vec<Radio> = (0..hub.permits.min(32)).map(|at| at * 7).collect();
+        let mut pool = Pool::filled(&radios);
+        pool.store
+            .rotate_left(random.below(32) as usize % radios.len().max(1));
+        for party in 0..PARTIES {
+            if hub.phases[party].has_radio() {
+                pool.with_party[party] = Some(pool.store.pop_front().unwrap_or(0));
+            }
+        }
+        for at in 0..PLACES {
+            if hub.ring[at] == Place::Permit {
+                pool.at_place[at] = Some(pool.store.pop_front().unwrap_or(0));
+            }
+        }
+        let other = random.below(256) as u8;
+        let party = random.below(32) as usize;
+        match random.below(8) {
+            0 => pool.opening[random.below(4) as usize] = other,
+            1 => drop(pool.store.pop_back()),
+            2 => pool.store.extend((pool.store.len() < 32).then_some(other)),
+            3 => pool
+                .store
+                .iter_mut()
+                .take(1)
+                .for_each(|radio| *radio = other),
+            4 => pool.with_party[party] = pool.with_party[party].map(|_| other),
+            _ => {}
+        }
+        pool
     }
 
     fn any_phase(random: &mut Random, t: Ticket) -> Phase {
@@ -1294,6 +1905,8 @@ mod schedules {
             GivingBack,
             Carrying,
             Handing(t),
+            Fetching,
+            PuttingBack,
         ];
         phases[random.below(phases.len() as u32) as usize]
     }
@@ -1316,15 +1929,16 @@ mod schedules {
     fn random_lines() {
         for seed in 0..40 {
             let mut random = Random::seeded(seed);
-            let mut input = b"010203\n".to_vec();
+            let opening = ["010203\n", "020203A7A6\n"][random.below(2) as usize];
+            let mut input = opening.as_bytes().to_vec();
             let mut lines = 2;
             for _ in 0..2_000 {
-                let (code, party) = (0x10 + random.below(4), random.below(4));
+                let (code, party) = (0x10 + random.below(5), random.below(4));
                 let line = match random.below(40) {
                     0 => format!("{code:02x}{party:02x}\r\n"),
                     1 => format!("{code:x}\n"),
                     2 => "\n".to_string(),
-                    3 => format!("{}\n", "1".repeat(random.below(200) as usize)),
+                    3 => format!("{}\n", "1".repeat(random.below(400) as usize)),
                     _ => format!("{code:02x}{party:02x}\n"),
                 };
                 input.extend(line.bytes());

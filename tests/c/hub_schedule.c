@@ -1,5 +1,5 @@
-// The schedule program in memory, as C sees it: the run of the paper, and a buffer that is too
-// small.
+// The schedule program in memory, as C sees it: the run of the paper, one with a radio, and a
+// buffer that is too small.
 #include <stdint.h>
 #include <stdio.h>
 #include <string.h>
@@ -14,6 +14,12 @@ static const char answers[] =
     "1FFFFFFFFFFFFF\n2000FFFFFFFFFF\n2100FFFFFFFFFF\n2001FFFFFFFFFF\n2201FFFFFFFFFF\n"
     "2301FF00000000\n2401FF00000000\n2000FFFFFFFFFF\n2700FFFFFFFFFF\n2001FFFFFFFFFF\n"
     "2F01FFFFFFFFFF\n2800FF00000000\n2B00FF00000000\n3301FF00000000\n7E000000000001\n";
+
+static const char radio_run[] = "020101A7\n1000\n1100\n1100\n1400\n";
+
+static const char radio_answers[] =
+    "1FFFFFFFFFFFFF\n2000FFFFFFFFFF\n2100FFFFFFFFFF\n3600FFFFFFFFFF\n3900FF000000A7\n"
+    "7E010000000000\n";
 
 static int failures = 0;
 
@@ -37,6 +43,7 @@ int main(void) {
     expect("the run of the paper", run, all, room, answers);
     expect("more room than needed", run, all, 512, answers);
     expect("the last end mark left out", run, all - 1, room, answers);
+    expect("a radio", radio_run, sizeof radio_run - 1, sizeof radio_answers - 1, radio_answers);
     expect("one character too little room", run, all, room - 1, "");
     expect("no input", run, 0, 15, "7E000000000000\n");
     expect("no input and no room", run, 0, 14, "");

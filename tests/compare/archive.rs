@@ -17,7 +17,7 @@ const ANSWER: usize = 7;
 fn proved(schedule: &Schedule) -> Vec<[u8; ANSWER]> {
     let calls = schedule.calls.concat();
     let mut out = vec![[0; ANSWER]; schedule.calls.len()];
-    let code = hub_run(schedule.permits, schedule.parties, &calls, out.as_flattened_mut());
+    let code = hub_run(&schedule.opening(), &calls, out.as_flattened_mut());
     if code != 0 {
         return vec![[code, 255, 255, 255, 255, 255, 255]];
     }
@@ -49,15 +49,16 @@ fn main() -> ExitCode {
         let theirs = second(program, &s, answers.len());
         if ours != theirs {
             let at = ours.iter().zip(&theirs).take_while(|(a, b)| a == b).count();
-            println!("schedule {seed}: K {}, n {}, line {}", s.permits, s.parties, at + 1);
+            println!("schedule {seed}: opening {}, line {}", hex(&s.opening()), at + 1);
             println!("archive: {:?}\nsecond:  {:?}", ours.get(at), theirs.get(at));
             return ExitCode::FAILURE;
         }
         answers.iter().for_each(|answer| seen.count(answer[0]));
     }
     println!("archive and second program: {schedules} schedules, all answers agree");
-    // 1 no opening reaches, 6 takes a million asks; 12 and 13 are the program's
-    if seen.shows((2..=11).filter(|&refusal| refusal != 6).chain(0x1F..=0x33)) {
+    // 1 no opening reaches, 6 takes a million asks, 13 is the program's; 12 is an opening's
+    let refusals = (2..=14).filter(|&refusal| refusal != 6 && refusal != 13);
+    if seen.shows(refusals.chain(0x1F..=0x33).chain(0x36..=0x39)) {
         ExitCode::SUCCESS
     } else {
         ExitCode::FAILURE

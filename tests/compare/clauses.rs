@@ -2,7 +2,7 @@
 //! So it can be told how often a clause decided alone, and from which side.
 
 use crate::record::{
-    Phase, Record, State, PARTIES, PHASES, PHASE_NAMES, PLACES, STATES, STATE_NAMES,
+    Keeper, Phase, Record, State, PARTIES, PHASES, PHASE_NAMES, PLACES, RADIOS, STATES, STATE_NAMES,
 };
 
 const MOST: i64 = 1_000_000;
@@ -36,9 +36,20 @@ pub enum Clause {
     Taking,
     /// Where in the record the broken clause was.
     Found,
+    /// Fetching and putting back fit on a hub with radios alone.
+    RadioPhase,
+    /// No two of the opening's radios are alike.
+    Alike,
+    /// The radios are those of the opening, each once: one for another, by a foreign one or by
+    /// one that is there already; one too many, foreign or there already; one too few.
+    Foreign,
+    Twice,
+    MoreForeign,
+    MoreTwice,
+    Missing,
 }
 
-const CLAUSES: [(Clause, &str); 19] = [
+const CLAUSES: [(Clause, &str); 26] = [
     (Clause::Links, "K"),
     (Clause::Parties, "n"),
     (Clause::Counter, "counter"),
@@ -58,7 +69,20 @@ const CLAUSES: [(Clause, &str); 19] = [
     (Clause::WaiterParty, "party of a waiting place"),
     (Clause::Taking, "number to take below oldest + 256"),
     (Clause::Found, "found at"),
+    (Clause::RadioPhase, "phase of a hub with radios"),
+    (Clause::Alike, "opening's radios"),
+    (Clause::Foreign, "foreign radio"),
+    (Clause::Twice, "radio for another"),
+    (Clause::MoreForeign, "foreign radio too many"),
+    (Clause::MoreTwice, "radio once too often"),
+    (Clause::Missing, "radio missing"),
 ];
+
+/// What has a radio, by kind; then where that is.
+const KEEPERS: [&str; 7] =
+    ["holding", "giving back", "putting back", "carrying", "handing", "link place", "store"];
+const KEEPERS_AT: [&str; 6] =
+    ["party 0", "party 31", "first place", "last place", "first stored", "32nd stored"];
 
 /// Whether a record that breaks only this case exists, one step outside of its bound, and whether
 /// one that meets it exists, just at the bound.
@@ -114,6 +138,26 @@ impl Clause {
                 Phase::Unnumbered | Phase::Carrying => BOTH,
                 _ => NEITHER,
             }),
+            Clause::RadioPhase => {
+                by_phase(|phase| if phase.needs_radios() { BOTH } else { NEITHER })
+            }
+            Clause::Alike => {
+                let mut cases =
+                    each(&["first two", "last two", "first and last", "of two"], OUTSIDE);
+                cases.extend(each(&["one alike past K", "all 32"], INSIDE));
+                cases
+            }
+            Clause::Foreign => {
+                let mut cases = each(&KEEPERS, BOTH);
+                cases.extend(each(&KEEPERS_AT, BOTH));
+                cases
+            }
+            Clause::Twice | Clause::MoreForeign | Clause::MoreTwice => each(&KEEPERS, OUTSIDE),
+            Clause::Missing => {
+                let mut cases = each(&["any", "of one", "of 32"], OUTSIDE);
+                cases.extend(each(&["none stored", "32 stored"], INSIDE));
+                cases
+            }
             Clause::Found => each(
                 &[
                     "party 0",
@@ -164,6 +208,10 @@ impl Judgement {
         judgement.figures(record);
         (0..PARTIES).for_each(|party| judgement.party(record, party));
         (0..PLACES).for_each(|at| judgement.place(record, at));
+        if record.has_radios {
+            judgement.alike(record);
+            judgement.kept(record);
+        }
         judgement
     }
 
@@ -230,6 +278,14 @@ impl Judgement {
                 self.breaks(Clause::Free, near.into_iter().chain(found.iter().copied()));
             } else if party + 1 == n {
                 self.at_bound.push((Clause::Free, phase as usize));
+            }
+        }
+        if phase.needs_radios() {
+            let label = (Clause::RadioPhase, phase as usize);
+            if record.has_radios {
+                self.at_bound.push(label);
+            } else {
+                self.breaks(label.0, [label].into_iter().chain(found.iter().copied()));
             }
         }
         if phase.has_number() {
@@ -320,6 +376,88 @@ impl Judgement {
             self.breaks(Clause::Waiter, outside);
         }
     }
+}
+
+impl Judgement {
+    fn alike(&mut self, record: &Record) {
+        let k = record.radios();
+        let (opening, past) = record.opening.split_at(k);
+        let same = |a: usize, b: usize| a < b && b < k && opening[a] == opening[b];
+        if (0..k).any(|b| (0..b).any(|a| same(a, b))) {
+            let cases =
+                [k > 2 && same(0, 1), k > 2 && same(k - 2, k - 1), k > 2 && same(0, k - 1), k == 2];
+            let cases = (0..).zip(cases).filter(|(_, so)| *so);
+            self.breaks(Clause::Alike, cases.map(|(case, _)| (Clause::Alike, case)));
+        } else {
+            let past_k = past.iter().any(|radio| opening.contains(radio));
+            self.at_bound.extend(past_k.then_some((Clause::Alike, 4)));
+            self.at_bound.extend((k == RADIOS).then_some((Clause::Alike, 5)));
+        }
+    }
+
+    fn kept(&mut self, record: &Record) {
+        let k = record.radios();
+        let opening = &record.opening[..k];
+        let keepers = record.keepers();
+        let radios: Vec<u8> = keepers.iter().map(|&keeper| record.radio(keeper)).collect();
+        let count = |list: &[u8], radio: u8| list.iter().filter(|&&other| other == radio).count();
+        let more = |a: &[u8], b: &[u8], radio| count(a, radio).saturating_sub(count(b, radio));
+        let surplus: usize = (0..=255).map(|radio| more(&radios, opening, radio)).sum();
+        let lack: usize = (0..=255).map(|radio| more(opening, &radios, radio)).sum();
+        if surplus + lack == 0 {
+            let labels = keepers.iter().flat_map(|&keeper| kinds(record, keeper));
+            self.at_bound.extend(labels.map(|kind| (Clause::Foreign, kind)));
+            self.at_bound.extend(record.store.is_empty().then_some((Clause::Missing, 3)));
+            self.at_bound.extend((record.store.len() == RADIOS).then_some((Clause::Missing, 4)));
+            return;
+        }
+        // the one that is too many, and whether it is of the opening
+        let wrong = |radio: u8| more(&radios, opening, radio) > 0;
+        let there = radios.iter().any(|&radio| wrong(radio) && opening.contains(&radio));
+        let clause = match (surplus, lack, there) {
+            (1, 1, false) => Clause::Foreign,
+            (1, 1, true) => Clause::Twice,
+            (1, 0, false) => Clause::MoreForeign,
+            (1, 0, true) => Clause::MoreTwice,
+            (0, 1, _) => Clause::Missing,
+            // far outside
+            _ => return self.breaks(Clause::Foreign, []),
+        };
+        let mut labels = Vec::new();
+        if clause == Clause::Missing {
+            labels.push((clause, 0));
+            labels.extend((k == 1).then_some((clause, 1)));
+            labels.extend((k == RADIOS).then_some((clause, 2)));
+        }
+        for keeper in keepers.into_iter().filter(|&keeper| wrong(record.radio(keeper))) {
+            labels.extend(kinds(record, keeper).into_iter().map(|kind| (clause, kind)));
+        }
+        if clause != Clause::Foreign {
+            // where it is, is asked of that one alone
+            labels.retain(|&(_, kind)| kind < KEEPERS.len());
+        }
+        self.breaks(clause, labels);
+    }
+}
+
+/// The cases of a keeper: its kind, and where it is.
+fn kinds(record: &Record, keeper: Keeper) -> Vec<usize> {
+    let (kind, at) = match keeper {
+        Keeper::Party(party) => {
+            let kind = match record.phases[party].phase {
+                Phase::Holding => 0,
+                Phase::GivingBack => 1,
+                Phase::PuttingBack => 2,
+                Phase::Carrying => 3,
+                _ => 4,
+            };
+            (kind, [party == 0, party + 1 == PARTIES, false, false, false, false])
+        }
+        Keeper::Place(at) => (5, [false, false, at == 0, at + 1 == PLACES, false, false]),
+        Keeper::Store(at) => (6, [false, false, false, false, at == 0, at + 1 == RADIOS]),
+    };
+    let at = (KEEPERS.len()..).zip(at).filter(|(_, so)| *so).map(|(case, _)| case);
+    [kind].into_iter().chain(at).collect()
 }
 
 /// How often each case of a clause decided alone: the record was refused for nothing else, one

@@ -3,8 +3,8 @@
 mod linked {
     extern "C" {
         pub fn hub_run(
-            permits: u8,
-            parties: u8,
+            opening: *const u8,
+            opening_len: usize,
             calls: *const u8,
             calls_len: usize,
             out: *mut u8,
@@ -13,9 +13,17 @@ mod linked {
     }
 }
 
-pub fn hub_run(permits: u8, parties: u8, calls: &[u8], out: &mut [u8]) -> u8 {
+/// The opening is a frame, as in a line.
+pub fn hub_run(opening: &[u8], calls: &[u8], out: &mut [u8]) -> u8 {
     // SAFETY: each address goes with the length of what it points to.
     unsafe {
-        linked::hub_run(permits, parties, calls.as_ptr(), calls.len(), out.as_mut_ptr(), out.len())
+        linked::hub_run(
+            opening.as_ptr(),
+            opening.len(),
+            calls.as_ptr(),
+            calls.len(),
+            out.as_mut_ptr(),
+            out.len(),
+        )
     }
 }

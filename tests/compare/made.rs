@@ -2,8 +2,11 @@
 //! nothing is judged here.
 
 use crate::clauses::{is_listed, Judgement};
-use crate::record::{Party, Phase, Place, Record, State, PARTIES, PHASES, PLACES, RECORD, STATES};
-use crate::schedules::{schedule, Random, ASK, GIVE_BACK, GIVE_UP, STEP};
+use crate::record::{
+    Keeper, Party, Phase, Place, Record, State, AT_PLACE_AT, OPENING_AT, PARTIES, PHASES, PLACES,
+    RADIOS, RADIOS_AT, RECORD, STATES, STORED_AT, STORE_AT, TURNED_AT, WITH_PARTY_AT,
+};
+use crate::schedules::{radios, schedule, Random, Schedule, ASK, GIVE_BACK, GIVE_UP, RADIO, STEP};
 use std::vec;
 
 const SPAN: u32 = PLACES as u32;
@@ -59,10 +62,13 @@ struct World {
 impl World {
     fn opened(random: &mut Random) -> Self {
         let s = schedule(random, 4000);
-        if !(1..=32).contains(&s.permits) || !(1..=32).contains(&s.parties) {
+        if !opens(&s) {
             return World::opened(random);
         }
-        let record = Record::opened(s.permits, s.parties);
+        let record = match &s.radios {
+            Some(radios) => Record::opened_with(s.parties, radios),
+            None => Record::opened(s.permits, s.parties),
+        };
         World { record, schedule: Some(s.calls.into_iter()), over: false }
     }
 
@@ -90,6 +96,17 @@ impl World {
             }
         }
     }
+}
+
+/// Whether a schedule's opening is accepted.
+fn opens(schedule: &Schedule) -> bool {
+    let radios_fit = |radios: &Vec<u8>| {
+        let alike = (1..radios.len()).any(|at| radios[..at].contains(&radios[at]));
+        radios.len() == usize::from(schedule.permits) && !alike
+    };
+    (1..=32).contains(&schedule.permits)
+        && (1..=32).contains(&schedule.parties)
+        && schedule.radios.as_ref().is_none_or(radios_fit)
 }
 
 /// Makes the cases of one turn after the other.
@@ -136,6 +153,7 @@ impl Maker {
         }
         cases.extend((0..40).map(|_| to_unfit(random)));
         cases.extend((0..20).map(|_| odd_bytes(random)));
+        cases.iter_mut().for_each(|case| litter(random, &mut case.bytes));
         cases
     }
 
@@ -158,7 +176,8 @@ fn call_for(random: &mut Random, record: &Record) -> [u8; 2] {
     if random.one_in(12) {
         let any = random.byte();
         let below = random.below(n.into()) as u8;
-        return [random.pick(&[ASK, STEP, GIVE_UP, GIVE_BACK]), random.pick(&[any, n, below])];
+        let code = random.pick(&[ASK, STEP, GIVE_UP, GIVE_BACK, RADIO]);
+        return [code, random.pick(&[any, n, below])];
     }
     let mut party = random.below(n.into()) as u8;
     for _ in 0..3 {
@@ -166,6 +185,9 @@ fn call_for(random: &mut Random, record: &Record) -> [u8; 2] {
         if record.phases[usize::from(party)].phase == Phase::Free {
             party = random.below(n.into()) as u8;
         }
+    }
+    if random.one_in(12) {
+        return [RADIO, party];
     }
     [usual(record.phases[usize::from(party)].phase), party]
 }
@@ -185,6 +207,9 @@ fn success(random: &mut Random, record: &mut Record) -> [u8; 2] {
     for _ in 0..8 {
         let party = random.below(record.parties.into()) as u8;
         let phase = record.phases[usize::from(party)].phase;
+        if random.one_in(10) {
+            return [RADIO, party];
+        }
         // an ask may find no room, and waits of kind 3 stay
         if phase != Phase::Free && (phase != Phase::Waiting || party < 30) {
             return [usual(phase), party];
@@ -192,6 +217,7 @@ fn success(random: &mut Random, record: &mut Record) -> [u8; 2] {
     }
     if record.phases[0].phase == Phase::Free {
         record.phases[0] = Party::at(Phase::Holding, 0);
+        mend(random, record, &[0], &[]);
     }
     [usual(record.phases[0].phase), 0]
 }
@@ -206,11 +232,14 @@ fn figure(random: &mut Random, few: &[u32], bound: u32) -> u32 {
     }
 }
 
-/// A record with figures that fit, its places empty and its parties free.
+/// A record with figures that fit, its places empty and its parties free; every other one of a
+/// hub with radios, all of them stored.
 fn bare(random: &mut Random) -> Record {
     let links = 1 + figure(random, &[0, 31], 32) as u8;
     let parties = 1 + figure(random, &[1, 2, 30, 31, 31], 32) as u8;
     let mut record = Record::opened(links, parties);
+    record.has_radios = random.one_in(2);
+    deal(random, &mut record);
     record.counter = figure(random, &[0, 1, 31, 32, 33, 63, 64], 65) as i32 - 32;
     record.begun = figure(random, &[0, MOST - 1, MOST], MOST);
     record.oldest = figure(random, &[0, 1, 255, 256, 257, 65_535, MOST - SPAN, MOST], MOST);
@@ -257,7 +286,7 @@ fn fill(random: &mut Random, record: &mut Record) {
             settle(random, record, party, phase, t);
         }
     }
-    mend(record, &[], &[]);
+    mend(random, record, &[], &[]);
 }
 
 /// Where the numbers of a phase end.
@@ -280,8 +309,9 @@ fn given(random: &mut Random, record: &Record, phase: Phase) -> u32 {
     record.oldest + random.pick(&[any, any, 0, count - 1])
 }
 
-/// Puts a party into a phase and makes the place of its number suit it.
+/// Puts a party into a phase and makes the place of its number suit it, and the hub.
 fn settle(random: &mut Random, record: &mut Record, party: usize, phase: Phase, t: u32) {
+    record.has_radios |= phase.needs_radios();
     if !phase.has_number() {
         record.phases[party] = Party::at(phase, 0);
         return;
@@ -303,8 +333,9 @@ fn settle(random: &mut Random, record: &mut Record, party: usize, phase: Phase, 
     };
 }
 
-/// Frees parties and empties places until all of them fit, but for those that are kept.
-fn mend(record: &mut Record, parties: &[usize], numbers: &[u32]) {
+/// Frees parties and empties places until all of them fit, but for those that are kept; then
+/// deals the radios.
+fn mend(random: &mut Random, record: &mut Record, parties: &[usize], numbers: &[u32]) {
     let kept = |at: usize| numbers.iter().any(|&number| number as usize % PLACES == at);
     loop {
         let before = record.clone();
@@ -318,10 +349,76 @@ fn mend(record: &mut Record, parties: &[usize], numbers: &[u32]) {
                 record.places[at] = Place::EMPTY;
             }
         }
-        if *record == before {
-            return;
+        if *record == before && !clear_some(random, record, parties, kept) {
+            return deal(random, record);
         }
     }
+}
+
+/// On a hub with radios: frees parties and empties places, any but those that are kept, until
+/// there are no more with a radio than radios. Whether it did anything; if it could not do
+/// enough, there are more radios.
+fn clear_some(
+    random: &mut Random,
+    record: &mut Record,
+    parties: &[usize],
+    kept: impl Fn(usize) -> bool,
+) -> bool {
+    record.store.clear();
+    let mut keepers = record.keepers();
+    let surplus = keepers.len().saturating_sub(record.radios());
+    if !record.has_radios || surplus == 0 {
+        return false;
+    }
+    let all = keepers.len();
+    keepers.retain(|keeper| match *keeper {
+        Keeper::Party(party) => !parties.contains(&party),
+        Keeper::Place(at) => !kept(at),
+        Keeper::Store(_) => false,
+    });
+    shuffle(random, &mut keepers);
+    keepers.truncate(surplus);
+    for &keeper in &keepers {
+        match keeper {
+            Keeper::Party(party) => record.phases[party] = Party::FREE,
+            Keeper::Place(at) => record.places[at] = Place::EMPTY,
+            Keeper::Store(_) => {}
+        }
+    }
+    if keepers.len() < surplus {
+        record.links = (all - keepers.len()) as u8;
+    }
+    !keepers.is_empty()
+}
+
+fn shuffle<T>(random: &mut Random, list: &mut [T]) {
+    for last in (1..list.len()).rev() {
+        list.swap(last, random.below(last as u64 + 1) as usize);
+    }
+}
+
+/// On a hub with radios: an opening's, dealt to whoever has one; the rest are stored. Where there
+/// are too few, some have any.
+fn deal(random: &mut Random, record: &mut Record) {
+    record.clear_radios();
+    if !record.has_radios {
+        return;
+    }
+    let count = record.radios();
+    record.opening.copy_from_slice(&radios(random, RADIOS as u8));
+    let mut dealt = record.opening[..count].to_vec();
+    shuffle(random, &mut dealt);
+    for past in &mut record.opening[count..] {
+        // those past K count for nothing
+        let any = random.byte();
+        let alike = dealt.first().copied().unwrap_or(any);
+        *past = random.pick(&[*past, any, alike]);
+    }
+    record.store.clear();
+    for keeper in record.keepers() {
+        *record.radio_mut(keeper) = dealt.pop().unwrap_or_else(|| random.byte());
+    }
+    record.store = dealt;
 }
 
 /// One to three fields altered.
@@ -330,13 +427,17 @@ fn damaged(random: &mut Random, record: &Record) -> Record {
     for _ in 0..1 + random.below(3) {
         damage(random, &mut record);
     }
+    if random.one_in(2) {
+        // or else the radios alone would decide
+        deal(random, &mut record);
+    }
     record
 }
 
 fn damage(random: &mut Random, record: &mut Record) {
     let party = random.below(32) as usize;
     let at = random.below(256) as usize;
-    match random.below(14) {
+    match random.below(if record.has_radios { 20 } else { 15 }) {
         0 => record.links = damaged_byte(random, record.links),
         1 => record.parties = damaged_byte(random, record.parties),
         2 => record.counter = damaged_figure(random, record, record.counter as u32) as i32,
@@ -355,6 +456,25 @@ fn damage(random: &mut Random, record: &mut Record) {
             record.places[at] = Place { state, party: party as u32 };
         }
         12 => record.places[at] = random.pick(&record.places),
+        13 => record.has_radios = !record.has_radios,
+        15 => record.opening[party] = damaged_radio(random, record),
+        16 | 17 => {
+            let keepers = record.keepers();
+            if !keepers.is_empty() {
+                *record.radio_mut(random.pick(&keepers)) = damaged_radio(random, record);
+            }
+        }
+        18 if random.one_in(2) => drop(record.store.pop()),
+        18 if record.store.len() < RADIOS => record.store.push(damaged_radio(random, record)),
+        // in other hands, which is no damage
+        19 => {
+            let keepers = record.keepers();
+            if !keepers.is_empty() {
+                let [a, b] = [0; 2].map(|_| random.pick(&keepers));
+                let [at_a, at_b] = [a, b].map(|keeper| record.radio(keeper));
+                (*record.radio_mut(a), *record.radio_mut(b)) = (at_b, at_a);
+            }
+        }
         // where something is more often the case
         _ => {
             let number = random.pick(&[record.oldest, record.handed, record.numbered]);
@@ -374,6 +494,15 @@ fn tidy_fields(record: &mut Record) {
     for party in record.phases.iter_mut().filter(|party| !party.phase.has_number()) {
         party.number = 0;
     }
+    record.clear_radios();
+}
+
+/// Any radio, often one of the opening's.
+fn damaged_radio(random: &mut Random, record: &Record) -> u8 {
+    let any = random.byte();
+    let known = random.pick(&record.opening);
+    let near = known ^ (1 << random.below(8));
+    random.pick(&[any, 0, known, known, near])
 }
 
 fn damaged_byte(random: &mut Random, byte: u8) -> u8 {
@@ -410,6 +539,9 @@ fn near_bounds(random: &mut Random) -> Record {
         record.phases[party] = Party::at(random.pick(&PHASES), number);
     }
     tidy_fields(&mut record);
+    if !random.one_in(4) {
+        deal(random, &mut record);
+    }
     record
 }
 
@@ -424,6 +556,9 @@ fn one_clause(random: &mut Random) -> Vec<Record> {
     waiter_numbers_alone(random, &mut records);
     waiter_parties_alone(random, &mut records);
     taking_alone(random, &mut records);
+    radio_phases_alone(random, &mut records);
+    alike_alone(random, &mut records);
+    kept_alone(random, &mut records);
     records
 }
 
@@ -476,7 +611,7 @@ fn free_alone(random: &mut Random, records: &mut Vec<Record>) {
             fill(random, &mut record);
             let t = given(random, &record, *phase);
             settle(random, &mut record, party, *phase, t);
-            mend(&mut record, &[party], &[t]);
+            mend(random, &mut record, &[party], &[t]);
             records.push(record);
         }
     }
@@ -516,7 +651,7 @@ fn numbers_alone(random: &mut Random, records: &mut Vec<Record>) {
             fill(random, &mut record);
             let party = party_of(random, &record);
             settle(random, &mut record, party, phase, t);
-            mend(&mut record, &[party], &[t]);
+            mend(random, &mut record, &[party], &[t]);
             records.push(record);
         }
     }
@@ -537,7 +672,7 @@ fn acted_on_alone(random: &mut Random, records: &mut Vec<Record>) {
                 record.phases[waiter] = Party::at(Phase::Waiting, t);
                 *record.place_mut(t) = Place::waiting(waiter as u32);
             }
-            mend(&mut record, &[party], &[t]);
+            mend(random, &mut record, &[party], &[t]);
             records.push(record);
         }
     }
@@ -564,9 +699,10 @@ fn waiters_alone(random: &mut Random, records: &mut Vec<Record>) {
             _ => t,
         };
         record.phases[party] = Party::at(phase, if phase.has_number() { own } else { 0 });
+        record.has_radios |= phase.needs_radios();
         *record.place_mut(own) = Place::EMPTY;
         *record.place_mut(t) = Place::waiting(party as u32);
-        mend(&mut record, &[party], &[t, own]);
+        mend(random, &mut record, &[party], &[t, own]);
         records.push(record);
     }
     for last in [false, true] {
@@ -575,7 +711,7 @@ fn waiters_alone(random: &mut Random, records: &mut Vec<Record>) {
         let t = if last { record.oldest + SPAN - 1 } else { record.numbered };
         let party = random.below(32) as u32;
         *record.place_mut(t) = Place::waiting(party);
-        mend(&mut record, &[], &[t]);
+        mend(random, &mut record, &[], &[t]);
         records.push(record);
     }
 }
@@ -593,7 +729,7 @@ fn waiter_numbers_alone(random: &mut Random, records: &mut Vec<Record>) {
             record.phases[party] = Party::at(phase, own);
             *record.place_mut(own) = Place::of(State::Link);
             *record.place_mut(t) = Place::waiting(party as u32);
-            mend(&mut record, &[party], &[t, own]);
+            mend(random, &mut record, &[party], &[t, own]);
             records.push(record);
         }
     }
@@ -613,7 +749,7 @@ fn waiter_parties_alone(random: &mut Random, records: &mut Vec<Record>) {
         let t = given(random, &record, Phase::Waiting);
         record.phases[party] = Party::at(Phase::Waiting, t);
         *record.place_mut(t) = Place::waiting(party as u32 + more);
-        mend(&mut record, &[party], &[t]);
+        mend(random, &mut record, &[party], &[t]);
         records.push(record);
     }
     // party n, which is free; and one that there is not
@@ -623,7 +759,7 @@ fn waiter_parties_alone(random: &mut Random, records: &mut Vec<Record>) {
         fill(random, &mut record);
         let t = record.oldest + random.below(256) as u32;
         *record.place_mut(t) = Place::waiting(u32::from(record.parties) + more);
-        mend(&mut record, &[], &[t]);
+        mend(random, &mut record, &[], &[t]);
         records.push(record);
     }
 }
@@ -637,8 +773,156 @@ fn taking_alone(random: &mut Random, records: &mut Vec<Record>) {
             fill(random, &mut record);
             let party = party_of(random, &record);
             record.phases[party] = Party::at(phase, 0);
-            mend(&mut record, &[party], &[]);
+            mend(random, &mut record, &[party], &[]);
             records.push(record);
+        }
+    }
+}
+
+/// One that fetches or puts back, on a hub with radios and on one without.
+fn radio_phases_alone(random: &mut Random, records: &mut Vec<Record>) {
+    for phase in [Phase::Fetching, Phase::PuttingBack] {
+        for has_radios in [false, true] {
+            let mut record = roomy(random);
+            record.has_radios = has_radios;
+            fill(random, &mut record);
+            let party = party_of(random, &record);
+            record.phases[party] = Party::at(phase, 0);
+            mend(random, &mut record, &[party], &[]);
+            records.push(record);
+        }
+    }
+}
+
+/// A record that fits, of a hub with so many radios.
+fn with_radios(random: &mut Random, links: u8) -> Record {
+    let mut record = roomy(random);
+    record.has_radios = true;
+    record.links = links;
+    fill(random, &mut record);
+    record
+}
+
+/// An opening with two radios alike, and both of them are there.
+fn alike_alone(random: &mut Random, records: &mut Vec<Record>) {
+    let any = 3 + random.below(29) as u8;
+    for links in [2, 3, any, 32] {
+        let last = usize::from(links) - 1;
+        for (a, b) in [(0, 1), (last - 1, last), (0, last)] {
+            let mut record = with_radios(random, links);
+            let (stays, goes) = (record.opening[a], record.opening[b]);
+            for keeper in record.keepers() {
+                if record.radio(keeper) == goes {
+                    *record.radio_mut(keeper) = stays;
+                }
+            }
+            record.opening[b] = stays;
+            records.push(record);
+        }
+    }
+}
+
+/// A radio that is foreign or there already, for another or as one too many, or none, with each
+/// that has one and in each place.
+fn kept_alone(random: &mut Random, records: &mut Vec<Record>) {
+    for kind in 0..13 {
+        for fault in 0..6 {
+            let (mut record, keeper) = kept(random, kind);
+            let own = record.radio(keeper);
+            let k = record.radios();
+            let foreign = foreign(random, &record);
+            match fault {
+                0 => *record.radio_mut(keeper) = foreign,
+                1 => *record.radio_mut(keeper) = another(random, &record, own),
+                // the opening has one less
+                2 | 3 => {
+                    let at = record.opening[..k].iter().position(|&radio| radio == own);
+                    let at = at.expect("it was dealt");
+                    record.opening.copy_within(at + 1..k, at);
+                    record.links -= 1;
+                    if fault == 3 {
+                        *record.radio_mut(keeper) = another(random, &record, own);
+                    }
+                }
+                // or one more
+                4 if k < RADIOS => {
+                    record.opening[k] = foreign;
+                    record.links += 1;
+                }
+                _ => {}
+            }
+            records.push(record);
+        }
+    }
+    // of one radio, and of 32
+    for links in [1, 32] {
+        let mut record = with_radios(random, links);
+        while record.store.is_empty() {
+            record = with_radios(random, links);
+        }
+        record.store.pop();
+        records.push(record);
+    }
+}
+
+/// A record that fits, of a hub with two radios or more, and one that has a radio: in each phase,
+/// at a place, in the store; the first of them, the last of them.
+fn kept(random: &mut Random, kind: usize) -> (Record, Keeper) {
+    const PHASES: [Phase; 5] =
+        [Phase::Holding, Phase::GivingBack, Phase::PuttingBack, Phase::Carrying, Phase::Handing];
+    let links = 2 + random.below(30) as u8;
+    let mut record = with_radios(random, links);
+    if kind >= 10 {
+        // stored: any, the first, the 32nd
+        while record.store.is_empty() {
+            record = with_radios(random, links);
+        }
+        if kind == 12 {
+            record = roomy(random);
+            (record.has_radios, record.links) = (true, 32);
+            deal(random, &mut record);
+        }
+        let any = random.below(record.store.len() as u64) as usize;
+        return (record, Keeper::Store([any, 0, 31][kind - 10]));
+    }
+    if kind >= 7 {
+        let at = [random.below(256) as usize, 0, 255][kind - 7];
+        record.places[at] = Place::of(State::Link);
+        mend(random, &mut record, &[], &[at as u32]);
+        return (record, Keeper::Place(at));
+    }
+    let phase = PHASES[kind % 5];
+    let party = match kind {
+        5 => 0,
+        6 => 31,
+        _ => party_of(random, &record),
+    };
+    if party == 31 {
+        record.parties = 32;
+    }
+    let t = given(random, &record, phase);
+    settle(random, &mut record, party, phase, t);
+    mend(random, &mut record, &[party], &[]);
+    (record, Keeper::Party(party))
+}
+
+/// A radio that is none of the opening's: at times one of those past K.
+fn foreign(random: &mut Random, record: &Record) -> u8 {
+    let opening = &record.opening[..record.radios()];
+    loop {
+        let radio = damaged_radio(random, record);
+        if !opening.contains(&radio) {
+            return radio;
+        }
+    }
+}
+
+/// A radio of the opening that is not this one.
+fn another(random: &mut Random, record: &Record, own: u8) -> u8 {
+    loop {
+        let radio = random.pick(&record.opening[..record.radios()]);
+        if radio != own {
+            return radio;
         }
     }
 }
@@ -671,7 +955,7 @@ fn untidy(random: &mut Random) -> Record {
             lay(&mut record, handed, 1 + few, cancelled);
         }
     }
-    mend(&mut record, &[], &[]);
+    mend(random, &mut record, &[], &[]);
     record
 }
 
@@ -714,7 +998,7 @@ fn to_unfit(random: &mut Random) -> Case {
         7 => lay(&mut record, oldest, 1, State::Done),
         _ => {}
     }
-    mend(&mut record, &[], &[]);
+    mend(random, &mut record, &[], &[]);
     let code = usual(record.phases[party].phase);
     Case::new(Family::ToUnfit, &record, [code, party as u8])
 }
@@ -730,16 +1014,44 @@ fn odd_bytes(random: &mut Random) -> Case {
         return case;
     }
     let (record, call) = case.bytes.split_at_mut(RECORD);
-    for (at, cell) in record[22..].chunks_mut(5).enumerate() {
+    record[RADIOS_AT] += 2 * random.below(127) as u8;
+    record[STORED_AT] += 33 * random.below(6) as u8;
+    for (at, cell) in record[22..RADIOS_AT].chunks_mut(5).enumerate() {
         let (count, carries): (u8, &[u8]) =
-            if at < PLACES { (6, &[1]) } else { (12, &[2, 5, 6, 7, 8, 11]) };
+            if at < PLACES { (6, &[1]) } else { (14, &[2, 5, 6, 7, 8, 11]) };
         if !carries.contains(&cell[0]) {
             cell[1..].iter_mut().for_each(|byte| *byte = random.byte());
         }
         cell[0] += count * random.below((256 / u64::from(count)) - 1) as u8;
     }
-    call[0] = call[0] % 4 + 4 * random.below(64) as u8;
+    call[0] = call[0] % 5 + 5 * random.below(51) as u8;
     case
+}
+
+/// The store turned; and, in every other case, radios where they count for nothing.
+fn litter(random: &mut Random, bytes: &mut [u8]) {
+    let record = Record::read(bytes);
+    if record.has_radios {
+        bytes[TURNED_AT] = random.byte();
+    }
+    if random.one_in(2) {
+        return;
+    }
+    let opening = random.one_in(2) && record.has_radios;
+    let mut any = |byte: &mut u8| {
+        *byte = if opening { random.pick(&record.opening) } else { random.byte() };
+    };
+    if !record.has_radios {
+        bytes[OPENING_AT..RECORD].iter_mut().for_each(any);
+        return;
+    }
+    for party in (0..PARTIES).filter(|&party| !record.phases[party].phase.has_radio()) {
+        any(&mut bytes[WITH_PARTY_AT + party]);
+    }
+    for at in (0..PLACES).filter(|&at| record.places[at].state != State::Link) {
+        any(&mut bytes[AT_PLACE_AT + at]);
+    }
+    bytes[STORE_AT + record.store.len()..RECORD].iter_mut().for_each(any);
 }
 
 /// The few cases of crates/probe/stdin.
@@ -777,11 +1089,111 @@ pub fn sample() -> Vec<u8> {
     // the same, but for a waiter that is not 7
     *untidy.place_mut(1003) = Place::waiting(7 + 256);
     add(&untidy, [STEP, 1]);
-    // all places are empty and party 0 holds, and it gives back
+    // all places are empty and party 0 holds, and it gives back; radios that count for nothing
     let odd = bytes.len();
     bytes.extend(opened.bytes());
-    bytes.extend([0xFF, 0]);
+    bytes.extend([0xFE, 0]);
     bytes[odd + 22..odd + 1302].fill(252);
     bytes[odd + 1302] = 253;
+    bytes[odd + RADIOS_AT] = 0xFE;
+    bytes[odd + OPENING_AT..odd + RECORD].fill(0xA7);
+    sample_with_radios(&mut bytes);
     bytes
+}
+
+/// Those of a hub with radios. Its store is turned, in most of them so far that it goes over the
+/// end of a ring.
+fn sample_with_radios(bytes: &mut Vec<u8>) {
+    let mut add = |record: &Record, turned: u8, call: [u8; 2]| {
+        let start = bytes.len();
+        bytes.extend(record.bytes());
+        bytes[start + TURNED_AT] = turned;
+        bytes.extend(call);
+    };
+    let opened = Record::opened_with(3, &[0xA7, 0x00, 0xFF]);
+    add(&opened, 0, [ASK, 2]);
+    add(&opened, 5, [RADIO, 2]);
+    add(&opened, 5, [RADIO, 3]);
+    // the link is there, and then the first radio
+    let mut fetching = opened.clone();
+    fetching.phases[1] = Party::at(Phase::Asked, 0);
+    add(&fetching, 31, [STEP, 1]);
+    fetching.phases[1] = Party::at(Phase::Fetching, 0);
+    fetching.counter = 2;
+    add(&fetching, 31, [STEP, 1]);
+    // everywhere a radio can be; places done from oldest on, a cancelled one at handed
+    let mut full = Record::opened_with(10, &[10, 11, 12, 13, 14, 15, 16, 17]);
+    (full.oldest, full.numbered, full.handed) = (1000, 1010, 1004);
+    lay(&mut full, 1000, 2, State::Done);
+    lay(&mut full, 1004, 1, State::Cancelled);
+    lay(&mut full, 1002, 1, State::Refused);
+    lay(&mut full, 1005, 2, State::Link);
+    *full.place_mut(1003) = Place::waiting(6);
+    let parties = [
+        (Phase::Holding, 0, 14),
+        (Phase::GivingBack, 0, 12),
+        (Phase::PuttingBack, 0, 10),
+        (Phase::Carrying, 0, 16),
+        (Phase::Handing, 1002, 17),
+        (Phase::Fetching, 0, 0),
+        (Phase::Waiting, 1003, 0),
+        (Phase::Refusing, 1005, 0),
+        (Phase::Cancelling, 1006, 0),
+    ];
+    for (party, (phase, number, radio)) in parties.into_iter().enumerate() {
+        full.phases[party] = Party::at(phase, number);
+        full.with_party[party] = radio;
+    }
+    full.at_place[1005 % PLACES] = 11;
+    full.at_place[1006 % PLACES] = 13;
+    full.store = vec![15];
+    full.counter = 0;
+    // 26, 38, 28, 2D, 36, 33 and 31
+    for party in [1, 2, 3, 4, 5, 7, 8] {
+        add(&full, 255, [STEP, party]);
+    }
+    // 39 tidies nothing, with each
+    for party in 0..10 {
+        add(&full, 31, [RADIO, party]);
+    }
+    // 25, found at a place
+    let mut found = full.clone();
+    found.phases[8] = Party::at(Phase::Numbered, 1006);
+    add(&found, 30, [STEP, 8]);
+    // 2A, with the radio; 2B and 29, which leave it
+    let mut handing = full.clone();
+    handing.phases[4].number = 1003;
+    add(&handing, 1, [STEP, 4]);
+    handing.phases[6].phase = Phase::GivingUp;
+    add(&handing, 1, [STEP, 4]);
+    handing.phases[6] = Party::FREE;
+    *handing.place_mut(1003) = Place::EMPTY;
+    add(&handing, 1, [STEP, 4]);
+    // the store is empty: 37, and nothing is tidied
+    let mut empty = full.clone();
+    empty.links = 7;
+    empty.opening = Record::opened_with(1, &[10, 11, 12, 13, 14, 16, 17]).opening;
+    empty.store.clear();
+    add(&empty, 17, [STEP, 5]);
+    // the last one of a full ring
+    let mut all = Record::opened_with(2, &(0..32).map(|at| 200 - at).collect::<Vec<u8>>());
+    all.store.pop();
+    all.phases[0] = Party::at(Phase::PuttingBack, 0);
+    all.with_party[0] = 200 - 31;
+    add(&all, 1, [STEP, 0]);
+    // one missing, one twice, a foreign one, two of the opening alike
+    let mut wrong = full.clone();
+    wrong.store.clear();
+    add(&wrong, 0, [RADIO, 0]);
+    wrong.store = vec![15, 15];
+    add(&wrong, 31, [RADIO, 0]);
+    wrong.store = vec![18];
+    add(&wrong, 0, [RADIO, 0]);
+    let mut alike = Record::opened_with(3, &[0xA7, 0x00, 0xA7]);
+    add(&alike, 0, [ASK, 0]);
+    // and no radios, but one that fetches
+    alike.has_radios = false;
+    alike.clear_radios();
+    alike.phases[1] = Party::at(Phase::Fetching, 0);
+    add(&alike, 0, [ASK, 0]);
 }

@@ -4,11 +4,11 @@
 mod process;
 mod schedules;
 
-use schedules::{hex, schedule, Habits, House, Random, Seen};
+use schedules::{hex, opening, radios, schedule, Habits, House, Random, Seen};
 use std::process::ExitCode;
 use std::{env, thread};
 
-/// Calls of the one long schedule: enough for numbers of more than two bytes.
+/// Calls of a long schedule: enough for numbers of more than two bytes.
 const LONG: u64 = 600_000;
 
 /// Lines of a difference that are shown; the seed gives the rest.
@@ -17,14 +17,14 @@ const SHOWN: usize = 30;
 /// As many lines are gone through one by one for the shortest difference.
 const SEARCHED: usize = 12_000;
 
-/// The seed of the long schedule, which comes last.
-const LAST: u64 = 0;
+/// The seeds of the long schedules, which come last: without radios, and with them.
+const LAST: [u64; 2] = [0, u64::MAX];
 
 /// The input of a seed: mostly good schedules, then damaged ones, then bytes.
 fn input(seed: u64) -> Vec<u8> {
     let random = &mut Random::seeded(seed);
     match random.below(10) {
-        _ if seed == LAST => long(random),
+        _ if LAST.contains(&seed) => long(random, seed == LAST[1]),
         0 => bytes(random),
         1..=4 => damaged(random),
         _ => joined(&schedule(random, 4000).lines(), true),
@@ -43,12 +43,13 @@ fn joined<T: AsRef<[u8]>>(lines: &[T], ended: bool) -> Vec<u8> {
     input
 }
 
-/// Everybody waits for one link, and most waits are served.
-fn long(random: &mut Random) -> Vec<u8> {
-    let mut house = House::new(1, 6);
+/// Everybody waits for one link, and most waits are served; for one of three with radios.
+fn long(random: &mut Random, with_radios: bool) -> Vec<u8> {
+    let (permits, opening) = if with_radios { (3, "020306A70931") } else { (1, "010106") };
+    let mut house = House::with_radios(permits, 6, with_radios);
     let habits = Habits { ask: 8, give_up: 1, give_back: 8, asleep: 0, stray: 1000 };
     let calls = (0..LONG).map(|_| hex(&house.call(random, &habits)));
-    let lines: Vec<String> = ["010106".to_string()].into_iter().chain(calls).collect();
+    let lines: Vec<String> = [opening.to_string()].into_iter().chain(calls).collect();
     joined(&lines, true)
 }
 
@@ -56,20 +57,25 @@ fn long(random: &mut Random) -> Vec<u8> {
 fn damaged(random: &mut Random) -> Vec<u8> {
     let mut lines: Vec<Vec<u8>> =
         schedule(random, 800).lines().into_iter().map(String::into_bytes).collect();
-    let opening = lines[0].clone();
+    let first = lines[0].clone();
     for _ in 0..random.below(4) {
         // twice, too late, or not at all
         let at = random.below(lines.len() as u64) as usize;
-        match random.below(4) {
+        match random.below(6) {
             0 => lines.swap(0, at.min(10)),
             1 => lines.insert(at, hex(&[1, random.byte(), random.byte()]).into_bytes()),
             2 => lines.insert(at.min(3), b"010001".to_vec()),
-            _ => lines.insert(at, opening.clone()),
+            3 => lines.insert(at, hex(&opening(random).opening()).into_bytes()),
+            4 => lines.insert(0, hex(&opening(random).opening()).into_bytes()),
+            _ => lines.insert(at, first.clone()),
         }
     }
     if random.one_in(2) {
-        lines.insert(0, opening);
+        lines.insert(0, first);
         damage(random, &mut lines[0]);
+    }
+    if random.one_in(4) {
+        lines.insert(0, bounded_opening(random));
     }
     let odds = random.pick(&[3, 10, 50]);
     for line in &mut lines {
@@ -80,6 +86,20 @@ fn damaged(random: &mut Random) -> Vec<u8> {
     joined(&lines, random.one_in(2))
 }
 
+/// An opening with radios in a line that is about as long as a line may be.
+fn bounded_opening(random: &mut Random) -> Vec<u8> {
+    let permits = 75 + random.below(5) as u8;
+    let mut frame = vec![2, permits, random.pick(&[0, 1, 33])];
+    frame.extend(radios(random, permits));
+    let mut line = hex(&frame).into_bytes();
+    match random.below(5) {
+        0 => line.push(b'0'),
+        1 => drop(line.pop()),
+        _ => {}
+    }
+    line
+}
+
 fn damage(random: &mut Random, line: &mut Vec<u8>) {
     const STRAY: &[u8] = b"\r\0 \t\n\x0b\x80\xff/:@G`gxX+-.";
     const DIGITS: &[u8] = b"0123456789ABCDEFabcdef";
@@ -88,7 +108,7 @@ fn damage(random: &mut Random, line: &mut Vec<u8>) {
         return;
     }
     let at = random.below(line.len() as u64) as usize;
-    match random.below(14) {
+    match random.below(15) {
         0 => drop(line.remove(at)),
         1 => line.insert(at, line[at]),
         2 => line[at] = random.byte(),
@@ -102,14 +122,15 @@ fn damage(random: &mut Random, line: &mut Vec<u8>) {
         10 => line.extend([random.pick(DIGITS), random.pick(DIGITS)]),
         11 => {
             let any = random.byte();
-            let code = random.pick(&[0, 2, 0x0F, 0x14, 0x1F, 0x20, any]);
+            let code = random.pick(&[0, 1, 2, 3, 0x0F, 0x14, 0x15, 0x1F, 0x20, any]);
             line.splice(..2, hex(&[code]).into_bytes());
         }
+        12 => line.truncate(line.len() - 2),
         // the line over and over, about as long as a line may be, or far longer
-        12 => *line = line.iter().copied().cycle().take(60 + random.below(11) as usize).collect(),
+        13 => *line = line.iter().copied().cycle().take(155 + random.below(11) as usize).collect(),
         _ => {
             let most = random.pick(&[300, 300, 300, 70_000]);
-            let length = 71 + random.below(most) as usize;
+            let length = 60 + random.below(most) as usize;
             *line = line.iter().copied().cycle().take(length).collect();
         }
     }
@@ -120,7 +141,7 @@ fn bytes(random: &mut Random) -> Vec<u8> {
     let all: Vec<u8> = (0..=255).collect();
     let alphabets: [&[u8]; 4] = [&all, b"01\n", b"0123456789abcdefABCDEF\n", b"01\n\r\0 "];
     let alphabet = random.pick(&alphabets);
-    let opening = random.pick(&["", "010103\n", "01"]).as_bytes();
+    let opening = random.pick(&["", "010103\n", "01", "020103A7\n", "0201"]).as_bytes();
     let most = random.pick(&[4, 100, 3000]);
     let rest = (0..random.below(most)).map(|_| random.pick(alphabet));
     opening.iter().copied().chain(rest).collect()
@@ -185,7 +206,7 @@ fn main() -> ExitCode {
     let programs = [proved.as_str(), second.as_str()];
     let schedules: u64 = schedules.parse().expect("SCHEDULES is a number");
     let mut seen = Seen::nothing();
-    for seed in (1..=schedules).chain([LAST]) {
+    for seed in (1..=schedules).chain(LAST) {
         let input = input(seed);
         let piece = [input.len(), 4096, 7][(seed % 3) as usize];
         let [ours, theirs] = outputs(programs, &input, piece);
@@ -198,9 +219,10 @@ fn main() -> ExitCode {
             seen.count(u8::from_str_radix(code.expect("two digits"), 16).expect("a code"));
         }
     }
-    println!("proved and second program: {schedules} inputs and a long one, equal");
+    println!("proved and second program: {schedules} inputs and two long ones, equal");
     // 1 no opening reaches, 6 takes a million asks
-    if seen.shows((2..=13).filter(|&refusal| refusal != 6).chain(0x1F..=0x33).chain([0x7E])) {
+    let refusals = (2..=14).filter(|&refusal| refusal != 6);
+    if seen.shows(refusals.chain(0x1F..=0x33).chain(0x36..=0x39).chain([0x7E])) {
         ExitCode::SUCCESS
     } else {
         ExitCode::FAILURE

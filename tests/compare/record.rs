@@ -4,14 +4,26 @@ use std::fmt;
 
 pub const PLACES: usize = 256;
 pub const PARTIES: usize = 32;
+/// Most radios of a hub.
+pub const RADIOS: usize = 32;
 /// Bytes of a record, of a case (a record and a call) and of a reply (an answer and a record).
-pub const RECORD: usize = 1462;
+pub const RECORD: usize = 1817;
 pub const CASE: usize = RECORD + 2;
 pub const REPLY: usize = 7 + RECORD;
 
 /// Where the places and the phases begin.
 const PLACES_AT: usize = 22;
 const PHASES_AT: usize = PLACES_AT + 5 * PLACES;
+
+/// Where the radios begin, with a byte that says whether the hub has them: those of the opening,
+/// with the parties, at the places, and the store: how far it is turned, how many, and which.
+pub const RADIOS_AT: usize = PHASES_AT + 5 * PARTIES;
+pub const OPENING_AT: usize = RADIOS_AT + 1;
+pub const WITH_PARTY_AT: usize = OPENING_AT + RADIOS;
+pub const AT_PLACE_AT: usize = WITH_PARTY_AT + PARTIES;
+pub const TURNED_AT: usize = AT_PLACE_AT + PLACES;
+pub const STORED_AT: usize = TURNED_AT + 1;
+pub const STORE_AT: usize = STORED_AT + 1;
 
 #[derive(Clone, Copy, PartialEq)]
 pub enum State {
@@ -41,9 +53,11 @@ pub enum Phase {
     GivingBack,
     Carrying,
     Handing,
+    Fetching,
+    PuttingBack,
 }
 
-pub const PHASES: [Phase; 12] = [
+pub const PHASES: [Phase; 14] = [
     Phase::Free,
     Phase::Holding,
     Phase::Waiting,
@@ -56,8 +70,10 @@ pub const PHASES: [Phase; 12] = [
     Phase::GivingBack,
     Phase::Carrying,
     Phase::Handing,
+    Phase::Fetching,
+    Phase::PuttingBack,
 ];
-pub const PHASE_NAMES: [&str; 12] = [
+pub const PHASE_NAMES: [&str; 14] = [
     "free",
     "holding",
     "waiting",
@@ -70,12 +86,25 @@ pub const PHASE_NAMES: [&str; 12] = [
     "giving back",
     "carrying",
     "handing",
+    "fetching",
+    "putting back",
 ];
 
 impl Phase {
     pub fn has_number(self) -> bool {
         use Phase::*;
         matches!(self, Waiting | Numbered | GivingUp | Cancelling | Refusing | Handing)
+    }
+
+    /// Whether a party in this phase has a radio, on a hub with radios.
+    pub fn has_radio(self) -> bool {
+        use Phase::*;
+        matches!(self, Holding | GivingBack | PuttingBack | Carrying | Handing)
+    }
+
+    /// Whether there is this phase on a hub with radios alone.
+    pub fn needs_radios(self) -> bool {
+        matches!(self, Phase::Fetching | Phase::PuttingBack)
     }
 }
 
@@ -131,7 +160,7 @@ impl Party {
     }
 
     fn read(bytes: &[u8]) -> Self {
-        let phase = PHASES[usize::from(bytes[0] % 12)];
+        let phase = PHASES[usize::from(bytes[0] % 14)];
         Party::at(phase, if phase.has_number() { number(&bytes[1..]) } else { 0 })
     }
 }
@@ -158,6 +187,24 @@ pub struct Record {
     /// The place of a number is at its remainder.
     pub places: [Place; PLACES],
     pub phases: [Party; PARTIES],
+    /// Whether the hub has radios; without them all below is 0 and the store empty.
+    pub has_radios: bool,
+    /// The opening's radios, of which the first K count.
+    pub opening: [u8; RADIOS],
+    /// 0 with a party that has none.
+    pub with_party: [u8; PARTIES],
+    /// 0 at a place that has none.
+    pub at_place: [u8; PLACES],
+    /// The first to be taken first.
+    pub store: Vec<u8>,
+}
+
+/// Where a radio can be: with a party, at a place, or stored, the first at 0.
+#[derive(Clone, Copy, PartialEq)]
+pub enum Keeper {
+    Party(usize),
+    Place(usize),
+    Store(usize),
 }
 
 /// The elements that differ from another array's. Equal ones side by side are shown as one.
@@ -197,7 +244,21 @@ impl Record {
             oldest: 0,
             places: [Place::EMPTY; PLACES],
             phases: [Party::FREE; PARTIES],
+            has_radios: false,
+            opening: [0; RADIOS],
+            with_party: [0; PARTIES],
+            at_place: [0; PLACES],
+            store: Vec::new(),
         }
+    }
+
+    /// The record of an opening with radios.
+    pub fn opened_with(parties: u8, radios: &[u8]) -> Self {
+        let mut record = Record::opened(radios.len() as u8, parties);
+        record.has_radios = true;
+        record.opening[..radios.len()].copy_from_slice(radios);
+        record.store = radios.to_vec();
+        record
     }
 
     pub fn read(bytes: &[u8]) -> Self {
@@ -206,10 +267,11 @@ impl Record {
             *place = Place::read(bytes);
         }
         let mut phases = [Party::FREE; PARTIES];
-        for (party, bytes) in phases.iter_mut().zip(bytes[PHASES_AT..RECORD].chunks(5)) {
+        for (party, bytes) in phases.iter_mut().zip(bytes[PHASES_AT..RADIOS_AT].chunks(5)) {
             *party = Party::read(bytes);
         }
-        Record {
+        let stored = usize::from(bytes[STORED_AT]) % (RADIOS + 1);
+        let mut record = Record {
             links: bytes[0],
             parties: bytes[1],
             counter: number(&bytes[2..]) as i32,
@@ -219,6 +281,34 @@ impl Record {
             oldest: number(&bytes[18..]),
             places,
             phases,
+            has_radios: bytes[RADIOS_AT] % 2 == 1,
+            opening: [0; RADIOS],
+            with_party: [0; PARTIES],
+            at_place: [0; PLACES],
+            store: bytes[STORE_AT..STORE_AT + stored].to_vec(),
+        };
+        record.opening.copy_from_slice(&bytes[OPENING_AT..WITH_PARTY_AT]);
+        record.with_party.copy_from_slice(&bytes[WITH_PARTY_AT..AT_PLACE_AT]);
+        record.at_place.copy_from_slice(&bytes[AT_PLACE_AT..TURNED_AT]);
+        record.clear_radios();
+        record
+    }
+
+    /// A radio that counts for nothing is 0.
+    pub fn clear_radios(&mut self) {
+        if !self.has_radios {
+            self.opening = [0; RADIOS];
+            self.store.clear();
+        }
+        for party in 0..PARTIES {
+            if !self.has_radios || !self.phases[party].phase.has_radio() {
+                self.with_party[party] = 0;
+            }
+        }
+        for at in 0..PLACES {
+            if !self.has_radios || self.places[at].state != State::Link {
+                self.at_place[at] = 0;
+            }
         }
     }
 
@@ -235,7 +325,43 @@ impl Record {
             bytes.push(name);
             bytes.extend(number.to_be_bytes());
         }
+        bytes.push(u8::from(self.has_radios));
+        bytes.extend(self.opening);
+        bytes.extend(self.with_party);
+        bytes.extend(self.at_place);
+        bytes.extend([0, self.store.len() as u8]);
+        bytes.extend(&self.store);
+        bytes.resize(RECORD, 0);
         bytes
+    }
+
+    /// How many radios of the opening count.
+    pub fn radios(&self) -> usize {
+        usize::from(self.links).min(RADIOS)
+    }
+
+    /// The parties and the places that have a radio, on a hub with radios, and the store.
+    pub fn keepers(&self) -> Vec<Keeper> {
+        let parties = (0..PARTIES).filter(|&party| self.phases[party].phase.has_radio());
+        let places = (0..PLACES).filter(|&at| self.places[at].state == State::Link);
+        let stored = (0..self.store.len()).map(Keeper::Store);
+        parties.map(Keeper::Party).chain(places.map(Keeper::Place)).chain(stored).collect()
+    }
+
+    pub fn radio(&self, keeper: Keeper) -> u8 {
+        match keeper {
+            Keeper::Party(party) => self.with_party[party],
+            Keeper::Place(at) => self.at_place[at],
+            Keeper::Store(at) => self.store[at],
+        }
+    }
+
+    pub fn radio_mut(&mut self, keeper: Keeper) -> &mut u8 {
+        match keeper {
+            Keeper::Party(party) => &mut self.with_party[party],
+            Keeper::Place(at) => &mut self.at_place[at],
+            Keeper::Store(at) => &mut self.store[at],
+        }
     }
 
     pub fn place(&self, number: u32) -> Place {
@@ -250,14 +376,19 @@ impl Record {
     pub fn differences(&self, other: &Record) -> Vec<String> {
         let figures = self.figures().into_iter().zip(other.figures());
         let figures = figures.filter(|(ours, theirs)| ours != theirs);
+        let store = format!("stored {:?}", self.store);
         figures
             .map(|((name, value), _)| format!("{name} {value}"))
             .chain(runs("place", &self.places, &other.places))
             .chain(runs("party", &self.phases, &other.phases))
+            .chain(runs("opening's radio", &self.opening, &other.opening))
+            .chain(runs("radio with party", &self.with_party, &other.with_party))
+            .chain(runs("radio at place", &self.at_place, &other.at_place))
+            .chain((self.store != other.store).then_some(store))
             .collect()
     }
 
-    fn figures(&self) -> [(&str, i64); 7] {
+    fn figures(&self) -> [(&str, i64); 8] {
         [
             ("K", self.links.into()),
             ("n", self.parties.into()),
@@ -266,6 +397,7 @@ impl Record {
             ("handed", self.handed.into()),
             ("begun", self.begun.into()),
             ("oldest", self.oldest.into()),
+            ("radios", self.has_radios.into()),
         ]
     }
 }
@@ -273,11 +405,17 @@ impl Record {
 impl fmt::Display for Record {
     fn fmt(&self, f: &mut fmt::Formatter) -> fmt::Result {
         let figures = self.figures().map(|(name, value)| format!("{name} {value}"));
-        // places that are not empty and parties that are not free
+        // places that are not empty, parties that are not free, and the radios
+        let bare = Record { has_radios: self.has_radios, ..Record::opened(0, 0) };
         let bare = Record {
-            places: [Place::EMPTY; PLACES],
-            phases: [Party::FREE; PARTIES],
-            ..self.clone()
+            links: self.links,
+            parties: self.parties,
+            counter: self.counter,
+            numbered: self.numbered,
+            handed: self.handed,
+            begun: self.begun,
+            oldest: self.oldest,
+            ..bare
         };
         let rest = self.differences(&bare);
         write!(f, "{}", figures.join(", "))?;

@@ -66,7 +66,8 @@ impl Counts {
         let families: Vec<String> =
             FAMILIES.iter().zip(self.families).map(|(name, n)| format!("{name} {n}")).collect();
         println!("  {}", families.join(", "));
-        let answers = self.answers.shows((4..=11).chain([1]).chain(0x20..=0x33));
+        let expected = (4..=11).chain([1]).chain(0x20..=0x33).chain(0x36..=0x39);
+        let answers = self.answers.shows(expected);
         let decided = self.decided.shows();
         let left: Vec<String> =
             LEFT.iter().zip(self.left).map(|((name, _), n)| format!("{name} {n}")).collect();

@@ -4,6 +4,7 @@ pub const ASK: u8 = 0x10;
 pub const STEP: u8 = 0x11;
 pub const GIVE_UP: u8 = 0x12;
 pub const GIVE_BACK: u8 = 0x13;
+pub const RADIO: u8 = 0x14;
 
 /// A generator of numbers, the same for the same seed (xorshift).
 pub struct Random(u64);
@@ -38,10 +39,12 @@ impl Random {
     }
 }
 
-/// An opening's K and n, and the calls after it, each a code and a party.
+/// An opening's K and n and its radios, if it is one with radios; and the calls after it, each a
+/// code and a party.
 pub struct Schedule {
     pub permits: u8,
     pub parties: u8,
+    pub radios: Option<Vec<u8>>,
     pub calls: Vec<[u8; 2]>,
 }
 
@@ -61,6 +64,8 @@ enum Phase {
     GivingBack,
     Carrying,
     Handing(Number),
+    Fetching,
+    PuttingBack,
 }
 
 #[derive(Clone, Copy, PartialEq)]
@@ -106,9 +111,17 @@ pub struct House {
     numbered: Number,
     handed: Number,
     oldest: Number,
+    /// How many radios are stored, on a hub with radios.
+    stored: Option<usize>,
 }
 
 impl House {
+    /// A hub opened with radios, or one without.
+    pub fn with_radios(permits: u8, parties: u8, radios: bool) -> Self {
+        let stored = radios.then_some(usize::from(permits));
+        House { stored, ..House::new(permits, parties) }
+    }
+
     pub fn new(permits: u8, parties: u8) -> Self {
         House {
             phases: vec![Phase::Free; usize::from(parties)],
@@ -117,6 +130,7 @@ impl House {
             numbered: 0,
             handed: 0,
             oldest: 0,
+            stored: None,
         }
     }
 
@@ -140,10 +154,13 @@ impl House {
             1 => parties as u8,
             _ => random.below(parties) as u8,
         };
-        [random.pick(&[ASK, STEP, GIVE_UP, GIVE_BACK]), party]
+        [random.pick(&[ASK, STEP, GIVE_UP, GIVE_BACK, RADIO]), party]
     }
 
     fn sensible_call(&self, random: &mut Random, habits: &Habits) -> [u8; 2] {
+        if self.stored.is_some() && random.one_in(10) {
+            return [RADIO, random.below(self.phases.len() as u64) as u8];
+        }
         for _ in 0..8 {
             let party = random.below(self.phases.len() as u64) as usize;
             if habits.asleep >> party & 1 == 1 && !random.one_in(500) {
@@ -193,11 +210,24 @@ impl House {
             Phase::Free | Phase::Holding | Phase::Waiting(_) => return phase,
             Phase::Asked => {
                 self.counter -= 1;
-                return if before > 0 { Phase::Holding } else { Phase::Unnumbered };
+                let acquired = if self.stored.is_some() { Phase::Fetching } else { Phase::Holding };
+                return if before > 0 { acquired } else { Phase::Unnumbered };
             }
             Phase::GivingBack => {
                 self.counter += 1;
-                return if before >= 0 { Phase::Free } else { Phase::Carrying };
+                let released = if self.stored.is_some() { Phase::PuttingBack } else { Phase::Free };
+                return if before >= 0 { released } else { Phase::Carrying };
+            }
+            Phase::Fetching => match &mut self.stored {
+                Some(stored) if *stored > 0 => {
+                    *stored -= 1;
+                    return Phase::Holding;
+                }
+                _ => return phase,
+            },
+            Phase::PuttingBack => {
+                self.store_one();
+                return Phase::Free;
             }
             Phase::GivingUp(t) => {
                 self.counter += 1;
@@ -221,7 +251,10 @@ impl House {
                     (t, Place::Done, Phase::Free)
                 }
                 Place::Cancelled => (t, Place::Done, Phase::Carrying),
-                Place::Refused => (t, Place::Done, Phase::Free),
+                Place::Refused => {
+                    self.store_one();
+                    (t, Place::Done, Phase::Free)
+                }
                 _ => (t, Place::Link, Phase::Free),
             },
             Phase::Cancelling(t) => match self.places[t] {
@@ -229,30 +262,83 @@ impl House {
                 _ => (t, Place::Cancelled, Phase::Free),
             },
             Phase::Refusing(t) => match self.places[t] {
-                Place::Link => (t, Place::Done, Phase::Free),
+                Place::Link => {
+                    self.store_one();
+                    (t, Place::Done, Phase::Free)
+                }
                 _ => (t, Place::Refused, Phase::Free),
             },
         };
         self.places[t] = place;
         next
     }
+
+    fn store_one(&mut self) {
+        self.stored = self.stored.map(|stored| stored + 1);
+    }
+}
+
+/// So many radios, no two alike.
+pub fn radios(random: &mut Random, count: u8) -> Vec<u8> {
+    // an odd step meets every byte before one comes again
+    let (first, step) = (random.byte(), random.byte() | 1);
+    let mut radios: Vec<u8> =
+        (0..count).map(|at| first.wrapping_add(at.wrapping_mul(step))).collect();
+    for _ in 0..random.pick(&[0, 40]) {
+        let [a, b] = [0; 2].map(|_| random.below(u64::from(count).max(1)) as usize);
+        if count > 0 {
+            radios.swap(a, b);
+        }
+    }
+    radios
+}
+
+/// Any opening, near the bounds or far from them: of either code, with radios too many, too few
+/// or alike.
+pub fn opening(random: &mut Random) -> Schedule {
+    let bound = |random: &mut Random, more: &[u8]| {
+        let any = random.byte();
+        let far = random.pick(more);
+        random.pick(&[0, 1, 31, 32, 33, any, far])
+    };
+    let permits = bound(random, &[2, 77, 78]);
+    let parties = bound(random, &[2, 3]);
+    let few = 1 + random.below(32) as u8;
+    let (permits, parties, radios) = match random.below(10) {
+        0..=3 => (permits, parties, None),
+        // right but for one thing
+        4 => (few, 1 + parties % 32, Some(alike(random, few))),
+        5 => {
+            let count = random.pick(&[few - 1, few + 1, permits]);
+            (few, 1 + parties % 32, Some(radios(random, count)))
+        }
+        6 => (few, parties, Some(alike(random, few))),
+        7 => (permits, parties, Some(alike(random, permits))),
+        _ => (permits, parties, Some(radios(random, permits))),
+    };
+    Schedule { permits, parties, radios, calls: Vec::new() }
+}
+
+/// So many radios, two of them alike if there are two.
+fn alike(random: &mut Random, count: u8) -> Vec<u8> {
+    let mut radios = radios(random, count);
+    let [a, b] = [0; 2].map(|_| random.below(u64::from(count).max(1)) as usize);
+    if count >= 2 {
+        radios[a] = radios[if a == b { (b + 1) % usize::from(count) } else { b }];
+    }
+    radios
 }
 
 /// One of many kinds of schedule, of at most about `most` calls.
 pub fn schedule(random: &mut Random, most: u64) -> Schedule {
-    if random.one_in(40) {
-        // any opening, near the bounds or far from them
-        let bound = |random: &mut Random| {
-            let any = random.byte();
-            random.pick(&[0, 1, 31, 32, 33, any])
-        };
-        let (permits, parties) = (bound(random), bound(random));
-        let mut schedule = Schedule { permits, parties, calls: Vec::new() };
-        let mut house = House::new(permits, parties.clamp(1, 32));
+    if random.one_in(20) {
+        let mut schedule = opening(random);
+        let parties = schedule.parties.clamp(1, 32);
+        let mut house = House::with_radios(schedule.permits, parties, schedule.radios.is_some());
         schedule.live(random, &mut house, most / 8);
         return schedule;
     }
-    if random.one_in(30) && most >= 4000 {
+    if random.one_in(15) && most >= 4000 {
         return long_wait(random);
     }
     // few links and few parties meet most often; kind 3 needs a full house
@@ -262,9 +348,11 @@ pub fn schedule(random: &mut Random, most: u64) -> Schedule {
     };
     let permits = up_to(random, &[1, 2, 4, 32]);
     let parties = if random.one_in(6) { 32 } else { up_to(random, &[4, 8, 32]) };
-    let mut schedule = Schedule { permits, parties, calls: Vec::new() };
+    let radios = random.one_in(2).then(|| radios(random, permits));
+    let mut house = House::with_radios(permits, parties, radios.is_some());
+    let mut schedule = Schedule { permits, parties, radios, calls: Vec::new() };
     let total = if random.one_in(8) { most } else { 10 + random.below(most / 8) };
-    schedule.live(random, &mut House::new(permits, parties), total);
+    schedule.live(random, &mut house, total);
     schedule
 }
 
@@ -272,11 +360,15 @@ pub fn schedule(random: &mut Random, most: u64) -> Schedule {
 /// the places run out, and try again now and then; then the two wake up.
 fn long_wait(random: &mut Random) -> Schedule {
     let parties = 3 + random.below(30) as u8;
-    let mut house = House::new(1, parties);
-    let mut schedule = Schedule { permits: 1, parties, calls: Vec::new() };
-    for call in [[ASK, 0], [STEP, 0], [ASK, 1], [STEP, 1], [STEP, 1], [STEP, 1]] {
+    let radios = random.one_in(2).then(|| radios(random, 1));
+    let mut house = House::with_radios(1, parties, radios.is_some());
+    // with radios it takes one step more to sleep on it
+    let first: &[[u8; 2]] =
+        if radios.is_some() { &[[ASK, 0], [STEP, 0], [STEP, 0]] } else { &[[ASK, 0], [STEP, 0]] };
+    let mut schedule = Schedule { permits: 1, parties, radios, calls: Vec::new() };
+    for call in first.iter().chain(&[[ASK, 1], [STEP, 1], [STEP, 1], [STEP, 1]]) {
         house.follow(call[0], usize::from(call[1]));
-        schedule.calls.push(call);
+        schedule.calls.push(*call);
     }
     let mut habits = Habits { ask: 8, give_up: 8, give_back: 0, asleep: 0b11, stray: 50 };
     let calls = 1000 + random.below(3000);
@@ -298,11 +390,20 @@ impl Schedule {
         }
     }
 
+    /// The opening's frame.
+    pub fn opening(&self) -> Vec<u8> {
+        let mut frame = vec![1, self.permits, self.parties];
+        if let Some(radios) = &self.radios {
+            frame[0] = 2;
+            frame.extend(radios);
+        }
+        frame
+    }
+
     /// The schedule as the program reads it, without line feeds.
     pub fn lines(&self) -> Vec<String> {
-        let opening = hex(&[1, self.permits, self.parties]);
         let calls = self.calls.iter().map(|call| hex(call));
-        [opening].into_iter().chain(calls).collect()
+        [hex(&self.opening())].into_iter().chain(calls).collect()
     }
 }
 
