@@ -73,7 +73,7 @@ mod hub {
         }
         let calls = schedule.calls.as_flattened();
         let mut out = vec![[0; 7]; schedule.calls.len()];
-        let code = hub_run(1, waiters + 1, calls, out.as_flattened_mut());
+        let code = hub_run(&[0x01, 1, waiters + 1], calls, out.as_flattened_mut());
         assert_eq!(code, 0);
         let codes: Vec<u8> = out.iter().map(|answer| answer[0]).collect();
         assert_eq!(codes, schedule.codes);

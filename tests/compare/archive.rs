@@ -34,6 +34,14 @@ fn second(program: &str, schedule: &Schedule, answers: usize) -> Vec<String> {
     text.lines().take(answers).map(str::to_string).collect()
 }
 
+/// The refusal of an opening that no line can carry: the archive has no lines, and judges it by its
+/// length and its K.
+fn past_a_line(schedule: &Schedule) -> Option<u8> {
+    let length = schedule.opening().len();
+    let whole = length == 3 + usize::from(schedule.permits);
+    (length > 80).then_some(if whole { 2 } else { 12 })
+}
+
 fn main() -> ExitCode {
     let arguments: Vec<String> = env::args().collect();
     let [_, program, schedules] = &arguments[..] else {
@@ -45,6 +53,13 @@ fn main() -> ExitCode {
     for seed in 1..=schedules {
         let s = schedule(&mut Random::seeded(seed), 4000);
         let answers = proved(&s);
+        if let Some(refusal) = past_a_line(&s) {
+            if answers[0][0] != refusal {
+                println!("schedule {seed}: opening {}: {}", hex(&s.opening()), answers[0][0]);
+                return ExitCode::FAILURE;
+            }
+            continue;
+        }
         let ours: Vec<String> = answers.iter().map(|answer| hex(answer)).collect();
         let theirs = second(program, &s, answers.len());
         if ours != theirs {
