@@ -50,6 +50,8 @@ pub fn call(mut hub: Hub, op: Op, party: u8) -> Outcome
     let near = hub.slots[w];
     let waiter = slot_within(q, near);
     let figures = hub.figures;
+    let hands = hub.pool.hands;
+    let radio = hands[p];
     let s = Sight {
         party,
         kind: kind(party),
@@ -58,7 +60,7 @@ pub fn call(mut hub: Hub, op: Op, party: u8) -> Outcome
         waiter,
         figures,
         named: hub.opening.named,
-        radio: hub.pool.hands[p],
+        radio,
         stocked: 0 < hub.pool.stored,
     };
     let slots = hub.slots;
@@ -77,8 +79,8 @@ pub fn call(mut hub: Hub, op: Op, party: u8) -> Outcome
     hub.figures = after;
     let answer = e.answer;
     if hub.opening.named {
-        let before = hub.pool;
-        let moved = move_radio(answer, party, before);
+        let pool = hub.pool;
+        let moved = move_radio(answer, party, pool);
         hub.pool = moved;
     }
     // the tidying, if there is any

@@ -1,4 +1,4 @@
--- `call` meets its contract: refused by 1 or 4, or decided, stored and tidied.
+-- `call` meets its contract: refused by 1 or 4, or decided, stored, its radio moved, and tidied.
 use borrow.Author.Needs.{needs}
 use borrow.Author.Tests.{not-true, not-false, lt-ltb, le-ltb}
 use mathlib.Core.Path.{_≡_, refl, sym, ap, ap₂, _∙_}
@@ -15,9 +15,12 @@ use Rattle.hub.specs.declared.record.Hub.{Hub}
 use Rattle.hub.specs.declared.record.Outcome.{Outcome}
 use Rattle.hub.specs.declared.record.PartySlot.{PartySlot}
 use Rattle.hub.specs.declared.record.PlaceSlot.{PlaceSlot}
-use Rattle.hub.specs.Calls.{called, isFull, ringOf, withRing}
+use Rattle.hub.specs.declared.record.Pool.{Pool}
+use Rattle.hub.specs.Answers.{printed}
+use Rattle.hub.specs.Calls.{called, isFull, ringOf, withPool, withRing}
 use Rattle.hub.specs.Fits.{fits}
 use Rattle.hub.specs.Phases.{ticketOf}
+use Rattle.hub.specs.Radios.{handOf, moved}
 use Rattle.hub.specs.Record.{readSlot, writeSlot}
 use Rattle.hub.specs.Ring.{PLACES, readSeat}
 use Rattle.hub.specs.Table.{decide}
@@ -26,9 +29,11 @@ use Rattle.fit.proofs.Laws.Clauses.{mapped-size}
 use Rattle.table.specs.declared.effect.Effect.{Effect}
 use Rattle.table.specs.Effect.{effectOf}
 use Rattle.transition.specs.Tidied.{tidiedBy}
-use Rattle.transition.proofs.Laws.Called.{asks, unfit, no-such-party, Counted, counted, outcome-is}
+use Rattle.transition.proofs.Laws.Called.{asks, radiosAfter, unfit, no-such-party, Counted, counted}
+use Rattle.transition.proofs.Laws.Called.{outcome-is}
 use Rattle.transition.proofs.Laws.Indexed.{reads, stores}
 use Rattle.transition.proofs.Laws.Loops.{tidy}
+use Rattle.transition.proofs.Laws.Radios.{few-stored, with-radios, without-radios}
 use Rattle.transition.proofs.Laws.Sight.{Reads, of-kind, sightOf}
 use Rattle.transition.proofs.Laws.Stored.{made, nobody, stored, few-turns}
 use Rattle.step.proofs.calls.call.Statement.{statement}
@@ -45,8 +50,11 @@ size : (c : tie.Start) → length (hub c .slots) ≡ 32
 size c = search mapped-size
 
 -- The way back along the code; only these know how many steps lie between.
-abbrev tested : tie.After-kind → tie.Else2
-tested c = c .before .before .before .before .before .before .before .before .before .before
+abbrev tested : tie.After-slot-within → tie.Else2
+tested c = c .before .before .before .before .before .before .before .before
+
+abbrev seen : tie.After-kind → tie.After-slot-within
+seen c = c .before .before .before
 
 abbrev kinded : tie.After-decide → tie.After-kind
 kinded c = c .before .before
@@ -54,12 +62,15 @@ kinded c = c .before .before
 abbrev decided : tie.After-by-ticket2 → tie.After-decide
 decided c = c .before .before .before .before
 
-abbrev placed : tie.After-first → tie.After-by-ticket2
-placed c = c .before .before .before
+abbrev placed : tie.Joined4 → tie.After-by-ticket2
+placed c = c .before .before
+
+abbrev pooled : tie.After-first → tie.Joined4
+pooled c = c .before .before
 
 -- The same from further on.
 abbrev start : tie.After-kind → tie.Start
-start c = tested c .before .before .before
+start c = tested (seen c) .before .before .before
 
 abbrev begin : tie.After-decide → tie.Start
 begin c = start (kinded c)
@@ -76,26 +87,26 @@ within-slots c = omega (arith, c .if2 .left, counts (c .before) .parties)
 
 -- What the code has read is what the party sees.
 abbrev seat : tie.After-kind → PlaceSlot
-seat c = c .before .before .before .before .before .by-ticket .result
+seat c = seen c .before .before .before .by-ticket .result
 
 abbrev waiter : tie.After-kind → PartySlot
-waiter c = c .before .before .slot-within .result
+waiter c = seen c .slot-within .result
 
 index : (c : tie.After-kind)
-    → c .before .before .before .before .before .before .before .before .seat-index .result
+    → seen c .before .before .before .before .before .before .seat-index .result
     ≡ ticketOf (readSlot (hub (start c) .slots) (party (start c)) .phase) % PLACES
 unfolding readSlot
-index c = c .before .before .before .before .before .before .before .before .seat-index .ensures
+index c = seen c .before .before .before .before .before .before .seat-index .ensures
 
 reading : (c : tie.After-kind)
-    → Reads (hub (start c)) (party (start c)) (seat c) (c .before .before .before .before .waiter-at .result)
+    → Reads (hub (start c)) (party (start c)) (seat c) (seen c .before .before .waiter-at .result)
     (waiter c)
 unfolding readSlot
 reading c =
     reads (hub (start c)) (party (start c)) _ (index c) _ _ _ _ (size (start c))
-    (c .before .before .before .before .before .before .empty-seat .ensures)
-    (c .before .before .before .before .before .by-ticket .ensures)
-    (c .before .before .before .before .waiter-at .ensures) (c .before .before .slot-within .ensures)
+    (seen c .before .before .before .before .empty-seat .ensures)
+    (seen c .before .before .before .by-ticket .ensures)
+    (seen c .before .before .waiter-at .ensures) (seen c .slot-within .ensures)
 
 -- The effect is that of the call.
 abbrev sight : tie.After-kind → Sight
@@ -108,7 +119,7 @@ full c =
 effect-is : (c : tie.After-decide)
     → let s = sight (kinded c) in
     c .decide .result ≡ effectOf (decide (begin c .args .op) (full c) s) s
-unfolding readSlot
+unfolding readSlot handOf
 effect-is c =
     let s : ℕ → Sight = λ k. of-kind k (sight (kinded c)) in
     c .decide .ensures
@@ -141,7 +152,7 @@ after c =
     let e = decided c .decide .result in
     made g (e .figures)
     (set (g .places)
-    (kinded (decided c) .before .before .before .before .before .before .before .before .seat-index .result)
+    (seen (kinded (decided c)) .before .before .before .before .before .before .seat-index .result)
     (c .by-ticket2 .result))
     (writeSlot (g .slots) (party (begin (decided c))) (e .slot))
 
@@ -152,23 +163,48 @@ is-stored c =
     let d = decided c in
     let h = hub (begin d) in
     let e = d .decide .result in
-    let i = kinded d .before .before .before .before .before .before .before .before .seat-index .result in
+    let i = seen (kinded d) .before .before .before .before .before .before .seat-index .result in
     ap (λ (g : Hub). made g (e .figures) (set (g .places) i (c .by-ticket2 .result))
     (writeSlot (g .slots) (party (begin d)) (e .slot))) (slots-set (c .before .before .before))
     ∙ stores h (party (begin d)) i (index (kinded d)) e _ _ (c .by-ticket2 .ensures) refl
 
+-- The radio that the answer moves, on a hub with radios.
+moves : (c : tie.Joined4)
+    → let d = decided (placed c) in
+    let h = hub (begin d) in
+    c .if4 .hub ≡ withPool (radiosAfter h (party (begin d)) (d .decide .result .answer)) (after (placed c))
+unfolding writeSlot
+moves c =
+    let d = decided (placed c) in
+    let h = hub (begin d) in
+    let p = party (begin d) in
+    let y = printed (d .decide .result .answer) in
+    let s = slots-set (placed c .before .before .before) in
+    let named = sym (ap (λ (g : Hub). g .opening .named) s) in
+    let pool = ap (λ (g : Hub). g .pool) s in
+    ⊎-elim
+    (λ w. w .3
+    ∙ ap (λ (x : Pool). withPool x (after (placed c)))
+    (with-radios (h .opening .named) y p (h .pool) (w .2 .result) (named ∙ w .0 .taken)
+    (w .2 .ensures ∙ ap (moved y p) pool)))
+    (λ w. w .1
+    ∙ ap (λ (x : Pool). withPool x (after (placed c)))
+    (pool ∙ without-radios (h .opening .named) y p (h .pool) (named ∙ w .0 .left)))
+    (c .if4 .came)
+
 -- Tidied, it is what the call leaves.
-leaves : (c : tie.After-by-ticket2) (g : Hub)
-    → let d = decided c in
-    g ≡ tidiedBy (d .decide .result .turns) (after c)
+leaves : (c : tie.Joined4) (g : Hub)
+    → let d = decided (placed c) in
+    g ≡ tidiedBy (d .decide .result .turns) (c .if4 .hub)
     → record { answer = d .decide .result .answer; hub = g }
     ≡ called (hub (begin d)) (asks (begin d .args .op) (party (begin d)))
 leaves c g e =
-    let d = decided c in
-    let t = tested (kinded d) in
+    let d = decided (placed c) in
+    let t = tested (seen (kinded d)) in
+    let x = radiosAfter (hub (begin d)) (party (begin d)) (d .decide .result .answer) in
     outcome-is _ _ _ _ _ (reading (kinded d)) (begin d .args .op) (d .decide .result) (effect-is d)
-    (fitting (t .before)) (lt-ltb _ _ (t .if2 .left)) g
-    (e ∙ ap (tidiedBy (d .decide .result .turns)) (is-stored c))
+    (fitting (t .before)) (lt-ltb _ _ (t .if2 .left)) x refl g
+    (e ∙ ap (tidiedBy (d .decide .result .turns)) (moves c ∙ ap (withPool x) (is-stored (placed c))))
 
 fits-requires : tie.Need-fits-requires
 fits-requires c κs = search needs
@@ -217,12 +253,15 @@ element-copy-out-near c = search needs
 slot-within-requires : tie.Need-slot-within-requires
 slot-within-requires c κs = search needs
 
+array-read-radio : tie.Need-array-read-radio
+array-read-radio c = within-slots (tested (c .before .before))
+
 kind-requires : tie.Need-kind-requires
 kind-requires c κs = search needs
 
 decide-requires : tie.Need-decide-requires
 decide-requires c κs =
-    let n = counts (tested (c .before) .before) in
+    let n = counts (tested (seen (c .before)) .before) in
     (record { counter = n .counter; issued = n .issued; resumed = n .resumed }, n .oldest)
 
 cast-v : tie.Need-cast-v
@@ -235,10 +274,10 @@ element-set-from-woke : tie.Need-element-set-from-woke
 element-set-from-woke c = search needs
 
 mul-own : tie.Need-mul-own
-mul-own c = omega (arith, within-slots (tested (kinded (c .before .before))))
+mul-own c = omega (arith, within-slots (tested (seen (kinded (c .before .before)))))
 
 element-set-from-own : tie.Need-element-set-from-own
-element-set-from-own c = omega (arith, within-slots (tested (kinded (c .before .before))))
+element-set-from-own c = omega (arith, within-slots (tested (seen (kinded (c .before .before)))))
 
 by-ticket-requires-2 : tie.Need-by-ticket-requires-2
 by-ticket-requires-2 c κs = search needs
@@ -248,6 +287,18 @@ mul-next c = search needs
 
 element-set-from-next : tie.Need-element-set-from-next
 element-set-from-next c = search needs
+
+move-radio-requires : tie.Need-move-radio-requires
+move-radio-requires c κs =
+    let b = c .before .before .before in
+    let d = decided b in
+    let s = slots-set (b .before .before .before) in
+    omega (
+      arith,
+      ap (λ (g : Hub). g .pool .stored) s,
+      few-stored (hub (begin d)) (fitting (tested (seen (kinded d)) .before))
+          (sym (ap (λ (g : Hub). g .opening .named) s) ∙ c .before .if4 .taken),
+    )
 
 cast-r : tie.Need-cast-r
 cast-r c = search needs
@@ -273,27 +324,28 @@ is-untidy-requires c κs = search needs
 returns-3 : tie.Need-returns-3
 unfolding readSeat writeSlot
 returns-3 c =
-    let p = placed (c .before .before) in
-    let h = after p in
-    with-printed (leaves p _
+    let j = pooled (c .before .before) in
+    let h = j .if4 .hub in
+    with-printed (leaves j _
     (ap (withRing h)
-    (tidy (decided p .decide .result .turns) (ringOf h)
-    (sym (c .before .is-untidy .ensures) ∙ not-true _ (c .if4 .taken)))))
+    (tidy (decided (placed j) .decide .result .turns) (ringOf h)
+    (sym (c .before .is-untidy .ensures) ∙ not-true _ (c .if5 .taken)))))
 
 reclaim-requires : tie.Need-reclaim-requires
 reclaim-requires c κs =
-    let p = placed (c .before .before) in (
+    let j = pooled (c .before .before) in
+    let d = decided (placed j) in (
       omega (
         arith,
-        ap (λ (h : Hub). h .oldest) (is-stored p),
-        counts (tested (kinded (decided p)) .before) .oldest,
+        ap (λ (h : Hub). h .oldest) (moves j ∙ ap (withPool _) (is-stored (placed j))),
+        counts (tested (seen (kinded d)) .before) .oldest,
       ),
-      turns-most (decided p),
+      turns-most d,
     )
 
 returns-4 : tie.Need-returns-4
 unfolding writeSlot
-returns-4 c = with-printed (leaves (placed (c .before .before .before)) _ (c .reclaim .ensures))
+returns-4 c = with-printed (leaves (pooled (c .before .before .before)) _ (c .reclaim .ensures))
 
 pub call-spec : {M : Type 1} → statement M
 call-spec =
@@ -314,6 +366,7 @@ call-spec =
     mul-near
     element-copy-out-near
     slot-within-requires
+    array-read-radio
     kind-requires
     decide-requires
     cast-v
@@ -324,6 +377,7 @@ call-spec =
     by-ticket-requires-2
     mul-next
     element-set-from-next
+    move-radio-requires
     cast-r
     cast-o
     mul-next-2

@@ -87,13 +87,16 @@ returns c =
     let b = c .before .before in
     let a = b .before .before .before .args in
     let passing : ℕ → ℕ → ℕ → Phase → ℕ = λ x y z f. bit (among (x ∷ y ∷ z ∷ []) (rank f)) in
-    let third = b .phase-rank3 .result in (
+    let first = b .before .before .phase-rank in
+    let second = b .before .phase-rank2 in
+    let third = b .phase-rank3 in (
       counting-all _ _ _ _ _ i (c .loop-test .left)
-          ∙ sym (weight-map (passing (b .before .before .phase-rank .result) (b .before .phase-rank2 .result) third)
+          ∙ sym (weight-map (passing (first .result) (second .result) (third .result))
           (λ (s : PartySlot). s .phase) (a .t1))
-          ∙ ap₂ (λ (x y : ℕ). weight (passing x y third) (phasesOf (a .t1)))
-          (b .before .before .phase-rank .ensures) (b .before .phase-rank2 .ensures)
-          ∙ ap (λ (z : ℕ). weight (passing (rank (a .a)) (rank (a .b)) z) (phasesOf (a .t1))) (b .phase-rank3 .ensures),
+          ∙ ap₂ (λ (x y : ℕ). weight (passing x y (third .result)) (phasesOf (a .t1))) (first .ensures)
+          (second .ensures)
+          ∙ ap (λ (z : ℕ). weight (passing (rank (a .a)) (rank (a .b)) z) (phasesOf (a .t1)))
+          (third .ensures),
       omega (arith, i .few, i .within),
     )
 
