@@ -5,4 +5,6 @@ pub mod Parts
 pub mod Codes
 pub mod Digits
 pub mod Lines
+pub mod Decoding
+pub mod Openings
 pub mod Schedules

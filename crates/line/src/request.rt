@@ -6,6 +6,7 @@ use crate::openings::opening_in;
 use hub::opening::Opening;
 ghost use mathlib.Core.Path.{_≡_};
 ghost use mathlib.Core.Bool.{true};
+ghost use Prim.Native.Nat.{_≤_};
 ghost use lib.ListN.{length, take};
 ghost use Rattle.line.specs.Requests.{headerOf, isOpening, malformed, requestOf, spelledBy, toOpen};
 
@@ -54,9 +55,11 @@ fn call_in(line: &[u8]) -> Header
 }
 
 // The bytes that a line spells, and how many; none if it is unreadable.
-fn decode(line: &[u8], bytes: &mut [u8; 80]) -> usize
+fn decode(line: &[u8], bytes: &mut [u8]) -> usize
+    requires { ⌜ length (now bytes) ≡ 80 ⌝ }
     ensures { λ r. ⌜ (r ≡ length (spelledBy (now (line .entry))))
         × (take r (now (bytes .exit)) ≡ spelledBy (now (line .entry))) ⌝ }
+    ensures small { λ r. ⌜ r ≤ 80 ⌝ }
 {
     if LONGEST < line.len() {
         return 0;
@@ -75,20 +78,13 @@ fn decode(line: &[u8], bytes: &mut [u8; 80]) -> usize
         bytes[i] = byte as u8;
         i += 1;
     }
-    total
+    i
 }
 
-// A line that begins with the code of an opening may be one.
+// A line is an opening if its bytes are the frame of one.
 fn is_opening(line: &[u8]) -> bool
     ensures { λ r. ⌜ r ≡ isOpening (requestOf (now (line .entry))) ⌝ }
 {
-    let code = hex_byte(line);
-    if code < 1 {
-        return false;
-    }
-    if 2 < code {
-        return false;
-    }
     let mut bytes = [0u8; 80];
     let total = decode(line, &mut bytes);
     is_opening_frame(&bytes[0..total])

@@ -1,21 +1,20 @@
--- What a line of four or six characters asks, and that no other length asks anything.
+-- What a line of four characters asks, and that no other length asks for a call.
 use Prim.Native.Nat.{ℕ, _+_, _-_, _*_, _%_, _≤_, _<_}
 use mathlib.Core.Path.{_≡_, refl, sym, ap, _∙_, subst}
 use mathlib.Core.Bool.{Bool, true, false, cond, not, _&&_, _||_}
 use mathlib.Core.List.{List, [], _∷_}
 use native.Mathlib.Omega.{arith}
 use Rattle.hub.proofs.Laws.Bools.{first, second, if-true, if-false}
-use borrow.Author.Tests.{lt-ltb, le-ltb, ltb-true, ltb-false, eq-eqb, ne-eqb, eqb-true, eqb-false}
+use borrow.Author.Tests.{lt-ltb, le-ltb, ltb-true, eq-eqb, ne-eqb, eqb-false}
 use lib.Dec.{eqb, ltb}
 use lib.ListN.{length, getD, take, drop, length-drop}
 use lib.Seq.{take-all}
 use native.Mathlib.Nat.{le-of-eq}
-use Rattle.hub.specs.declared.moves.Call.{Call}
 use Rattle.hub.specs.declared.opening.Opening.{Opening}
 use Rattle.line.specs.Frame.{isCall, opOf}
 use Rattle.line.specs.Hex.{digitOf, isDigit, spelled, byteOf}
 use Rattle.line.specs.Requests.{LONGEST, Request, malformed, toOpen, toCall}
-use Rattle.line.specs.Requests.{allDigits, unreadable, bytesOf, openingIn, requested}
+use Rattle.line.specs.Requests.{allDigits, unreadable, bytesOf, openingIn, requested, spelledBy}
 use Rattle.line.specs.Requests.{requestOf, headerOf, isOpening}
 
 -- The first two characters spell a byte, or do not; x and y are their values.
@@ -59,38 +58,46 @@ module _ (l : List ℕ) (long : 2 ≤ length l) (x : ℕ) (first : x ≡ digitOf
 pub from : (n : ℕ) (l : List ℕ) → take (length l - n) (drop n l) ≡ drop n l
 from n l = take-all (length l - n) (drop n l) (le-of-eq (length-drop n l))
 
+-- An unreadable line spells nothing; one of digits alone, even and not too long, their bytes.
+module _ (l : List ℕ) where
+  pub too-long : LONGEST < length l → [] ≡ spelledBy l
+  unfolding spelledBy
+  too-long m = rw (lt-ltb LONGEST (length l) m)
+
+  pub odd : length l % 2 ≡ 1 → [] ≡ spelledBy l
+  unfolding spelledBy
+  odd e = go (ltb LONGEST (length l)) _ (allDigits l) (bytesOf l) (eq-eqb (length l % 2) 1 e)
+    where
+      go : (p q r : Bool) (x : List ℕ) → q ≡ true → [] ≡ cond (p || q || not r) [] x
+      go true q r x f = refl
+      go false q r x f = ap (λ (b : Bool). cond (b || not r) [] x) (sym f)
+
+  pub no-digit : allDigits l ≡ false → [] ≡ spelledBy l
+  unfolding spelledBy
+  no-digit e = go (ltb LONGEST (length l)) (eqb (length l % 2) 1) _ (bytesOf l) e
+    where
+      go : (p q r : Bool) (x : List ℕ) → r ≡ false → [] ≡ cond (p || q || not r) [] x
+      go true q r x f = refl
+      go false true r x f = refl
+      go false false r x f = ap (λ (b : Bool). cond (not b) [] x) (sym f)
+
+  pub readable : length l ≤ LONGEST → (length l % 2 ≡ 1 → ⊥) → allDigits l ≡ true
+      → bytesOf l ≡ spelledBy l
+  unfolding spelledBy
+  readable m e d = rw (le-ltb LONGEST (length l) m, ne-eqb (length l % 2) 1 e, d)
+
 -- A line that asks nothing, readable or not.
 nothing : (l : List ℕ) → requested (bytesOf l) ≡ malformed → malformed ≡ requestOf l
-unfolding requestOf
-nothing l e = either (unreadable l) e
+unfolding requestOf spelledBy requested
+nothing l e = either (unreadable l) (bytesOf l) e
   where
-    either : (b : Bool) {r : Request} → r ≡ malformed → malformed ≡ cond b malformed r
-    either true f = refl
-    either false f = sym f
+    either : (b : Bool) (m : List ℕ) → requested m ≡ malformed → malformed ≡ requested (cond b [] m)
+    either true m f = refl
+    either false m f = sym f
 
--- Only four and six characters ask something.
-pub other : (l : List ℕ) → (length l ≡ 4 → ⊥) → (length l ≡ 6 → ⊥) → malformed ≡ requestOf l
-unfolding requestOf bytesOf requested openingIn
-other [] e f = nothing [] refl
-other (a ∷ []) e f = refl
-other (a ∷ b ∷ []) e f = nothing (a ∷ b ∷ []) refl
-other (a ∷ b ∷ c ∷ []) e f = refl
-other (a ∷ b ∷ c ∷ d ∷ []) e f = absurd (e refl)
-other (a ∷ b ∷ c ∷ d ∷ x ∷ []) e f = refl
-other (a ∷ b ∷ c ∷ d ∷ x ∷ y ∷ []) e f = absurd (f refl)
-other (a ∷ b ∷ c ∷ d ∷ x ∷ y ∷ z ∷ []) e f = refl
-other (a ∷ b ∷ c ∷ d ∷ x ∷ y ∷ z ∷ w ∷ l) e f = nothing (a ∷ b ∷ c ∷ d ∷ x ∷ y ∷ z ∷ w ∷ l) refl
-
--- A line with a character that is no digit asks nothing; one of digits alone asks what they spell.
 unread : (l : List ℕ) → allDigits l ≡ false → malformed ≡ requestOf l
-unfolding requestOf
-unread l e = go (ltb LONGEST (length l)) (eqb (length l % 2) 1) _ (requested (bytesOf l)) e
-  where
-    go : (p q r : Bool) (x : Request) → r ≡ false
-        → malformed ≡ cond (p || q || not r) malformed x
-    go true q r x f = refl
-    go false true r x f = refl
-    go false false r x f = ap (λ (b : Bool). cond (not b) malformed x) (sym f)
+unfolding requestOf requested
+unread l e = ap requested (no-digit l e)
 
 -- A line of four characters that is a call has no line feed in it.
 pub record NoFeed (a b x y : ℕ) : Type 0 where
@@ -138,21 +145,21 @@ small a b e =
 
 -- Two characters in front of others: they spell a byte, or the line is not all digits.
 module _ (a b : ℕ) (l : List ℕ) where
-  spells : byteOf (a ∷ b ∷ l) < 256 → twoDigits a b ≡ true
+  pub spells : byteOf (a ∷ b ∷ l) < 256 → twoDigits a b ≡ true
   spells = go (twoDigits a b) refl
     where
       go : (d : Bool) → twoDigits a b ≡ d → cond d (spelled a b) 256 < 256 → twoDigits a b ≡ true
       go true e m = e
       go false e m = absurd (omega arith)
 
-  strays : 256 ≤ byteOf (a ∷ b ∷ l) → twoDigits a b ≡ false
+  pub strays : 256 ≤ byteOf (a ∷ b ∷ l) → twoDigits a b ≡ false
   strays = go (twoDigits a b) refl
     where
       go : (d : Bool) → twoDigits a b ≡ d → 256 ≤ cond d (spelled a b) 256 → twoDigits a b ≡ false
       go true e m = absurd (omega (arith, small a b e))
       go false e m = e
 
-  digits : allDigits (a ∷ b ∷ l) ≡ twoDigits a b && allDigits l
+  pub digits : allDigits (a ∷ b ∷ l) ≡ twoDigits a b && allDigits l
   unfolding allDigits
   digits = go (isDigit a)
     where
@@ -160,7 +167,7 @@ module _ (a b : ℕ) (l : List ℕ) where
       go true = refl
       go false = refl
 
-  stray : twoDigits a b ≡ false → allDigits (a ∷ b ∷ l) ≡ false
+  pub stray : twoDigits a b ≡ false → allDigits (a ∷ b ∷ l) ≡ false
   stray e = digits ∙ rw e
 
   later : allDigits l ≡ false → allDigits (a ∷ b ∷ l) ≡ false
@@ -170,13 +177,13 @@ module _ (a b : ℕ) (l : List ℕ) where
       go true = refl
       go false = refl
 
-  one-more : twoDigits a b ≡ true → allDigits l ≡ true → allDigits (a ∷ b ∷ l) ≡ true
+  pub one-more : twoDigits a b ≡ true → allDigits l ≡ true → allDigits (a ∷ b ∷ l) ≡ true
   one-more e f = digits ∙ rw (e, f)
 
-  byte-is : twoDigits a b ≡ true → byteOf (a ∷ b ∷ l) ≡ spelled a b
+  pub byte-is : twoDigits a b ≡ true → byteOf (a ∷ b ∷ l) ≡ spelled a b
   byte-is e = rw e
 
-none : allDigits [] ≡ true
+pub none : allDigits [] ≡ true
 unfolding allDigits
 none = refl
 
@@ -188,40 +195,6 @@ of-four P f (a ∷ b ∷ []) e = absurd (omega arith)
 of-four P f (a ∷ b ∷ x ∷ []) e = absurd (omega arith)
 of-four P f (a ∷ b ∷ x ∷ y ∷ []) e = f a b x y
 of-four P f (a ∷ b ∷ x ∷ y ∷ z ∷ l) e = absurd (omega arith)
-
-of-six : (P : List ℕ → Type 0) → ((a b x y z w : ℕ) → P (a ∷ b ∷ x ∷ y ∷ z ∷ w ∷ []))
-    → (l : List ℕ) → length l ≡ 6 → P l
-of-six P f [] e = absurd (omega arith)
-of-six P f (a ∷ []) e = absurd (omega arith)
-of-six P f (a ∷ b ∷ l) e = of-four (λ m. P (a ∷ b ∷ m)) (f a b) l (omega arith)
-
--- A call is no opening.
-no-call : (l : List ℕ) → length l ≡ 4 → false ≡ isOpening (requestOf l)
-unfolding requestOf bytesOf requested
-no-call =
-    of-four (λ l. false ≡ isOpening (requestOf l))
-    (λ a b x y. go (unreadable (a ∷ b ∷ x ∷ y ∷ [])) (isCall (spelled a b)) _)
-  where
-    go : (u c : Bool) (k : Call)
-        → false ≡ isOpening (cond u malformed (cond c (toCall k) malformed))
-    go true c k = refl
-    go false true k = refl
-    go false false k = refl
-
-no-header : (l : List ℕ) → length l ≡ 6 → isOpening (requestOf l) ≡ false
-    → headerOf malformed ≡ headerOf (requestOf l)
-unfolding requestOf bytesOf requested openingIn
-no-header =
-    of-six
-    (λ l. isOpening (requestOf l) ≡ false → headerOf malformed ≡ headerOf (requestOf l))
-    (λ a b x y z w. go (unreadable (a ∷ b ∷ x ∷ y ∷ z ∷ w ∷ [])) (eqb (spelled a b) 1) _)
-  where
-    go : (u c : Bool) (o : Opening)
-        → isOpening (cond u malformed (cond c (toOpen o) malformed)) ≡ false
-        → headerOf malformed ≡ headerOf (cond u malformed (cond c (toOpen o) malformed))
-    go true c o e = refl
-    go false true o e = let z : _≡_ {A = ℕ} 0 1 = cc in absurd (omega arith)
-    go false false o e = refl
 
 -- A call: its code, then its party.
 pub four-code : (l : List ℕ) → length l ≡ 4 → isCall (byteOf l) ≡ false → malformed ≡ requestOf l
@@ -263,86 +236,59 @@ four =
           party = byte-is x y [] e i;
         }))
         ∙ sym
-        (if-false (unreadable l) malformed (requested (bytesOf l))
-        (ap not (one-more a b (x ∷ y ∷ []) d (one-more x y [] e none)))
-        ∙ if-true (isCall (spelled a b)) _ malformed
+        (if-true (isCall (spelled a b)) _ malformed
         (ap isCall (sym (byte-is a b (x ∷ y ∷ []) d)) ∙ f))
+        ∙ ap requested
+        (readable l (omega arith) (λ z. omega arith)
+        (one-more a b (x ∷ y ∷ []) d (one-more x y [] e none)))
 
--- An opening: its code, the permits, the parties.
-pub six-code : (l : List ℕ) → length l ≡ 6 → (byteOf l ≡ 1 → ⊥) → malformed ≡ requestOf l
-unfolding bytesOf requested openingIn
-six-code =
-    of-six (λ l. (byteOf l ≡ 1 → ⊥) → malformed ≡ requestOf l)
-    (λ a b x y z w. go a b (x ∷ y ∷ z ∷ w ∷ []) refl (twoDigits a b) refl)
+-- Two bytes are four characters.
+halves : (l : List ℕ) → (2 * length (bytesOf l) ≤ length l) × (length l ≤ 2 * length (bytesOf l) + 1)
+unfolding bytesOf
+halves [] = (omega arith, omega arith)
+halves (a ∷ []) = (omega arith, omega arith)
+halves (a ∷ b ∷ l) = (omega (arith, halves l .0), omega (arith, halves l .1))
+
+two-bytes : (l : List ℕ) → length (spelledBy l) ≡ 2 → length l ≡ 4
+unfolding spelledBy
+two-bytes l e = go (unreadable l) refl e
   where
-    go : (a b : ℕ) (l : List ℕ) → length l ≡ 4 → (d : Bool) → twoDigits a b ≡ d
-        → (byteOf (a ∷ b ∷ l) ≡ 1 → ⊥) → malformed ≡ requestOf (a ∷ b ∷ l)
-    go a b l n true e f =
-        nothing (a ∷ b ∷ l)
-        (of-four (λ l. requested (bytesOf (a ∷ b ∷ l)) ≡ malformed)
-        (λ x y z w. if-false (eqb (spelled a b) 1) _ malformed
-        (ne-eqb (spelled a b) 1 (λ g. f (byte-is a b l e ∙ g)))) l n)
-    go a b l n false e f = unread (a ∷ b ∷ l) (stray a b l e)
+    even : (p q r : Bool) → p || q || r ≡ false → q ≡ false
+    even true q r f = cc
+    even false true r f = f
+    even false false r f = refl
 
-pub six-first : (l : List ℕ) → length l ≡ 6 → 256 ≤ byteOf (drop 2 l) → malformed ≡ requestOf l
-six-first =
-    of-six (λ l. 256 ≤ byteOf (drop 2 l) → malformed ≡ requestOf l)
-    (λ a b x y z w m.
-    let r = z ∷ w ∷ [] in
-    unread (a ∷ b ∷ x ∷ y ∷ r) (later a b (x ∷ y ∷ r) (stray x y r (strays x y r m))))
+    go : (u : Bool) → unreadable l ≡ u → length (cond u [] (bytesOf l)) ≡ 2 → length l ≡ 4
+    go true f g = absurd (omega arith)
+    go false f g =
+        omega (
+          arith,
+          halves l .0,
+          halves l .1,
+          eqb-false (length l % 2) 1 (even (ltb LONGEST (length l)) _ (not (allDigits l)) f),
+        )
 
-pub six-second : (l : List ℕ) → length l ≡ 6 → 256 ≤ byteOf (drop 4 l) → malformed ≡ requestOf l
-six-second =
-    of-six (λ l. 256 ≤ byteOf (drop 4 l) → malformed ≡ requestOf l)
-    (λ a b x y z w m.
-    let r = z ∷ w ∷ [] in
-    unread (a ∷ b ∷ x ∷ y ∷ r)
-    (later a b (x ∷ y ∷ r) (later x y r (stray z w [] (strays z w [] m)))))
-
-pub six : (l : List ℕ) → length l ≡ 6 → byteOf l ≡ 1 → byteOf (drop 2 l) < 256
-    → byteOf (drop 4 l) < 256
-    → toOpen (record { permits = byteOf (drop 2 l); parties = byteOf (drop 4 l) }) ≡ requestOf l
-unfolding requestOf bytesOf requested openingIn
-six =
-    of-six
-    (λ l. byteOf l ≡ 1 → byteOf (drop 2 l) < 256 → byteOf (drop 4 l) < 256
-    → toOpen (record { permits = byteOf (drop 2 l); parties = byteOf (drop 4 l) }) ≡ requestOf l)
-    (λ a b x y z w c m n.
-    go a b x y z w c (spells a b (x ∷ y ∷ z ∷ w ∷ []) (omega (arith, c))) (spells x y (z ∷ w ∷ []) m)
-    (spells z w [] n))
+no-header : (m : List ℕ) → (length m ≡ 2 → ⊥) → isOpening (requested m) ≡ false
+    → headerOf malformed ≡ headerOf (requested m)
+unfolding requested openingIn
+no-header [] f e = refl
+no-header (c ∷ []) f e = refl
+no-header (c ∷ p ∷ []) f e = absurd (f refl)
+no-header (c ∷ k ∷ n ∷ l) f e =
+    go (eqb c 0x01 && eqb (length l) 0) (eqb c 0x02 && eqb (length l) k) _ _ e
   where
-    go : (a b x y z w : ℕ) → byteOf (a ∷ b ∷ []) ≡ 1 → twoDigits a b ≡ true → twoDigits x y ≡ true
-        → twoDigits z w ≡ true
-        → toOpen (record { permits = byteOf (x ∷ y ∷ []); parties = byteOf (z ∷ w ∷ []) })
-        ≡ requestOf (a ∷ b ∷ x ∷ y ∷ z ∷ w ∷ [])
-    go a b x y z w c d e f =
-        let l = a ∷ b ∷ x ∷ y ∷ z ∷ w ∷ [] in
-        (λ i. toOpen (record { permits = byte-is x y [] e i; parties = byte-is z w [] f i }))
-        ∙ sym
-        (if-false (unreadable l) malformed (requested (bytesOf l))
-        (ap not
-        (one-more a b (x ∷ y ∷ z ∷ w ∷ []) d
-        (one-more x y (z ∷ w ∷ []) e (one-more z w [] f none))))
-        ∙ if-true (eqb (spelled a b) 1) _ malformed
-        (eq-eqb (spelled a b) 1 (sym (byte-is a b [] d) ∙ c)))
-
--- Another length is no opening.
-pub not-six : (l : List ℕ) → (length l ≡ 6 → ⊥) → false ≡ isOpening (requestOf l)
-not-six l f = go (eqb (length l) 4) refl
-  where
-    go : (b : Bool) → eqb (length l) 4 ≡ b → false ≡ isOpening (requestOf l)
-    go true e = no-call l (eqb-true (length l) 4 e)
-    go false e = ap isOpening (other l (eqb-false (length l) 4 e) f)
+    go : (a b : Bool) (o p : Opening)
+        → isOpening (cond a (toOpen o) (cond b (toOpen p) malformed)) ≡ false
+        → headerOf malformed ≡ headerOf (cond a (toOpen o) (cond b (toOpen p) malformed))
+    go true b o p e = let z : _≡_ {A = ℕ} 0 1 = cc in absurd (omega arith)
+    go false true o p e = let z : _≡_ {A = ℕ} 0 1 = cc in absurd (omega arith)
+    go false false o p e = refl
 
 -- Another length than four is no call: an opening, or nothing.
 pub not-four : (l : List ℕ) → (length l ≡ 4 → ⊥) → isOpening (requestOf l) ≡ false
     → headerOf malformed ≡ headerOf (requestOf l)
-not-four l f = go (eqb (length l) 6) refl
-  where
-    go : (b : Bool) → eqb (length l) 6 ≡ b → isOpening (requestOf l) ≡ false
-        → headerOf malformed ≡ headerOf (requestOf l)
-    go true e v = no-header l (eqb-true (length l) 6 e) v
-    go false e v = ap headerOf (other l f (eqb-false (length l) 6 e))
+unfolding requestOf
+not-four l f = no-header (spelledBy l) (λ e. f (two-bytes l e))
 
 -- An opening, whatever it asks for.
 pub an-opening : (r : Request) → isOpening r ≡ true
@@ -350,35 +296,3 @@ pub an-opening : (r : Request) → isOpening r ≡ true
 an-opening malformed e = let z : _≡_ {A = ℕ} 0 1 = cc in absurd (omega arith)
 an-opening (toOpen o) e = refl
 an-opening (toCall c) e = let z : _≡_ {A = ℕ} 0 1 = cc in absurd (omega arith)
-
--- An opening's length and bytes.
-pub record Spelled (l : List ℕ) : Type 0 where
-  pub size : length l ≡ 6
-  pub code : byteOf l ≡ 1
-  pub first : byteOf (drop 2 l) < 256
-  pub second : byteOf (drop 4 l) < 256
-
-pub spelled-opening : (l : List ℕ) → isOpening (requestOf l) ≡ true → Spelled l
-spelled-opening l t = go (eqb (length l) 6) refl (eqb (byteOf l) 1) refl
-    (ltb (byteOf (drop 2 l)) 256) refl (ltb (byteOf (drop 4 l)) 256) refl
-  where
-    no : false ≡ isOpening (requestOf l) → Spelled l
-    no e = let z : _≡_ {A = ℕ} 0 1 = cc in absurd (omega arith)
-
-    go : (a : Bool) → eqb (length l) 6 ≡ a → (b : Bool) → eqb (byteOf l) 1 ≡ b
-        → (c : Bool) → ltb (byteOf (drop 2 l)) 256 ≡ c → (d : Bool) → ltb (byteOf (drop 4 l)) 256 ≡ d
-        → Spelled l
-    go false ea b eb c ec d ed = no (not-six l (eqb-false (length l) 6 ea))
-    go true ea false eb c ec d ed =
-        no (ap isOpening (six-code l (eqb-true (length l) 6 ea) (eqb-false (byteOf l) 1 eb)))
-    go true ea true eb false ec d ed =
-        no (ap isOpening (six-first l (eqb-true (length l) 6 ea) (ltb-false (byteOf (drop 2 l)) 256 ec)))
-    go true ea true eb true ec false ed =
-        no (ap isOpening (six-second l (eqb-true (length l) 6 ea) (ltb-false (byteOf (drop 4 l)) 256 ed)))
-    go true ea true eb true ec true ed =
-        record {
-          size = eqb-true (length l) 6 ea;
-          code = eqb-true (byteOf l) 1 eb;
-          first = ltb-true (byteOf (drop 2 l)) 256 ec;
-          second = ltb-true (byteOf (drop 4 l)) 256 ed;
-        }

@@ -1,74 +1,45 @@
--- `read_opening` meets its contract: a line that is an opening has the length and the bytes of one.
+-- `read_opening` meets its contract: the bytes of a line are asked as the line is.
 use borrow.Author.Needs.{needs}
 use mathlib.Core.Path.{ap, _∙_}
-use native.Mathlib.Omega.{arith}
-use Rattle.line.specs.Hex.{byteOf}
-use Rattle.line.specs.Requests.{toOpen}
-use Rattle.line.proofs.Laws.Lines.{Spelled, spelled-opening, from, six}
+use Rattle.line.specs.Requests.{isOpening}
+use Rattle.line.proofs.Laws.Decoding.{as-line}
 use Rattle.line.proofs.request.read_opening.Statement.{statement}
 use Rattle.line.proofs.request.read_opening.Tie as tie
 
-spelled : (c : tie.Start) → Spelled (c .args .line .now)
-spelled c = spelled-opening _ (c .pre)
+slice-aggregate-decode : tie.Need-slice-aggregate-decode
+slice-aggregate-decode c = search needs
 
-sub-hex-byte : tie.Need-sub-hex-byte
-sub-hex-byte c = omega (arith, spelled (c .before) .size)
+decode-requires : tie.Need-decode-requires
+decode-requires c κs = search needs
 
-part-hex-byte-start : tie.Need-part-hex-byte-start
-part-hex-byte-start c = omega (arith, spelled (c .before) .size)
+sub-opening-in : tie.Need-sub-opening-in
+sub-opening-in c = search needs
 
-part-hex-byte-end : tie.Need-part-hex-byte-end
-part-hex-byte-end c = search needs
+part-opening-in-start : tie.Need-part-opening-in-start
+part-opening-in-start c = search needs
 
-hex-byte-requires : tie.Need-hex-byte-requires
-hex-byte-requires c κs = search needs
+part-opening-in-end : tie.Need-part-opening-in-end
+part-opening-in-end c = search needs
 
-cast-t7 : tie.Need-cast-t7
-cast-t7 c =
-    let s = c .before .before .before in
-    omega (arith, spelled s .first, c .hex-byte .ensures ∙ ap byteOf (from 2 (s .args .line .now)))
-
-sub-hex-byte-2 : tie.Need-sub-hex-byte-2
-sub-hex-byte-2 c = omega (arith, spelled (c .before .before .before) .size)
-
-part-hex-byte-start-2 : tie.Need-part-hex-byte-start-2
-part-hex-byte-start-2 c = omega (arith, spelled (c .before .before .before) .size)
-
-part-hex-byte-end-2 : tie.Need-part-hex-byte-end-2
-part-hex-byte-end-2 c = search needs
-
-hex-byte-requires-2 : tie.Need-hex-byte-requires-2
-hex-byte-requires-2 c κs = search needs
-
-cast-t13 : tie.Need-cast-t13
-cast-t13 c =
-    let s = c .before .before .before .before .before in
-    omega (arith, spelled s .second, c .hex-byte2 .ensures ∙ ap byteOf (from 4 (s .args .line .now)))
+opening-in-requires : tie.Need-opening-in-requires
+opening-in-requires c κs =
+    let b = c .before .before .before in
+    let d = b .decode in
+    ap isOpening (as-line _ (d .last .1 .0) (d .result) (d .ensures .0 .1)) ∙ b .before .before .before .pre
 
 returns : tie.Need-returns
 returns c =
-    let h = c .before .before in
-    let s = h .before .before .before in
-    let l = s .args .line .now in
-    let o = spelled s in
-    (λ i. toOpen (record {
-      permits = (h .hex-byte .ensures ∙ ap byteOf (from 2 l)) i;
-      parties = (c .hex-byte2 .ensures ∙ ap byteOf (from 4 l)) i;
-    }))
-    ∙ six l (o .size) (o .code) (o .first) (o .second)
+    let d = c .before .before .before .before .decode in
+    c .opening-in .ensures ∙ as-line _ (d .last .1 .0) (d .result) (d .ensures .0 .1)
 
 pub read-opening-spec : {M : Type 1} → statement M
 read-opening-spec =
     tie.close
     (tie.spec
-    sub-hex-byte
-    part-hex-byte-start
-    part-hex-byte-end
-    hex-byte-requires
-    cast-t7
-    sub-hex-byte-2
-    part-hex-byte-start-2
-    part-hex-byte-end-2
-    hex-byte-requires-2
-    cast-t13
+    slice-aggregate-decode
+    decode-requires
+    sub-opening-in
+    part-opening-in-start
+    part-opening-in-end
+    opening-in-requires
     returns)
