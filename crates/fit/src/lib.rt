@@ -85,9 +85,10 @@ fn ticket_fits(phase: Phase, figures: Figures, oldest: u32) -> bool
         | Phase::Ticketed(_)
         | Phase::Aborting(_)
         | Phase::Cancelling(_)
-        | Phase::Refusing(_) => in_window(oldest, figures.issued, ticket(phase)),
+        | Phase::Refusing(_)
+        | Phase::TicketedMarked(_) => in_window(oldest, figures.issued, ticket(phase)),
         Phase::ResumingAt(_) => in_window(oldest, figures.resumed, ticket(phase)),
-        Phase::Suspending => figures.issued < oldest + Hub::PLACES,
+        Phase::Suspending | Phase::SuspendingMarked => figures.issued < oldest + Hub::PLACES,
         Phase::Resuming => figures.resumed < oldest + Hub::PLACES,
         _ => true,
     }
@@ -98,7 +99,7 @@ fn listed(phase: Phase, place: Place) -> bool
     ensures { λ r. ⌜ r ≡ placeListed phase place ⌝ }
 {
     match phase {
-        Phase::Ticketed(_) => match place {
+        Phase::Ticketed(_) | Phase::TicketedMarked(_) => match place {
             Place::Empty | Place::Permit => true,
             _ => false,
         },

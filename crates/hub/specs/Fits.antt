@@ -10,6 +10,7 @@ use Rattle.hub.specs.declared.record.Hub.{Hub}
 use Rattle.hub.specs.declared.record.Phase.{Phase}
 use Rattle.hub.specs.declared.record.Phase.the-variants.{Waiting, Suspending, Ticketed, Aborting}
 use Rattle.hub.specs.declared.record.Phase.the-variants.{Cancelling, Refusing, Resuming, ResumingAt}
+use Rattle.hub.specs.declared.record.Phase.the-variants.{SuspendingMarked, TicketedMarked}
 use Rattle.hub.specs.declared.record.Place.{Place}
 use Rattle.hub.specs.declared.record.Place.the-variants.{Empty, Waiting as WaitedBy, Permit}
 use Rattle.hub.specs.declared.record.Place.the-variants.{Cancelled, Refused}
@@ -53,10 +54,12 @@ inWindow o e t = leb o t && ltb t (o + PLACES) && ltb t e
 unfoldable pub ticketFits : Figures → ℕ → Phase → Bool
 ticketFits f o x =
     allOf
-    (implies (isOneOf (Ticketed 0 ∷ Waiting 0 ∷ Aborting 0 ∷ Cancelling 0 ∷ Refusing 0 ∷ []) x)
+    (implies
+    (isOneOf
+    (Ticketed 0 ∷ TicketedMarked 0 ∷ Waiting 0 ∷ Aborting 0 ∷ Cancelling 0 ∷ Refusing 0 ∷ []) x)
     (inWindow o (f .issued) (ticketOf x))
     ∷ implies (isOneOf (ResumingAt 0 ∷ []) x) (inWindow o (f .resumed) (ticketOf x))
-    ∷ implies (isOneOf (Suspending ∷ []) x) (ltb (f .issued) (o + PLACES))
+    ∷ implies (isOneOf (Suspending ∷ SuspendingMarked ∷ []) x) (ltb (f .issued) (o + PLACES))
     ∷ implies (isOneOf (Resuming ∷ []) x) (ltb (f .resumed) (o + PLACES))
     ∷ [])
 
@@ -64,7 +67,7 @@ ticketFits f o x =
 unfoldable pub placeListed : Phase → Place → Bool
 placeListed x a =
     allOf
-    (implies (isOneOf (Ticketed 0 ∷ []) x) (isPlaceOf (Empty ∷ Permit ∷ []) a)
+    (implies (isOneOf (Ticketed 0 ∷ TicketedMarked 0 ∷ []) x) (isPlaceOf (Empty ∷ Permit ∷ []) a)
     ∷ implies (isOneOf (Cancelling 0 ∷ Refusing 0 ∷ []) x) (isPlaceOf (WaitedBy 0 ∷ Permit ∷ []) a)
     ∷ implies (isOneOf (ResumingAt 0 ∷ []) x)
     (isPlaceOf (Empty ∷ WaitedBy 0 ∷ Cancelled ∷ Refused ∷ []) a)

@@ -10,10 +10,10 @@ use Rattle.hub.specs.declared.opening.Opening.{Opening}
 use Rattle.hub.specs.declared.record.Phase.{Phase}
 use Rattle.hub.specs.Answers.{Printed}
 use Rattle.hub.specs.Basics.{bit, count, among}
-use Rattle.hub.specs.Phases.{ticketOf, resumes, refuses}
+use Rattle.hub.specs.Phases.{isMarked, ticketOf, resumes, refuses}
 use Rattle.hub.specs.Record.{PARTIES}
 use Rattle.hub.specs.Schedule.{Entry}
-use Rattle.hub.specs.Table.{withPermit, withoutPermit}
+use Rattle.hub.specs.Table.{givenUp, withPermit, withoutPermit}
 
 pub record Ledger : Type 0 where
   pub named : Bool  -- does the hub have radios?
@@ -50,12 +50,12 @@ phaseIn l p = getD l p Phase.Free
 abbrev pub accepted : Op → Phase → Phase
 accepted Op.Acquire f = Phase.Acquiring
 accepted Op.Step f = f
-accepted Op.Cancel f = Phase.Aborting (ticketOf f)
+accepted Op.Cancel f = givenUp f
 accepted Op.Release f = Phase.Releasing
 accepted Op.Radio f = f
 
--- The phase that an answer leads to, but for 20; 37 and 39 move nobody. The ticket of the phase before is t, and the
--- number in the answer n.
+-- The phase that an answer leads to, but for 20; 37 and 39 move nobody. The phase before is f, whose ticket and
+-- mark go along, and the number in the answer n.
 pub record Leads : Type 0 where
   pub code : ℕ
   pub phase : Phase
@@ -63,12 +63,14 @@ pub record Leads : Type 0 where
 abbrev pub to : ℕ → Phase → Leads
 to c x = record { code = c; phase = x }
 
-abbrev pub leads : Bool → ℕ → ℕ → List Leads
-leads named t n =
+abbrev pub leads : Bool → Phase → ℕ → List Leads
+leads named f n =
+    let t = ticketOf f in
+    let m = isMarked f in
     to 0x21 (withPermit named)
-    ∷ to 0x22 Phase.Suspending
-    ∷ to 0x23 (Phase.Ticketed n)
-    ∷ to 0x24 (Phase.Waiting t)
+    ∷ to 0x22 (cond m Phase.SuspendingMarked Phase.Suspending)
+    ∷ to 0x23 (cond m (Phase.TicketedMarked n) (Phase.Ticketed n))
+    ∷ to 0x24 (cond m (Phase.Aborting t) (Phase.Waiting t))
     ∷ to 0x25 Phase.Holding
     ∷ to 0x26 (withoutPermit named)
     ∷ to 0x27 Phase.Resuming
@@ -97,7 +99,7 @@ ledTo c (x ∷ xs) f = cond (eqb c (x .code)) (x .phase) (ledTo c xs f)
 unfoldable pub phaseAfter : Bool → Op → Phase → Printed → Phase
 phaseAfter named o f r =
     cond (eqb (r .code) 0x20) (accepted o f)
-    (ledTo (r .code) (leads named (ticketOf f) (r .number)) f)
+    (ledTo (r .code) (leads named f (r .number)) f)
 
 -- A 2A makes the woken party holding.
 unfoldable pub phasesAfter : Bool → Op → ℕ → Printed → List Phase → List Phase

@@ -7,6 +7,7 @@ use Rattle.hub.specs.declared.record.Phase.the-variants.{Free, Holding, 
 use Rattle.hub.specs.declared.record.Phase.the-variants.{Suspending, Ticketed, Aborting}
 use Rattle.hub.specs.declared.record.Phase.the-variants.{Cancelling, Refusing, Releasing}
 use Rattle.hub.specs.declared.record.Phase.the-variants.{Resuming, ResumingAt, Fetching, Storing}
+use Rattle.hub.specs.declared.record.Phase.the-variants.{AcquiringMarked, SuspendingMarked, TicketedMarked}
 use Rattle.hub.specs.declared.record.Place.{Place}
 use Rattle.hub.specs.declared.record.Place.the-variants.{Empty, Waiting as WaitedBy, Permit}
 use Rattle.hub.specs.declared.record.Place.the-variants.{Cancelled, Refused, Done}
@@ -30,6 +31,9 @@ byTicket z f =
       | ResumingAt t ↦ f t
       | Fetching ↦ z
       | Storing ↦ z
+      | AcquiringMarked ↦ z
+      | SuspendingMarked ↦ z
+      | TicketedMarked t ↦ f t
     ]
 
 -- A phase's ticket; 0 for a phase that has none.
@@ -54,6 +58,9 @@ rank =
       | ResumingAt t ↦ 11
       | Fetching ↦ 12
       | Storing ↦ 13
+      | AcquiringMarked ↦ 14
+      | SuspendingMarked ↦ 15
+      | TicketedMarked t ↦ 16
     ]
 
 -- Is a phase one of a list, whatever the tickets?
@@ -90,11 +97,17 @@ ofRadios = isOneOf (Fetching ∷ Storing ∷ [])
 
 -- Asked or unnumbered: it may yet draw a ticket.
 abbrev pub drawsTicket : Phase → Bool
-drawsTicket = isOneOf (Acquiring ∷ Suspending ∷ [])
+drawsTicket = isOneOf (Acquiring ∷ Suspending ∷ AcquiringMarked ∷ SuspendingMarked ∷ [])
+
+-- Given up early: asked, unnumbered or numbered, with a mark. A mark is in these phases only.
+abbrev pub isMarked : Phase → Bool
+isMarked = isOneOf (AcquiringMarked ∷ SuspendingMarked ∷ TicketedMarked 0 ∷ [])
 
 -- Unnumbered, numbered, waiting or giving up: its wait is neither served nor taken out at the counter.
 abbrev pub isUnserved : Phase → Bool
-isUnserved = isOneOf (Suspending ∷ Ticketed 0 ∷ Waiting 0 ∷ Aborting 0 ∷ [])
+isUnserved =
+    isOneOf
+    (Suspending ∷ Ticketed 0 ∷ Waiting 0 ∷ Aborting 0 ∷ SuspendingMarked ∷ TicketedMarked 0 ∷ [])
 
 -- Carrying or handing: it has a permit for a waiter.
 abbrev pub resumes : Phase → Bool

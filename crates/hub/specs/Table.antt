@@ -28,11 +28,12 @@ use Rattle.hub.specs.declared.record.Phase.the-variants.{Free, Holding, 
 use Rattle.hub.specs.declared.record.Phase.the-variants.{Suspending, Ticketed, Aborting}
 use Rattle.hub.specs.declared.record.Phase.the-variants.{Cancelling, Refusing, Releasing}
 use Rattle.hub.specs.declared.record.Phase.the-variants.{Resuming, ResumingAt, Fetching, Storing}
+use Rattle.hub.specs.declared.record.Phase.the-variants.{AcquiringMarked, SuspendingMarked, TicketedMarked}
 use Rattle.hub.specs.declared.record.Place.{Place}
 use Rattle.hub.specs.declared.record.Place.the-variants.{Empty, Waiting as WaitedBy, Permit}
 use Rattle.hub.specs.declared.record.Place.the-variants.{Cancelled, Refused, Done}
 use Rattle.hub.specs.Record.{MAX-BEGUN, withPhase, withPlace}
-use Rattle.hub.specs.Phases.{hasRadio, isFree, isHolding, isWaiting, ticketOf}
+use Rattle.hub.specs.Phases.{hasRadio, isFree, isHolding, isOneOf, isWaiting, ticketOf}
 
 -- Is the counter above 0? Below 0?
 abbrev pub aboveZero : ℤ → Bool
@@ -85,7 +86,8 @@ wake q t s =
     Wake q (withPhase Holding (s .waiter)) (withPlace Done (s .seat))
     (change Free (s .figures) (Woke q t) s)
 
--- The step table, a phase after the other. Where the table lists no such place the record does not
+-- The step table, a phase after the other. Three rows are told what comes next, since a mark goes along.
+-- Where the table lists no such place the record does not
 -- fit, and is refused by 1 before.
 
 -- With a permit of its own; having given one back. On a hub with radios there is one step more to each.
@@ -95,25 +97,25 @@ withPermit named = cond named Fetching Holding
 abbrev pub withoutPermit : Bool → Phase
 withoutPermit named = cond named Storing Free
 
--- asked: was the counter above 0? 21, 22
-unfoldable pub stepAcquiring : Bool → Sight → Move
-stepAcquiring true s = take (withPermit (s .named)) Acquired s
-stepAcquiring false s = take Suspending MustWait s
+-- asked: was the counter above 0? 21, and a mark is forgotten; 22
+unfoldable pub stepAcquiring : Phase → Bool → Sight → Move
+stepAcquiring x true s = take (withPermit (s .named)) Acquired s
+stepAcquiring x false s = take x MustWait s
 
 -- unnumbered: 23
-unfoldable pub stepSuspending : Sight → Move
-stepSuspending s =
+unfoldable pub stepSuspending : (ℕ → Phase) → Sight → Move
+stepSuspending x s =
     let t = s .figures .issued in
-    Act (change (Ticketed t) (withIssued (t + 1) (s .figures)) (DrewTicket t) s)
+    Act (change (x t) (withIssued (t + 1) (s .figures)) (DrewTicket t) s)
 
--- numbered: 24; a permit came before the waiter, 25
-unfoldable pub stepTicketed : ℕ → Place → Sight → Move
-stepTicketed t Empty s = put (WaitedBy (s .party)) (Waiting t) (Parked t) s
-stepTicketed t Permit s = put Done Holding (TookPermit t) s
-stepTicketed t (WaitedBy q) s = Refuse Unfit
-stepTicketed t Cancelled s = Refuse Unfit
-stepTicketed t Refused s = Refuse Unfit
-stepTicketed t Done s = Refuse Unfit
+-- numbered: 24; a permit came before the waiter, 25, and a mark is forgotten
+unfoldable pub stepTicketed : Phase → ℕ → Place → Sight → Move
+stepTicketed x t Empty s = put (WaitedBy (s .party)) x (Parked t) s
+stepTicketed x t Permit s = put Done Holding (TookPermit t) s
+stepTicketed x t (WaitedBy q) s = Refuse Unfit
+stepTicketed x t Cancelled s = Refuse Unfit
+stepTicketed x t Refused s = Refuse Unfit
+stepTicketed x t Done s = Refuse Unfit
 
 -- giving back: was the counter below 0? 27, 26
 unfoldable pub stepReleasing : Bool → Sight → Move
@@ -177,9 +179,9 @@ unfoldable pub stepIn : Phase → Sight → Move
 stepIn Free s = Refuse AtRest
 stepIn Holding s = Refuse AtRest
 stepIn (Waiting t) s = Refuse AtRest
-stepIn Acquiring s = stepAcquiring (aboveZero (s .figures .counter)) s
-stepIn Suspending s = stepSuspending s
-stepIn (Ticketed t) s = stepTicketed t (s .seat .place) s
+stepIn Acquiring s = stepAcquiring Suspending (aboveZero (s .figures .counter)) s
+stepIn Suspending s = stepSuspending Ticketed s
+stepIn (Ticketed t) s = stepTicketed (Waiting t) t (s .seat .place) s
 stepIn (Aborting t) s = stepAborting t (belowZero (s .figures .counter)) s
 stepIn (Cancelling t) s = stepCancelling t (s .seat .place) s
 stepIn (Refusing t) s = stepRefusing t (s .seat .place) s
@@ -188,6 +190,9 @@ stepIn Resuming s = stepResuming s
 stepIn (ResumingAt t) s = stepResumingAt t (s .seat .place) s
 stepIn Fetching s = stepFetching (s .stocked) s
 stepIn Storing s = stepStoring s
+stepIn AcquiringMarked s = stepAcquiring SuspendingMarked (aboveZero (s .figures .counter)) s
+stepIn SuspendingMarked s = stepSuspending TicketedMarked s
+stepIn (TicketedMarked t) s = stepTicketed (Aborting t) t (s .seat .place) s
 
 abbrev pub step : Sight → Move
 step s = stepIn (s .slot .phase) s
@@ -200,11 +205,22 @@ acquire true false true s = Refuse Full
 acquire true false false s =
     Act (change Acquiring (withBegun (s .figures .begun + 1) (s .figures)) Accepted s)
 
--- Give up: is the party waiting; is its kind 3; its ticket.
-unfoldable pub cancel : Bool → Bool → ℕ → Sight → Move
-cancel false k t s = Refuse NotWaiting
-cancel true true t s = Refuse NotCancellable
-cancel true false t s = turn (Aborting t) Accepted s
+-- Can a party of this phase give up: waiting, or on its way there and without a mark?
+abbrev pub canCancel : Phase → Bool
+canCancel = isOneOf (Waiting 0 ∷ Acquiring ∷ Suspending ∷ Ticketed 0 ∷ [])
+
+-- The phase that a give-up leads to: a wait is given up, and before it the give-up is remembered by a mark.
+unfoldable pub givenUp : Phase → Phase
+givenUp f =
+    cond (isOneOf (Acquiring ∷ []) f) AcquiringMarked
+    (cond (isOneOf (Suspending ∷ []) f) SuspendingMarked
+    (cond (isOneOf (Ticketed 0 ∷ []) f) (TicketedMarked (ticketOf f)) (Aborting (ticketOf f))))
+
+-- Give up: can the party; is its kind 3; what it leads to.
+unfoldable pub cancel : Bool → Bool → Phase → Sight → Move
+cancel false k x s = Refuse NotWaiting
+cancel true true x s = Refuse NotCancellable
+cancel true false x s = turn x Accepted s
 
 -- Give back: is the party holding?
 unfoldable pub release : Bool → Sight → Move
@@ -222,6 +238,6 @@ decide Acquire full s =
     acquire (isFree (s .slot .phase)) (leb MAX-BEGUN (s .figures .begun)) full s
 decide Step full s = step s
 decide Cancel full s =
-    cancel (isWaiting (s .slot .phase)) (eqb (s .kind) 3) (ticketOf (s .slot .phase)) s
+    cancel (canCancel (s .slot .phase)) (eqb (s .kind) 3) (givenUp (s .slot .phase)) s
 decide Release full s = release (isHolding (s .slot .phase)) s
 decide Op.Radio full s = tellRadio (s .named && hasRadio (s .slot .phase)) s

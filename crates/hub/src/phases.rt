@@ -25,6 +25,9 @@ pub fn phase_rank(phase: Phase) -> u8
         Phase::ResumingAt(_) => 11,
         Phase::Fetching => 12,
         Phase::Storing => 13,
+        Phase::AcquiringMarked => 14,
+        Phase::SuspendingMarked => 15,
+        Phase::TicketedMarked(_) => 16,
     }
 }
 
@@ -38,7 +41,8 @@ pub fn ticket(phase: Phase) -> u32
         | Phase::Aborting(t)
         | Phase::Cancelling(t)
         | Phase::Refusing(t)
-        | Phase::ResumingAt(t) => t,
+        | Phase::ResumingAt(t)
+        | Phase::TicketedMarked(t) => t,
         _ => 0,
     }
 }
@@ -52,7 +56,8 @@ pub fn has_ticket(phase: Phase) -> bool
         | Phase::Aborting(_)
         | Phase::Cancelling(_)
         | Phase::Refusing(_)
-        | Phase::ResumingAt(_) => true,
+        | Phase::ResumingAt(_)
+        | Phase::TicketedMarked(_) => true,
         _ => false,
     }
 }

@@ -19,6 +19,9 @@ pub enum Phase {
     ResumingAt(u32), // handing t
     Fetching, // of a hub with radios: it has a permit, and takes a radio for it
     Storing, // putting back: it has given its permit back, and not yet its radio
+    AcquiringMarked, // asked, and given up early: it will give up as soon as it would wait
+    SuspendingMarked, // unnumbered, likewise
+    TicketedMarked(u32), // numbered t, likewise
 }
 
 // What lies at the place of a ticket: a cell of the waiting queue.

@@ -13,9 +13,11 @@ use hub::phases::has_radio;
 use hub::record::Hub;
 use hub::record::Phase;
 ghost use mathlib.Core.Path.{_≡_};
-ghost use mathlib.Core.Bool.{false};
+ghost use mathlib.Core.Bool.{true, false};
 ghost use Rattle.hub.specs.declared.moves.Op.{Op};
-ghost use Rattle.hub.specs.Table.{decide};
+ghost use lib.Dec.{eqb};
+ghost use Rattle.hub.specs.Phases.{isWaiting};
+ghost use Rattle.hub.specs.Table.{cancel, decide};
 ghost use Rattle.table.specs.Effect.{effectOf};
 
 // Is there no place for one more ticket? Asked only of a party that is free.
@@ -39,19 +41,41 @@ pub fn decide_acquire(full: bool, s: Sight) -> Effect
     acted(Phase::Acquiring, counted, Answer::Accepted, s)
 }
 
+// A give-up that the phase allows: kind 3 may not.
+fn cancel_to(next: Phase, s: Sight) -> Effect
+    ensures { λ r. ⌜ r ≡ effectOf (cancel true (eqb (s .kind) 3) next s) s ⌝ }
+{
+    let kind = s.kind;
+    if kind == 3 {
+        return refused(Refusal::NotCancellable, s);
+    }
+    turned(next, Answer::Accepted, s)
+}
+
+// Before it waits a give-up is remembered, once.
+fn cancel_early(s: Sight) -> Effect
+    requires { ⌜ isWaiting (s .slot .phase) ≡ false ⌝ }
+    ensures { λ r. ⌜ r ≡ effectOf (decide Op.Cancel false s) s ⌝ }
+{
+    let slot = s.slot;
+    let phase = slot.phase;
+    match phase {
+        Phase::Acquiring => cancel_to(Phase::AcquiringMarked, s),
+        Phase::Suspending => cancel_to(Phase::SuspendingMarked, s),
+        Phase::Ticketed(t) => cancel_to(Phase::TicketedMarked(t), s),
+        _ => refused(Refusal::NotWaiting, s),
+    }
+}
+
 pub fn decide_cancel(s: Sight) -> Effect
     ensures { λ r. ⌜ r ≡ effectOf (decide Op.Cancel false s) s ⌝ }
 {
     let slot = s.slot;
     let phase = slot.phase;
     let Phase::Waiting(t) = phase else {
-        return refused(Refusal::NotWaiting, s);
+        return cancel_early(s);
     };
-    let kind = s.kind;
-    if kind == 3 {
-        return refused(Refusal::NotCancellable, s);
-    }
-    turned(Phase::Aborting(t), Answer::Accepted, s)
+    cancel_to(Phase::Aborting(t), s)
 }
 
 pub fn decide_release(s: Sight) -> Effect

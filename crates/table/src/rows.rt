@@ -22,7 +22,8 @@ ghost use mathlib.Core.Path.{_≡_};
 ghost use Prim.Native.Nat.{_≤_};
 ghost use Rattle.hub.specs.Phases.{isWaiting};
 ghost use Rattle.hub.specs.Table;
-ghost use Rattle.hub.specs.Table.{resumeWaiter, stepIn, withPermit, withoutPermit};
+ghost use Rattle.hub.specs.Table.{aboveZero, resumeWaiter, stepAcquiring, stepIn, stepTicketed};
+ghost use Rattle.hub.specs.Table.{withPermit, withoutPermit};
 ghost use Rattle.table.specs.Effect.{effectOf};
 ghost use Rattle.table.specs.Small.{Small, CounterFits};
 
@@ -45,14 +46,15 @@ fn without_permit(named: bool) -> Phase
     Phase::Free
 }
 
-fn step_acquiring(s: Sight) -> Effect
+// `next`: unnumbered, with or without a mark.
+fn step_acquiring(next: Phase, s: Sight) -> Effect
     requires { ⌜ CounterFits (s .figures .counter) ⌝ }
-    ensures { λ r. ⌜ r ≡ effectOf (stepIn Phase.Acquiring s) s ⌝ }
+    ensures { λ r. ⌜ r ≡ effectOf (stepAcquiring next (aboveZero (s .figures .counter)) s) s ⌝ }
 {
     if above_zero(s.figures.counter) {
         return taken(with_permit(s.named), Answer::Acquired, s);
     }
-    taken(Phase::Suspending, Answer::MustWait, s)
+    taken(next, Answer::MustWait, s)
 }
 
 fn step_suspending(s: Sight) -> Effect
@@ -65,20 +67,26 @@ fn step_suspending(s: Sight) -> Effect
     acted(Phase::Ticketed(t), drawn, Answer::DrewTicket(t), s)
 }
 
-fn step_ticketed(t: u32, s: Sight) -> Effect
-    ensures { λ r. ⌜ r ≡ effectOf (stepIn (Phase.Ticketed t) s) s ⌝ }
+fn step_suspending_marked(s: Sight) -> Effect
+    requires { ⌜ s .figures .issued ≤ 1000000 ⌝ }
+    ensures { λ r. ⌜ r ≡ effectOf (stepIn Phase.SuspendingMarked s) s ⌝ }
+{
+    let figures = s.figures;
+    let t = figures.issued;
+    let drawn = with_issued(t + 1, figures);
+    acted(Phase::TicketedMarked(t), drawn, Answer::DrewTicket(t), s)
+}
+
+// `next`: waiting, or giving up if there is a mark.
+fn step_ticketed(next: Phase, t: u32, s: Sight) -> Effect
+    ensures { λ r. ⌜ r ≡ effectOf (stepTicketed next t (s .seat .place) s) s ⌝ }
 {
     let seat = s.seat;
     let place = seat.place;
     match place {
         Place::Empty => {
             let party = s.party as u32;
-            placed(
-                Place::Waiting(party),
-                Phase::Waiting(t),
-                Answer::Parked(t),
-                s,
-            )
+            placed(Place::Waiting(party), next, Answer::Parked(t), s)
         }
         Place::Permit => placed(Place::Done, Phase::Holding, Answer::TookPermit(t), s),
         _ => refused(Refusal::Unfit, s),
@@ -189,9 +197,9 @@ pub fn decide_step(s: Sight) -> Effect
     let slot = s.slot;
     let phase = slot.phase;
     match phase {
-        Phase::Acquiring => step_acquiring(s),
+        Phase::Acquiring => step_acquiring(Phase::Suspending, s),
         Phase::Suspending => step_suspending(s),
-        Phase::Ticketed(t) => step_ticketed(t, s),
+        Phase::Ticketed(t) => step_ticketed(Phase::Waiting(t), t, s),
         Phase::Aborting(t) => step_aborting(t, s),
         Phase::Cancelling(t) => step_cancelling(t, s),
         Phase::Refusing(t) => step_refusing(t, s),
@@ -200,6 +208,9 @@ pub fn decide_step(s: Sight) -> Effect
         Phase::ResumingAt(t) => step_resuming_at(t, s),
         Phase::Fetching => step_fetching(s),
         Phase::Storing => step_storing(s),
+        Phase::AcquiringMarked => step_acquiring(Phase::SuspendingMarked, s),
+        Phase::SuspendingMarked => step_suspending_marked(s),
+        Phase::TicketedMarked(t) => step_ticketed(Phase::Aborting(t), t, s),
         _ => refused(Refusal::AtRest, s),
     }
 }

@@ -17,9 +17,9 @@ ghost use Rattle.hub.specs.Ledger.{atCounter};
 ghost use Rattle.hub.specs.Phases.{isOneOf, isPlaceOf};
 ghost use Rattle.hub.specs.Record.{phasesOf, placesOf};
 
-// 1 if x is a, b or c.
-fn one_if(x: u8, a: u8, b: u8, c: u8) -> u32
-    ensures { λ r. ⌜ r ≡ bit (among (a ∷ b ∷ c ∷ []) x) ⌝ }
+// 1 if x is a, b, c or d.
+fn one_if(x: u8, a: u8, b: u8, c: u8, d: u8) -> u32
+    ensures { λ r. ⌜ r ≡ bit (among (a ∷ b ∷ c ∷ d ∷ []) x) ⌝ }
 {
     if x == a {
         return 1;
@@ -30,22 +30,26 @@ fn one_if(x: u8, a: u8, b: u8, c: u8) -> u32
     if x == c {
         return 1;
     }
+    if x == d {
+        return 1;
+    }
     0
 }
 
-// The parties in one of three phases, whatever their tickets.
-pub fn count_phases(slots: [PartySlot; 32], a: Phase, b: Phase, c: Phase) -> u32
-    ensures { λ r. ⌜ (r ≡ count (isOneOf (a ∷ b ∷ c ∷ [])) (phasesOf slots)) × (r ≤ 32) ⌝ }
+// The parties in one of four phases, whatever their tickets.
+pub fn count_phases(slots: [PartySlot; 32], a: Phase, b: Phase, c: Phase, d: Phase) -> u32
+    ensures { λ r. ⌜ (r ≡ count (isOneOf (a ∷ b ∷ c ∷ d ∷ [])) (phasesOf slots)) × (r ≤ 32) ⌝ }
 {
     let first = phase_rank(a);
     let second = phase_rank(b);
     let third = phase_rank(c);
+    let fourth = phase_rank(d);
     let mut n: u32 = 0;
     let mut p: usize = 0;
     while p < 32 {
         let slot = slots[p];
         let phase = slot.phase;
-        n += one_if(phase_rank(phase), first, second, third);
+        n += one_if(phase_rank(phase), first, second, third, fourth);
         p += 1;
     }
     n
@@ -53,7 +57,7 @@ pub fn count_phases(slots: [PartySlot; 32], a: Phase, b: Phase, c: Phase) -> u32
 
 // The places in one state, whoever waits there.
 fn count_places(places: [PlaceSlot; 256], a: Place) -> u32
-    ensures { λ r. ⌜ (r ≡ count (isPlaceOf (a ∷ a ∷ a ∷ [])) (placesOf places)) × (r ≤ 256) ⌝ }
+    ensures { λ r. ⌜ (r ≡ count (isPlaceOf (a ∷ a ∷ a ∷ a ∷ [])) (placesOf places)) × (r ≤ 256) ⌝ }
 {
     let state = place_rank(a);
     let mut n: u32 = 0;
@@ -61,7 +65,7 @@ fn count_places(places: [PlaceSlot; 256], a: Place) -> u32
     while i < 256 {
         let slot = places[i];
         let place = slot.place;
-        n += one_if(place_rank(place), state, state, state);
+        n += one_if(place_rank(place), state, state, state, state);
         i += 1;
     }
     n
@@ -87,6 +91,7 @@ pub fn counts(hub: Hub) -> Counts
         Phase::Resuming,
         Phase::ResumingAt(0),
         Phase::ResumingAt(0),
+        Phase::ResumingAt(0),
     );
     let coming = bringing + count_places(places, Place::Permit);
     let refusing = count_phases(
@@ -94,11 +99,19 @@ pub fn counts(hub: Hub) -> Counts
         Phase::Refusing(0),
         Phase::Refusing(0),
         Phase::Refusing(0),
+        Phase::Refusing(0),
     );
     let declined = refusing + count_places(places, Place::Refused);
-    let held = count_phases(slots, Phase::Holding, Phase::Releasing, Phase::Fetching);
+    let held = count_phases(
+        slots,
+        Phase::Holding,
+        Phase::Releasing,
+        Phase::Fetching,
+        Phase::Fetching,
+    );
     let waiting = count_phases(
         slots,
+        Phase::Waiting(0),
         Phase::Waiting(0),
         Phase::Waiting(0),
         Phase::Waiting(0),

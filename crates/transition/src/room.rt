@@ -19,7 +19,8 @@ fn is_full(oldest: u32, issued: u32, slots: [PartySlot; 32]) -> bool
         slots,
         Phase::Acquiring,
         Phase::Suspending,
-        Phase::Suspending,
+        Phase::AcquiringMarked,
+        Phase::SuspendingMarked,
     );
     oldest + Hub::PLACES <= issued + drawing
 }
