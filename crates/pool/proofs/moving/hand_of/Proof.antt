@@ -19,7 +19,9 @@ returns c = search needs
 
 returns-2 : tie.Need-returns-2
 unfolding handOf
-returns-2 c = sym (List·getD-eq-default (c .before .args .t1 .hands) 0 {n = c .before .args .party} (omega (arith, size (c .before))))
+returns-2 c =
+    let a = c .before .args in
+    sym (List·getD-eq-default (a .t1 .hands) 0 {n = a .party} (omega (arith, size (c .before))))
 
 pub hand-of-spec : {M : Type 1} → statement M
 hand-of-spec = tie.close (tie.spec element-copy-out-result returns returns-2)

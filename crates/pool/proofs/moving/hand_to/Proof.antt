@@ -21,7 +21,8 @@ returns c = search needs
 
 returns-2 : tie.Need-returns-2
 returns-2 c =
-    ap (λ (l : List ℕ). withHands l (c .before .args .t3)) (sym (set-out (c .before .args .t3 .hands) _ _ (omega (arith, size (c .before)))))
+    let q = c .before .args .t3 in
+    ap (λ (l : List ℕ). withHands l q) (sym (set-out (q .hands) _ _ (omega (arith, size (c .before)))))
 
 pub hand-to-spec : {M : Type 1} → statement M
 hand-to-spec = tie.close (tie.spec element-write-pool returns returns-2)
