@@ -1,5 +1,5 @@
 -- Radios counted by a table: it has, for each byte, how often the byte is still to be met.
-use Prim.Native.Nat.{ℕ, zero, suc, _+_, _-_, _≤_, _<_}
+use Prim.Native.Nat.{ℕ, suc, _+_, _-_, _≤_, _<_}
 use mathlib.Core.Path.{_≡_, refl, sym, ap, subst, _∙_}
 use mathlib.Core.Bool.{Bool, true, false, and-false, _&&_}
 use mathlib.Core.List.{List, [], _∷_, _++_}
@@ -12,25 +12,15 @@ use lib.ListN.{length, getD, set, take, drop, replicate, length-set, getD-replic
 use lib.Seq.{take-suc, take-take, getD-set-same, getD-set-other, length-take-le}
 use Rattle.hub.specs.Basics.{allFrom, bit, weight}
 use Rattle.hub.specs.Radios.{occurs, rearranged}
-use Rattle.hub.proofs.Laws.Bools.{both, first, second}
+use Rattle.hub.proofs.Laws.Bools.{both}
 use Rattle.hub.proofs.Laws.Lists.{weight-one, weight-replicate, weight-set}
 use Rattle.hub.proofs.Laws.Ranges.{all-true}
+use Rattle.pool.proofs.Laws.Rows.{one-true}
 
 weight-append : {A : Type 0} (f : A → ℕ) (l m : List A) → weight f (l ++ m) ≡ weight f l + weight f m
 unfolding weight
 weight-append f [] m = omega arith
 weight-append f (x ∷ l) m = omega (arith, weight-append f l m)
-
--- A row that passes whole passes at each number.
-pub one-true : (f : ℕ → Bool) (o n t : ℕ) → allFrom f o n ≡ true → o ≤ t → t < o + n → f t ≡ true
-unfolding allFrom
-one-true f o zero t e a b = let z : ⊥ = omega arith in absurd z
-one-true f o (suc n) t e a b =
-    go (ℕ-discrete o t) (λ i. one-true f (suc o) n t (second (f o) _ e) i (omega arith))
-  where
-    go : Dec (o ≡ t) → (suc o ≤ t → f t ≡ true) → f t ≡ true
-    go (yes z) later = subst (λ (u : ℕ). f u ≡ true) z (first (f o) _ e)
-    go (no z) later = later (omega arith)
 
 -- One byte more of a list.
 module _ (l : List ℕ) (i x : ℕ) (h : i < length l) (e : x ≡ getD l i 0) where
