@@ -5,8 +5,7 @@ use mathlib.Core.Bool.{Bool, true, false, and-false, and-true, _&&_}
 use native.Mathlib.Omega.{arith}
 use Rattle.hub.specs.Basics.{allFrom}
 use Rattle.hub.specs.Ring.{PLACES}
-use Rattle.hub.proofs.Laws.Ranges.{all-true}
-use Rattle.pool.proofs.Laws.Rows.{one-true}
+use Rattle.hub.proofs.Laws.Ranges.{all-true, one-true}
 use Rattle.fit.specs.Window.{ticketAt}
 
 -- At i, what is noted in x and what is left to test say together what the whole row says, b.

@@ -12,10 +12,10 @@ use Rattle.hub.specs.Basics.{implies}
 use Rattle.hub.specs.Fits.{radiosFit}
 use Rattle.hub.specs.Opening.{radiosDiffer}
 use Rattle.hub.specs.Phases.{hasRadio, isPermit}
-use Rattle.hub.specs.Radios.{radiosIn, radiosOf, rearranged, ringFrom, shown, storedIn}
+use Rattle.hub.specs.Radios.{radiosIn, radiosOf, rearranged, shown, storedIn}
 use Rattle.hub.specs.Record.{phasesOf, placesOf}
 use Rattle.hub.proofs.Laws.Opening.{unnamed-differ}
-use Rattle.hub.proofs.Laws.Radios.{radios-of}
+use Rattle.hub.proofs.Laws.Radios.{radios-of, ring-length}
 use Rattle.pool.specs.declared.check.Met.{Met}
 use Rattle.pool.specs.Met.{ENOUGH, Notes, noted}
 
@@ -28,12 +28,6 @@ module _ (h : Hub) where
   pub alike-unfit : radiosDiffer (h .opening) ≡ false → radiosFit h ≡ false
   unfolding radiosFit
   alike-unfit e = rw e
-
--- So many are in a ring.
-ring-length : (l : List ℕ) (i n : ℕ) → length (ringFrom l i n) ≡ n
-unfolding ringFrom
-ring-length l i zero = refl
-ring-length l i (suc n) = ap suc (ring-length l (suc i) n)
 
 -- The radios that there are.
 abbrev pub inAll : Hub → List ℕ

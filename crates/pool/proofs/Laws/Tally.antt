@@ -15,12 +15,8 @@ use Rattle.hub.specs.Radios.{occurs, rearranged}
 use Rattle.hub.proofs.Laws.Bools.{both}
 use Rattle.hub.proofs.Laws.Lists.{weight-one, weight-replicate, weight-set}
 use Rattle.hub.proofs.Laws.Ranges.{all-true}
-use Rattle.pool.proofs.Laws.Rows.{one-true}
-
-weight-append : {A : Type 0} (f : A → ℕ) (l m : List A) → weight f (l ++ m) ≡ weight f l + weight f m
-unfolding weight
-weight-append f [] m = omega arith
-weight-append f (x ∷ l) m = omega (arith, weight-append f l m)
+use Rattle.hub.proofs.Laws.Lists.{weight-append}
+use Rattle.hub.proofs.Laws.Ranges.{one-true}
 
 -- One byte more of a list.
 module _ (l : List ℕ) (i x : ℕ) (h : i < length l) (e : x ≡ getD l i 0) where
