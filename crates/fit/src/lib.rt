@@ -223,5 +223,9 @@ pub fn fits(hub: Hub) -> bool
         }
         j += 1;
     }
+    // without radios the record is not handed on, which copies it
+    if !hub.opening.named {
+        return true;
+    }
     radios_fit(hub)
 }

@@ -9,9 +9,10 @@ use native.Mathlib.Omega.{arith}
 use lib.ListN.{length}
 use Rattle.hub.specs.declared.record.Hub.{Hub}
 use Rattle.hub.specs.Basics.{allFrom}
-use Rattle.hub.specs.Fits.{figuresFit, partyFits, placeFits, standsAt}
+use Rattle.hub.specs.Fits.{figuresFit, fits, partyFits, placeFits, radiosFit, standsAt}
 use Rattle.hub.specs.Record.{readSlot}
 use Rattle.hub.specs.Ring.{readSeat}
+use Rattle.pool.proofs.Laws.Fits.{unnamed-fit}
 use Rattle.fit.specs.Window.{ticketAt}
 use Rattle.fit.proofs.Laws.Bools.{failed, passed}
 use Rattle.fit.proofs.Laws.Ranges.{Left, one-fails, one-passes, none-left, by-index}
@@ -319,17 +320,23 @@ loop3-again : At tie.Need-loop3-again
 loop3-again c =
     moved (hub4 (c .before)) (c .before .loop4 .inv .1) (omega (arith, c .before .loop4 .inv .0))
 
-radios-fit-requires : At tie.Need-radios-fit-requires
-radios-fit-requires c κs = permits-few _ _ _ (figures (loop (c .before)))
-
-returns-6 : At tie.Need-returns-6
-returns-6 c =
-    let l = c .before .before in
+-- Parties and places fit, and the radios are left.
+passes : (l : At tie.At-loop3) → 32 ≤ l .loop3 .j → {r : Bool} → r ≡ radiosFit (hub (loop l)) → r ≡ fits (hub (loop l))
+passes l i e =
     let q = l .before .before .before in
     radios-left _ (figures (loop l))
     (sym (not-false _ (l .before .if3 .left))
     ∙ none-left _ 32 _ (q .loop2 .free) _ (q .loop2 .inv .1) (omega arith))
-    (none-left _ 256 _ true _ (l .loop3 .inv) (omega arith)) (c .radios-fit .ensures)
+    (none-left _ 256 _ true _ (l .loop3 .inv) (omega arith)) e
+
+returns-6 : At tie.Need-returns-6
+returns-6 c = passes (c .before .before) (search needs) (sym (unnamed-fit _ (not-true _ (c .if6 .taken))))
+
+radios-fit-requires : At tie.Need-radios-fit-requires
+radios-fit-requires c κs = permits-few _ _ _ (figures (loop (c .before .before)))
+
+returns-7 : At tie.Need-returns-7
+returns-7 c = passes (c .before .before .before) (search needs) (c .radios-fit .ensures)
 
 pub fits-spec : {M : Type 1} → statement M
 fits-spec =
@@ -393,5 +400,6 @@ fits-spec =
     add-j
     loop3-less
     loop3-again
+    returns-6
     radios-fit-requires
-    returns-6)
+    returns-7)
