@@ -11,8 +11,8 @@ use pool::check::radios_fit;
 ghost use mathlib.Core.Path.{_≡_};
 ghost use mathlib.Core.Bool.{_&&_};
 ghost use Prim.Native.Nat.{_≤_, _<_};
-ghost use Rattle.hub.specs.Fits.{counterFits, figuresFit, inWindow, ticketFits, placeListed};
 ghost use Rattle.hub.specs.Basics.{implies};
+ghost use Rattle.hub.specs.Fits.{counterFits, figuresFit, inWindow, ticketFits, placeListed};
 ghost use Rattle.hub.specs.Fits.{standsAt};
 ghost use Rattle.hub.specs.Phases.{ofRadios};
 ghost use Rattle.fit.specs.Window.{ticketAt};
@@ -128,7 +128,8 @@ fn phase_fits(phase: Phase, named: bool) -> bool
 // The clauses of one of the n parties, over its phase and what lies at the place of its ticket.
 fn party_fits(phase: Phase, place: Place, figures: Figures, oldest: u32, named: bool) -> bool
     requires { ⌜ oldest ≤ 1000000 ⌝ }
-    ensures { λ r. ⌜ r ≡ ticketFits figures oldest phase && placeListed phase place && implies (ofRadios phase) named ⌝ }
+    ensures { λ r. ⌜ r ≡ ticketFits figures oldest phase && placeListed phase place
+        && implies (ofRadios phase) named ⌝ }
 {
     if !ticket_fits(phase, figures, oldest) {
         return false;
@@ -222,6 +223,10 @@ pub fn fits(hub: Hub) -> bool
             k += 1;
         }
         j += 1;
+    }
+    // without radios the record is not handed on, which copies it
+    if !hub.opening.named {
+        return true;
     }
     radios_fit(hub)
 }

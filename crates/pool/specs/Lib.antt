@@ -1,1 +1,2 @@
--- The contracts of this crate cite the definitions of the crate hub.
+-- The contracts of this crate cite the definitions of the crate hub, and what the check notes.
+pub mod Met

@@ -57,23 +57,19 @@ fn put_back(radio: u8, mut pool: Pool) -> Pool
 }
 
 // The store's first, to a party.
-fn fetched(party: u8, mut pool: Pool) -> Pool
-    requires { ⌜ pool .stored ≤ 32 ⌝ }
+fn fetched(party: u8, pool: Pool) -> Pool
     ensures { λ r. ⌜ r ≡ fetch party pool ⌝ }
 {
     let first = pool.first % 32;
     let i = first as usize;
     let radio = pool.store[i];
-    let p = party as usize;
-    if p < 32 {
-        pool.hands[p] = radio;
-    }
-    pool.first = (first + 1) % 32;
-    let stored = pool.stored;
+    let mut after = hand_to(party as u32, radio, pool);
+    after.first = (first + 1) % 32;
+    let stored = after.stored;
     if 0 < stored {
-        pool.stored = stored - 1;
+        after.stored = stored - 1;
     }
-    pool
+    after
 }
 
 pub fn move_radio(answer: Answer, party: u8, pool: Pool) -> Pool

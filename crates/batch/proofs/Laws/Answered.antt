@@ -1,5 +1,5 @@
 -- A response, as the admission or the table gives it.
-use Prim.Native.Nat.{ℕ, _<_}
+use Prim.Native.Nat.{ℕ, _≤_, _<_}
 use mathlib.Core.Path.{_≡_, refl, sym, ap, _∙_}
 use mathlib.Core.Bool.{Bool, true, false, cond}
 use native.Mathlib.Omega.{arith}
@@ -7,17 +7,19 @@ use borrow.Author.Tests.{ltb-true}
 use lib.Dec.{eqb, ltb}
 use Rattle.hub.specs.declared.record.Hub.{Hub}
 use Rattle.hub.specs.Answers.{plain, printed}
-use Rattle.hub.specs.Calls.{answerOf, apply, isFull}
+use Rattle.hub.specs.Calls.{answerOf, apply, isFull, withPool}
 use Rattle.hub.specs.Fits.{fits}
 use Rattle.hub.specs.Look.{look}
 use Rattle.hub.specs.Opening.{nobody}
+use Rattle.hub.specs.Radios.{STORE}
 use Rattle.hub.specs.Table.{decide}
 use Rattle.line.specs.Frame.{isCall, opOf}
 use Rattle.line.specs.Program.{Response, reported, whenOpen, respond}
 use Rattle.line.specs.Requests.{Request, malformed, toOpen, toCall}
 use Rattle.line.proofs.Laws.Schedules.{respond-open}
-use Rattle.transition.proofs.Laws.Called.{Counted, counted, no-such-party, asks}
+use Rattle.transition.proofs.Laws.Called.{Counted, counted, no-such-party, asks, radiosAfter}
 use Rattle.transition.proofs.Laws.Called.{admitted as by-table}
+use Rattle.transition.proofs.Laws.Radios.{few-stored}
 use Rattle.batch.specs.declared.admission.Admission.{Admission}
 use Rattle.batch.specs.Admission.{admitted, admissionOf, refused}
 use Rattle.batch.specs.Batch.{requestFor, Reachable}
@@ -32,6 +34,7 @@ pub record Admitted (c x n : ℕ) : Type 0 where
 pub record LetIn (h : Hub) (p : ℕ) : Type 0 where
   pub party : p < 32
   pub counts : Counted h
+  pub store : h .opening .named ≡ true → h .pool .stored ≤ STORE
 
 not-so : {A : Type 0} → false ≡ true → A
 not-so e = let z : _≡_ {A = ℕ} 0 1 = cc in let y : ⊥ = omega arith in absurd y
@@ -90,6 +93,7 @@ module _ (hub : Hub) (c x : ℕ) (r : Reachable hub) where
       record {
         party = omega (arith, ltb-true x (hub .opening .parties) (p .party), n .parties);
         counts = n;
+        store = few-stored hub fit;
       }
 
   pub call-response : Admitted c x (hub .opening .parties)
@@ -97,7 +101,7 @@ module _ (hub : Hub) (c x : ℕ) (r : Reachable hub) where
       respond hub (requestFor c x)
       ≡ record {
         reply = record { party = x; answer = printed (answerOf m) };
-        hub = apply hub (look hub x) m;
+        hub = withPool (radiosAfter hub x (answerOf m)) (apply hub (look hub x) m);
       }
   unfolding whenOpen
   call-response p =

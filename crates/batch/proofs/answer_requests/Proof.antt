@@ -16,12 +16,14 @@ use Rattle.hub.specs.declared.record.Figures.{Figures}
 use Rattle.hub.specs.declared.record.Hub.{Hub}
 use Rattle.hub.specs.declared.record.PartySlot.{PartySlot}
 use Rattle.hub.specs.declared.record.PlaceSlot.{PlaceSlot}
+use Rattle.hub.specs.declared.record.Pool.{Pool}
 use Rattle.hub.specs.Answers.{Printed, printed}
-use Rattle.hub.specs.Calls.{answerOf, apply, isFull, ringOf, withRing}
+use Rattle.hub.specs.Calls.{answerOf, apply, isFull, ringOf, withPool, withRing}
 use Rattle.hub.specs.Kinds.{kindOf}
 use Rattle.hub.specs.Look.{look}
 use Rattle.hub.specs.Moves.{Move}
 use Rattle.hub.specs.Phases.{ticketOf}
+use Rattle.hub.specs.Radios.{handOf}
 use Rattle.hub.specs.Record.{readSlot, writeSlot}
 use Rattle.hub.specs.Ring.{PLACES, Ring, readSeat, writeSeat, skip, retire}
 use Rattle.hub.specs.Table.{decide, withResumed}
@@ -32,12 +34,13 @@ use Rattle.table.specs.declared.effect.Effect.{Effect}
 use Rattle.table.specs.Effect.{effectOf}
 use Rattle.transition.specs.Room.{fullFor}
 use Rattle.transition.specs.Tidied.{tidiedBy}
-use Rattle.transition.proofs.Laws.Called.{said, left}
+use Rattle.transition.proofs.Laws.Called.{radiosAfter, said, left}
 use Rattle.transition.proofs.Laws.Indexed.{reads, stores, tidies}
 use Rattle.transition.proofs.Laws.Loops.{tidy, Skipping, skipping, can-skip, in-window, skipping-on}
 use Rattle.transition.proofs.Laws.Loops.{skipping-stop, skipping-end}
 use Rattle.transition.proofs.Laws.Loops.{Retiring, retiring, retiring-on, retiring-stop, retiring-end}
 use Rattle.transition.proofs.Laws.Ops.{as-asked}
+use Rattle.transition.proofs.Laws.Radios.{with-radios, without-radios}
 use Rattle.transition.proofs.Laws.Sight.{Reads, of-kind, sightOf}
 use Rattle.transition.proofs.Laws.Stored.{nobody, still, few-turns}
 use Rattle.batch.specs.Batch.{Reachable, requestsIn, replied}
@@ -50,46 +53,47 @@ use Rattle.batch.proofs.answer_requests.Statement.{statement}
 use Rattle.batch.proofs.answer_requests.Tie as tie
 
 -- The record that the locals make, and the ring of the tidying.
-abbrev hubOf : Opening → Figures → ℕ → List PlaceSlot → List PartySlot → Hub
-hubOf opening figures oldest places slots =
+abbrev hubOf : Opening → Figures → ℕ → List PlaceSlot → List PartySlot → Pool → Hub
+hubOf opening figures oldest places slots pool =
     record {
       opening = opening;
       figures = figures;
       oldest = oldest;
       places = places;
       slots = slots;
+      pool = pool;
     }
 
 abbrev ring : Figures → ℕ → List PlaceSlot → Ring
 ring f o l = record { resumed = f .resumed; oldest = o; places = l }
 
 abbrev Inv-loop2 : tie.InvT-loop2
-Inv-loop2 _ _ _ _ _ figures₀ oldest places₀ _ _ _ _ _ _ _ _ _ _ _ _ _ _ _ _ turns limit _ figures places n =
+Inv-loop2 _ _ _ _ _ figures₀ oldest places₀ _ _ _ _ _ _ _ _ _ _ _ _ _ _ _ _ _ _ turns limit _ figures places n =
     Skipping turns (ring figures₀ oldest places₀) (ring figures oldest places) n
     × (figures ≡ withResumed (figures .resumed) figures₀) × (limit ≡ oldest + 256)
     × (oldest ≤ 1000000)
 
 abbrev μ-loop2 : tie.MeasureT-loop2
-μ-loop2 _ _ _ _ _ _ _ _ _ _ _ _ _ _ _ _ _ _ _ _ _ _ _ _ turns _ _ _ _ n =
+μ-loop2 _ _ _ _ _ _ _ _ _ _ _ _ _ _ _ _ _ _ _ _ _ _ _ _ _ _ turns _ _ _ _ n =
     turns - n
 
 abbrev Inv-loop3 : tie.InvT-loop3
-Inv-loop3 _ _ _ _ _ figures oldest₀ places₀ _ _ _ _ _ _ _ _ _ _ _ _ _ _ _ _ turns _ _ _ oldest places m =
+Inv-loop3 _ _ _ _ _ figures oldest₀ places₀ _ _ _ _ _ _ _ _ _ _ _ _ _ _ _ _ _ _ turns _ _ _ oldest places m =
     Retiring turns (ring figures oldest₀ places₀) (ring figures oldest places) m
     × (oldest₀ + turns ≤ 1000256)
 
 abbrev μ-loop3 : tie.MeasureT-loop3
-μ-loop3 _ _ _ _ _ _ _ _ _ _ _ _ _ _ _ _ _ _ _ _ _ _ _ _ turns _ _ _ _ _ m =
+μ-loop3 _ _ _ _ _ _ _ _ _ _ _ _ _ _ _ _ _ _ _ _ _ _ _ _ _ _ turns _ _ _ _ _ m =
     turns - m
 
 abbrev Inv-loop : tie.InvT-loop
-Inv-loop requests count form out₀ opening figures₀ oldest₀ places₀ slots₀ _ _ width _ out figures oldest places slots i =
-    Upto (formOf form) width (hubOf opening figures₀ oldest₀ places₀ slots₀) count requests out₀
-    (hubOf opening figures oldest places slots) out i
+Inv-loop requests count form out₀ opening f₀ o₀ places₀ slots₀ pool₀ _ _ width _ out f o places slots pool i =
+    Upto (formOf form) width (hubOf opening f₀ o₀ places₀ slots₀ pool₀) count requests out₀
+    (hubOf opening f o places slots pool) out i
     × (length slots ≡ 32)
 
 abbrev μ-loop : tie.MeasureT-loop
-μ-loop _ count _ _ _ _ _ _ _ _ _ _ _ _ _ _ _ _ i =
+μ-loop _ count _ _ _ _ _ _ _ _ _ _ _ _ _ _ _ _ _ _ i =
     count - i
 
 -- The places in the code that the facts below speak of, and the way back from each to the one
@@ -106,8 +110,8 @@ Turning = tie.In-loop Inv-loop2 μ-loop2 Inv-loop3 μ-loop3 Inv-loop μ-loop
 abbrev Entered : Type 0
 Entered = tie.Else1 Inv-loop2 μ-loop2 Inv-loop3 μ-loop3 Inv-loop μ-loop
 
-abbrev Named : Type 0
-Named = tie.After-op-of Inv-loop2 μ-loop2 Inv-loop3 μ-loop3 Inv-loop μ-loop
+abbrev Seen : Type 0
+Seen = tie.After-slot-within Inv-loop2 μ-loop2 Inv-loop3 μ-loop3 Inv-loop μ-loop
 
 abbrev Decided : Type 0
 Decided = tie.After-decide-by Inv-loop2 μ-loop2 Inv-loop3 μ-loop3 Inv-loop μ-loop
@@ -121,6 +125,9 @@ Placed = tie.Joined3 Inv-loop2 μ-loop2 Inv-loop3 μ-loop3 Inv-loop μ-loop
 abbrev Printing : Type 0
 Printing = tie.After-print-of Inv-loop2 μ-loop2 Inv-loop3 μ-loop3 Inv-loop μ-loop
 
+abbrev Moved : Type 0
+Moved = tie.Joined4 Inv-loop2 μ-loop2 Inv-loop3 μ-loop3 Inv-loop μ-loop
+
 abbrev Settled : Type 0
 Settled = tie.After-is-untidy Inv-loop2 μ-loop2 Inv-loop3 μ-loop3 Inv-loop μ-loop
 
@@ -128,16 +135,16 @@ abbrev Tidying : Type 0
 Tidying = tie.At-loop2 Inv-loop2 μ-loop2 Inv-loop3 μ-loop3 Inv-loop μ-loop
 
 abbrev begun : Head → Begun
-begun c = c .before .before .before .before .before .before .before .before .before .before
+begun c = c .before .before .before .before .before .before .before .before .before .before .before
 
 abbrev turning : Entered → Turning
 turning c = c .before .before .before .before .before
 
-abbrev entered : Named → Entered
-entered c = c .before .before .before .before .before .before .before .before .before
+abbrev entered : Seen → Entered
+entered c = c .before .before .before .before .before .before .before .before
 
-abbrev named : Decided → Named
-named c = c .before .before
+abbrev seen : Decided → Seen
+seen c = c .before .before .before .before
 
 abbrev decided : Woken → Decided
 decided c = c .before .before
@@ -148,8 +155,11 @@ woken c = c .before .before .before
 abbrev filled : Printing → Placed
 filled c = c .before .before .before
 
+abbrev moving : Settled → Moved
+moving c = c .before .before .before .before
+
 abbrev printing : Settled → Printing
-printing c = c .before .before .before .before .before .before .before
+printing c = moving c .before .before .before .before
 
 abbrev settled : Tidying → Settled
 settled c = c .before .before
@@ -159,7 +169,7 @@ abbrev head : Entered → Head
 head c = turning c .before
 
 abbrev entering : Decided → Entered
-entering c = entered (named c)
+entering c = entered (seen c)
 
 abbrev placed : Settled → Placed
 placed c = filled (printing c)
@@ -174,7 +184,7 @@ within c = entering (effected c)
 abbrev hub : Head → Hub
 hub c =
     hubOf (begun c .args .hub .opening) (c .loop .figures) (c .loop .oldest) (c .loop .places)
-    (c .loop .slots)
+    (c .loop .slots) (c .loop .pool)
 
 abbrev bytes : Head → List ℕ
 bytes c = begun c .args .requests .now
@@ -205,28 +215,28 @@ admitted : (c : Entered) → LetIn (hub (head c)) (party (head c))
 admitted c = let-in _ _ _ (head c .loop .inv .0 .reachable) (pass c)
 
 -- What the code read for it is what the party sees.
-abbrev seat : Named → PlaceSlot
-seat c = c .before .before .before .before .by-ticket .result
+abbrev seat : Seen → PlaceSlot
+seat c = c .before .before .before .by-ticket .result
 
-abbrev waiter : Named → PartySlot
-waiter c = c .before .slot-within .result
+abbrev waiter : Seen → PartySlot
+waiter c = c .slot-within .result
 
-index : (c : Named)
-    → c .before .before .before .before .before .before .before .seat-index .result
+index : (c : Seen)
+    → c .before .before .before .before .before .before .seat-index .result
     ≡ ticketOf (readSlot (hub (head (entered c)) .slots) (party (head (entered c))) .phase) % PLACES
 unfolding readSlot
-index c = c .before .before .before .before .before .before .before .seat-index .ensures
+index c = c .before .before .before .before .before .before .seat-index .ensures
 
-reading : (c : Named)
+reading : (c : Seen)
     → Reads (hub (head (entered c))) (party (head (entered c))) (seat c)
-    (c .before .before .before .waiter-at .result) (waiter c)
+    (c .before .before .waiter-at .result) (waiter c)
 unfolding readSlot
 reading c =
     reads (hub (head (entered c))) (party (head (entered c))) _ (index c) _ _ _ _
     (head (entered c) .loop .inv .1)
-    (c .before .before .before .before .before .empty-seat .ensures)
-    (c .before .before .before .before .by-ticket .ensures)
-    (c .before .before .before .waiter-at .ensures) (c .before .slot-within .ensures)
+    (c .before .before .before .before .empty-seat .ensures)
+    (c .before .before .before .by-ticket .ensures)
+    (c .before .before .waiter-at .ensures) (c .slot-within .ensures)
 
 -- The effect is that of the call.
 abbrev op : Head → Op
@@ -235,32 +245,38 @@ op h = opOf (code h)
 abbrev full : Head → Bool
 full h = isFull (h .loop .oldest) (h .loop .figures .issued) (h .loop .slots)
 
-abbrev sight : Named → Sight
+abbrev sight : Seen → Sight
 sight c = sightOf (hub (head (entered c))) (party (head (entered c))) (seat c) (waiter c)
 
 effect-is : (c : Decided)
     → let h = head (entering c) in
-    c .decide-by .result ≡ effectOf (decide (op h) (full h) (sight (named c))) (sight (named c))
-unfolding readSlot kindOf
+    c .decide-by .result ≡ effectOf (decide (op h) (full h) (sight (seen c))) (sight (seen c))
+unfolding readSlot kindOf handOf
 effect-is c =
     let h = head (entering c) in
-    let s : ℕ → Sight = λ k. of-kind k (sight (named c)) in
+    let s : ℕ → Sight = λ k. of-kind k (sight (seen c)) in
     let k = getD (h .before .before .before .table .result) (party h) 0 in
     c .decide-by .ensures
-    ∙ ap₂ (λ (o : Op) (b : Bool). effectOf (decide o b (s k)) (s k)) (named c .op-of .ensures)
-    (c .before .full-for .ensures ∙ ap (λ (o : Op). fullFor o (full h)) (named c .op-of .ensures))
+    ∙ ap₂ (λ (o : Op) (b : Bool). effectOf (decide o b (s k)) (s k)) (c .before .before .op-of .ensures)
+    (c .before .full-for .ensures ∙ ap (λ (o : Op). fullFor o (full h)) (c .before .before .op-of .ensures))
     ∙ ap₂ (λ (m : Sight → Move) (k : ℕ). effectOf (m (s k)) (s k)) (λ i. λ z. as-asked (full h) z (op h) i)
     (ap (λ (l : List ℕ). getD l (party h) 0) (h .before .before .before .table .ensures))
 
 abbrev move : Head → Move
 move h = decide (op h) (full h) (look (hub h) (party h))
 
+-- What the call leaves.
+abbrev leaving : Head → Hub
+leaving h =
+    withPool (radiosAfter (hub h) (party h) (answerOf (move h)))
+    (apply (hub h) (look (hub h) (party h)) (move h))
+
 answered : (c : Entered)
     → let h = head c in
     respond (hub h) (requestAt (bytes h) (2 * h .loop .i))
     ≡ record {
       reply = record { party = party h; answer = printed (answerOf (move h)) };
-      hub = apply (hub h) (look (hub h) (party h)) (move h);
+      hub = leaving h;
     }
 answered c = call-response _ _ _ (head c .loop .inv .0 .reachable) (pass c)
 
@@ -281,28 +297,28 @@ low c = omega (arith, admitted (entering c) .counts .oldest)
 turns-most : (c : Decided) → c .decide-by .result .turns ≤ 256
 turns-most c =
     let h = head (entering c) in
-    let s = sight (named c) in
+    let s = sight (seen c) in
     few-turns (decide (op h) (full h) s) s (c .decide-by .result) (effect-is c)
 
 abbrev untidied : Settled → Hub
 untidied s =
     let h = head (within s) in
     hubOf (hub h .opening) (effect s .figures) (h .loop .oldest) (placed s .if3 .places)
-    (writeSlot (woken (placed s) .if2 .slots) (party h) (effect s .slot))
+    (writeSlot (woken (placed s) .if2 .slots) (party h) (effect s .slot)) (moving s .if4 .pool)
 
-abbrev ticketAt : Named → ℕ
-ticketAt c = c .before .before .before .before .before .before .before .seat-index .result
+abbrev ticketAt : Seen → ℕ
+ticketAt c = c .before .before .before .before .before .before .seat-index .result
 
 placed-places : (s : Settled)
     → let h = head (within s) in
-    let i = ticketAt (named (effected s)) in
+    let i = ticketAt (seen (effected s)) in
     placed s .if3 .places
     ≡ set (h .loop .places) i
     (orThere (h .loop .places) i (effect s .seat) (readSlot (h .loop .slots) (party h) .phase))
 unfolding readSlot
 placed-places s =
     let h = head (within s) in
-    let i = ticketAt (named (effected s)) in
+    let i = ticketAt (seen (effected s)) in
     let phase = readSlot (h .loop .slots) (party h) .phase in
     let has = placed s .before .has-ticket .ensures in
     ⊎-elim
@@ -322,21 +338,29 @@ woken-slots s =
     (omega (arith, h .loop .inv .1, w .0 .left)))
     (woken (placed s) .if2 .came)
 
+-- The answer moved a radio, on a hub with radios.
+moved-pool : (s : Settled)
+    → moving s .if4 .pool
+    ≡ radiosAfter (hub (head (within s))) (party (head (within s))) (effect s .answer)
+moved-pool s =
+    ⊎-elim (λ w. with-radios _ _ _ _ _ (w .0 .taken) (w .2 ∙ w .1 .ensures))
+    (λ w. w .1 ∙ without-radios _ _ _ _ (w .0 .left)) (moving s .if4 .came)
+
 -- What is left, once it is tidied, is what the call leaves.
 leaves : (s : Settled) (u : Hub) → u ≡ tidiedBy (effect s .turns) (untidied s)
-    → let h = head (within s) in
-    u ≡ apply (hub h) (look (hub h) (party h)) (move h)
+    → u ≡ leaving (head (within s))
 unfolding readSlot
 leaves s u e =
     let d = effected s in
     let h = head (within s) in
     let places : List PlaceSlot → Hub = λ l.
-    hubOf (hub h .opening) (effect s .figures) (h .loop .oldest) l (untidied s .slots) in
+    hubOf (hub h .opening) (effect s .figures) (h .loop .oldest) l (untidied s .slots) (untidied s .pool) in
     e
     ∙ ap (tidiedBy (effect s .turns))
     (ap places (placed-places s)
-    ∙ stores (hub h) (party h) _ (index (named d)) (effect s) _ _ refl (woken-slots s))
-    ∙ left _ _ _ _ _ (reading (named d)) (op h) (effect s) (effect-is d)
+    ∙ ap (withPool (untidied s .pool))
+    (stores (hub h) (party h) _ (index (seen d)) (effect s) _ _ refl (woken-slots s)))
+    ∙ left _ _ _ _ _ (reading (seen d)) (op h) (effect s) (effect-is d) (untidied s .pool) (moved-pool s)
 
 -- The ring between the tidying's loops.
 abbrev between : Tidying → Ring
@@ -358,8 +382,7 @@ done : (c : tie.Left-loop2 Inv-loop2 μ-loop2 Inv-loop3 μ-loop3 Inv-loop μ-loo
     let s = settled t in
     let h = head (within s) in
     ring (t .loop2 .figures) o l ≡ retire (effect s .turns) (between t)
-    → hubOf (hub h .opening) (t .loop2 .figures) o l (untidied s .slots)
-    ≡ apply (hub h) (look (hub h) (party h)) (move h)
+    → hubOf (hub h .opening) (t .loop2 .figures) o l (untidied s .slots) (untidied s .pool) ≡ leaving h
 done c o l e =
     let t = c .before in
     let s = settled t in
@@ -373,7 +396,7 @@ worded : (s : Settled)
 worded s =
     let d = effected s in
     printing s .print-of .ensures
-    ∙ ap printed (said _ _ _ _ _ (reading (named d)) (op (head (within s))) (effect s) (effect-is d))
+    ∙ ap printed (said _ _ _ _ _ (reading (seen d)) (op (head (within s))) (effect s) (effect-is d))
 
 -- The slots stay as many.
 still-32 : (s : Settled) → length (untidied s .slots) ≡ 32
@@ -385,12 +408,12 @@ still-32 s =
 -- What was written.
 replied-with : (s : Settled)
     → let h = head (within s) in
-    s .before .before .before .before .before .before .put-reply2 .last .1 .0
+    moving s .before .before .before .put-reply2 .last .1 .0
     ≡ inForm (formOf (begun h .args .form))
     (frameOf (party h) (printed (answerOf (move h))))
 replied-with s =
     let h = head (within s) in
-    s .before .before .before .before .before .before .put-reply2 .ensures
+    moving s .before .before .before .put-reply2 .ensures
     ∙ ap (λ (q : Printed). inForm (formOf (begun h .args .form)) (frameOf (party h) q)) (worded s)
 
 table-requires : tie.Need-table-requires Inv-loop2 μ-loop2 Inv-loop3 μ-loop3 Inv-loop μ-loop
@@ -406,7 +429,7 @@ reply-size-requires c κs = search needs
 
 loop-holds : tie.Need-loop-holds Inv-loop2 μ-loop2 Inv-loop3 μ-loop3 Inv-loop μ-loop
 loop-holds c =
-    let a = c .before .before .before .before .before .before .before .before .before in (
+    let a = c .before .before .before .before .before .before .before .before .before .before in (
       start _ _ _ _ _ _ (c .reply-size .ensures) (a .pre .0) (a .pre .1 .0) (a .pre .1 .1),
       full-slots a,
     )
@@ -523,19 +546,23 @@ slot-within-requires :
 slot-within-requires c κs = search needs
 
 array-read-kind : tie.Need-array-read-kind Inv-loop2 μ-loop2 Inv-loop3 μ-loop3 Inv-loop μ-loop
-array-read-kind c = omega (arith, admitted (c .before .before .before .before .before .before .before .before) .party)
+array-read-kind c = omega (arith, admitted (entered c) .party)
+
+element-copy-out-radio :
+    tie.Need-element-copy-out-radio Inv-loop2 μ-loop2 Inv-loop3 μ-loop3 Inv-loop μ-loop
+element-copy-out-radio c = omega (arith, admitted (entered c) .party)
 
 op-of-requires : tie.Need-op-of-requires Inv-loop2 μ-loop2 Inv-loop3 μ-loop3 Inv-loop μ-loop
 op-of-requires c κs = search needs
 
 full-for-requires :
     tie.Need-full-for-requires Inv-loop2 μ-loop2 Inv-loop3 μ-loop3 Inv-loop μ-loop
-full-for-requires c κs = let n = admitted (entered c) .counts in (n .oldest, n .issued)
+full-for-requires c κs = let n = admitted (entered (c .before .before)) .counts in (n .oldest, n .issued)
 
 decide-by-requires :
     tie.Need-decide-by-requires Inv-loop2 μ-loop2 Inv-loop3 μ-loop3 Inv-loop μ-loop
 decide-by-requires c κs =
-    let n = admitted (entered (c .before)) .counts in
+    let n = admitted (entered (c .before .before .before)) .counts in
     record { counter = n .counter; issued = n .issued; resumed = n .resumed }
 
 has-ticket-requires :
@@ -544,11 +571,11 @@ has-ticket-requires c κs = search needs
 
 mul-places :
     tie.Need-mul-places Inv-loop2 μ-loop2 Inv-loop3 μ-loop3 Inv-loop μ-loop
-mul-places c = omega (arith, index (named (decided (c .before .before .before .before))))
+mul-places c = omega (arith, index (seen (decided (c .before .before .before .before))))
 
 array-set-from-places :
     tie.Need-array-set-from-places Inv-loop2 μ-loop2 Inv-loop3 μ-loop3 Inv-loop μ-loop
-array-set-from-places c = omega (arith, index (named (decided (c .before .before .before .before))))
+array-set-from-places c = omega (arith, index (seen (decided (c .before .before .before .before))))
 
 cast-slots : tie.Need-cast-slots Inv-loop2 μ-loop2 Inv-loop3 μ-loop3 Inv-loop μ-loop
 cast-slots c = search needs
@@ -591,6 +618,11 @@ put-reply-requires-2 c κs =
       reply-part _ _ _ _ _ _ _ _ _ (e .before .loop .inv .0) (e .loop-test .taken),
     )
 
+move-radio-requires :
+    tie.Need-move-radio-requires Inv-loop2 μ-loop2 Inv-loop3 μ-loop3 Inv-loop μ-loop
+move-radio-requires c κs =
+    admitted (entering (decided (woken (filled (c .before .before .before .before))))) .store (c .if4 .taken)
+
 cast-ahead :
     tie.Need-cast-ahead Inv-loop2 μ-loop2 Inv-loop3 μ-loop3 Inv-loop μ-loop
 cast-ahead c = search needs
@@ -631,7 +663,7 @@ loop-again-2 c =
     let e = within s in
     let nothing =
     tidy (effect s .turns) (ringOf (untidied s))
-    (sym (s .is-untidy .ensures) ∙ not-true _ (c .if4 .taken)) in (
+    (sym (s .is-untidy .ensures) ∙ not-true _ (c .if5 .taken)) in (
       responded _ _ _ _ _ _ _ _ _ (head e .loop .inv .0) (turning e .loop-test .taken) _ _ _
           (answered e) (replied-with s) (leaves s _ (ap (withRing (untidied s)) nothing)),
       still-32 s,
@@ -674,7 +706,7 @@ unfolding readSeat
 add-figures c =
     let s = c .before .before .before .before .before .loop2 .inv in
     let e = can-skip _ _ _ _ (s .0) _ _ (s .2) (c .before .before .can-skip .ensures) in
-    omega (arith, in-window _ _ _ _ (s .0) (e ∙ not-false _ (c .before .if5 .left)), s .3)
+    omega (arith, in-window _ _ _ _ (s .0) (e ∙ not-false _ (c .before .if6 .left)), s .3)
 
 add-n : tie.Need-add-n Inv-loop2 μ-loop2 Inv-loop3 μ-loop3 Inv-loop μ-loop
 add-n c =
@@ -696,7 +728,7 @@ loop2-again c =
     let r = l .figures .resumed in
     let on =
     skipping-on _ _ _ _ (s .0) _ (c .with-place .ensures)
-    (c .before .before .before .before .loop2-test .taken) (e ∙ not-false _ (c .before .if5 .left)) in (
+    (c .before .before .before .before .loop2-test .taken) (e ∙ not-false _ (c .before .if6 .left)) in (
       on,
       ap (withResumed (r + 1)) (s .1),
       s .2,
@@ -751,7 +783,7 @@ loop-again-4 c =
     let e = within s in
     let last =
     retiring-stop _ _ _ _ (l .loop3 .inv .0)
-    (sym (c .before .can-retire .ensures) ∙ not-true _ (c .if6 .taken)) in (
+    (sym (c .before .can-retire .ensures) ∙ not-true _ (c .if7 .taken)) in (
       responded _ _ _ _ _ _ _ _ _ (head e .loop .inv .0) (turning e .loop-test .taken) _ _ _
           (answered e) (replied-with s) (done (l .before) _ _ last),
       still-32 s,
@@ -791,7 +823,7 @@ loop3-again c =
     let s = l .inv in (
       retiring-on _ _ _ _ (s .0) _ (c .empty-seat2 .ensures)
           (c .before .before .before .before .loop3-test .taken)
-          (sym (c .before .before .can-retire .ensures) ∙ not-false _ (c .before .if6 .left)),
+          (sym (c .before .before .can-retire .ensures) ∙ not-false _ (c .before .if7 .left)),
       s .1,
     )
 
@@ -847,6 +879,7 @@ answer-requests-spec =
     array-copy-out-near
     slot-within-requires
     array-read-kind
+    element-copy-out-radio
     op-of-requires
     full-for-requires
     decide-by-requires
@@ -863,6 +896,7 @@ answer-requests-spec =
     part-put-reply-end-2
     print-of-requires
     put-reply-requires-2
+    move-radio-requires
     cast-ahead
     mul-ahead
     array-copy-out-ahead

@@ -16,11 +16,12 @@ use Rattle.hub.specs.declared.record.Phase.{Phase}
 use Rattle.hub.specs.declared.record.Place.{Place}
 use Rattle.hub.specs.declared.record.PartySlot.{PartySlot}
 use Rattle.hub.specs.declared.record.PlaceSlot.{PlaceSlot}
-use Rattle.hub.specs.Basics.{allFrom, allOf}
+use Rattle.hub.specs.Basics.{allFrom, allOf, implies}
 use Rattle.hub.specs.Fits.{figuresClauses, figuresFit, ticketFits, placeListed}
-use Rattle.hub.specs.Fits.{fits, partyFits, standsAt, placeFits}
+use Rattle.hub.specs.Fits.{fits, partyFits, standsAt, placeFits, radiosFit}
 use Rattle.hub.specs.Look.{seenBy}
-use Rattle.hub.specs.Phases.{byTicket, byWaiter, isFree, isOneOf, ticketOf}
+use Rattle.hub.specs.Phases.{byTicket, byWaiter, isFree, isOneOf, ofRadios, ticketOf}
+use Rattle.hub.specs.Radios.{STORE}
 use Rattle.hub.specs.Record.{PARTIES, MAX-BEGUN, emptySeat, freeSlot, readSlot}
 use Rattle.hub.specs.Ring.{PLACES, readPlace, readSeat}
 use Rattle.hub.proofs.record.Phase as phase
@@ -42,6 +43,13 @@ module _ (x : Opening) (f : Figures) (o : ℕ) (e : figuresFit x f o ≡ true) w
         leb-true (f .issued) MAX-BEGUN (clause 4 (figuresClauses x f o) e),
       )
 
+  -- Every radio has room in the store.
+  pub permits-few : x .permits ≤ STORE
+  unfolding figuresFit
+  permits-few =
+      leb-true (x .permits) STORE
+      (second (leb 1 (x .permits)) _ (clause 0 (figuresClauses x f o) e))
+
   -- Every party below n has a slot.
   pub parties-few : x .parties ≤ PARTIES
   unfolding figuresFit
@@ -61,7 +69,7 @@ listed-any g =
 abbrev clauses : Hub → ℕ → Phase → Bool
 clauses h p f =
     (ltb p (h .opening .parties) || isFree f) && ticketFits (h .figures) (h .oldest) f
-    && placeListed f (readPlace (h .places) (ticketOf f))
+    && placeListed f (readPlace (h .places) (ticketOf f)) && implies (ofRadios f) (h .opening .named)
 
 module _ (h : Hub) (p : ℕ) where
   by-clauses : clauses h p (readSlot (h .slots) p .phase) ≡ partyFits h p
@@ -74,6 +82,7 @@ module _ (h : Hub) (p : ℕ) where
       → r
       ≡ ticketFits (h .figures) (h .oldest) (readSlot (h .slots) p .phase)
       && placeListed (readSlot (h .slots) p .phase) (readPlace (h .places) t)
+      && implies (ofRadios (readSlot (h .slots) p .phase)) (h .opening .named)
       → r ≡ partyFits h p
   party-test t l e i = i ∙ rw (e, sym by-clauses, lt-ltb p (h .opening .parties) l)
 
@@ -127,7 +136,7 @@ pub mapped-size : {A B : Type 0} (f : A → B) (l : List A) (n : ℕ) → length
     → length l ≡ n
 mapped-size f l n e = sym (length-map l f) ∙ e
 
--- The whole: the figures, the parties, the places.
+-- The whole: the figures, the parties, the places, the radios.
 module _ (h : Hub) where
   pub figures-fail : figuresFit (h .opening) (h .figures) (h .oldest) ≡ false → false ≡ fits h
   unfolding fits
@@ -141,8 +150,8 @@ module _ (h : Hub) where
   unfolding fits
   places-fail e = rw (sym e, and-false)
 
-  pub none-fails : figuresFit (h .opening) (h .figures) (h .oldest) ≡ true
+  pub radios-left : {r : Bool} → figuresFit (h .opening) (h .figures) (h .oldest) ≡ true
       → true ≡ allFrom (partyFits h) 0 PARTIES → true ≡ allFrom (placeFits h) (h .oldest) PLACES
-      → true ≡ fits h
+      → r ≡ radiosFit h → r ≡ fits h
   unfolding fits
-  none-fails e p q = rw (e, sym p, sym q)
+  radios-left e p q i = rw (e, sym p, sym q) i

@@ -1,13 +1,11 @@
 -- A loop that tests the numbers below n, and the window gone through by index.
-use Prim.Native.Nat.{ℕ, zero, suc, _+_, _-_, _%_, _≤_, _<_}
+use Prim.Native.Nat.{ℕ, suc, _+_, _-_, _%_, _≤_, _<_}
 use mathlib.Core.Path.{_≡_, refl, sym, subst, _∙_}
 use mathlib.Core.Bool.{Bool, true, false, and-false, and-true, _&&_}
-use native.Mathlib.Decide.{ℕ-discrete}
 use native.Mathlib.Omega.{arith}
 use Rattle.hub.specs.Basics.{allFrom}
 use Rattle.hub.specs.Ring.{PLACES}
-use Rattle.hub.proofs.Laws.Bools.{first, second}
-use Rattle.hub.proofs.Laws.Ranges.{all-true}
+use Rattle.hub.proofs.Laws.Ranges.{all-true, one-true}
 use Rattle.fit.specs.Window.{ticketAt}
 
 -- At i, what is noted in x and what is left to test say together what the whole row says, b.
@@ -33,17 +31,6 @@ module _ (f : ℕ → Bool) (n : ℕ) (b x : Bool) (i : ℕ) (left : Left f n b 
   none-left l =
       let z : n - i ≡ 0 = omega arith in
       sym (and-true x) ∙ (rw z at left)
-
--- A row that passes whole passes at each number.
-one-true : (f : ℕ → Bool) (o n t : ℕ) → allFrom f o n ≡ true → o ≤ t → t < o + n → f t ≡ true
-unfolding allFrom
-one-true f o zero t e a b = let z : ⊥ = omega arith in absurd z
-one-true f o (suc n) t e a b =
-    go (ℕ-discrete o t) (λ i. one-true f (suc o) n t (second (f o) _ e) i (omega arith))
-  where
-    go : Dec (o ≡ t) → (suc o ≤ t → f t ≡ true) → f t ≡ true
-    go (yes z) later = subst (λ (u : ℕ). f u ≡ true) z (first (f o) _ e)
-    go (no z) later = later (omega arith)
 
 either-way : (a b : Bool) → (a ≡ true → b ≡ true) → (b ≡ true → a ≡ true) → a ≡ b
 either-way true b f g = sym (f refl)

@@ -9,16 +9,17 @@ use native.Mathlib.Omega.{arith}
 use lib.ListN.{length}
 use Rattle.hub.specs.declared.record.Hub.{Hub}
 use Rattle.hub.specs.Basics.{allFrom}
-use Rattle.hub.specs.Fits.{figuresFit, partyFits, placeFits, standsAt}
+use Rattle.hub.specs.Fits.{figuresFit, fits, partyFits, placeFits, radiosFit, standsAt}
 use Rattle.hub.specs.Record.{readSlot}
 use Rattle.hub.specs.Ring.{readSeat}
+use Rattle.pool.proofs.Laws.Fits.{unnamed-fit}
 use Rattle.fit.specs.Window.{ticketAt}
 use Rattle.fit.proofs.Laws.Bools.{failed, passed}
 use Rattle.fit.proofs.Laws.Ranges.{Left, one-fails, one-passes, none-left, by-index}
-use Rattle.fit.proofs.Laws.Clauses.{oldest-small, parties-few, mapped-size}
+use Rattle.fit.proofs.Laws.Clauses.{oldest-small, parties-few, permits-few, mapped-size}
 use Rattle.fit.proofs.Laws.Clauses.{party-test, free-fits, past-parties}
 use Rattle.fit.proofs.Laws.Clauses.{waited, not-waited, past-slots}
-use Rattle.fit.proofs.Laws.Clauses.{figures-fail, parties-fail, places-fail, none-fails}
+use Rattle.fit.proofs.Laws.Clauses.{figures-fail, parties-fail, places-fail, radios-left}
 use Rattle.fit.proofs.fits.Statement.{statement}
 use Rattle.fit.proofs.fits.Tie as tie
 
@@ -35,10 +36,10 @@ moved : (h : Hub) {i j : ℕ} → Places h i → i ≡ j → Places h j
 moved h l e = subst (Places h) e l
 
 abbrev Inv-loop : tie.InvT-loop
-Inv-loop hub figures oldest n p₀ p = Parties hub true p
+Inv-loop hub opening figures oldest n p₀ p = Parties hub true p
 
 abbrev μ-loop : tie.MeasureT-loop
-μ-loop hub figures oldest n p₀ p = n - p
+μ-loop hub opening figures oldest n p₀ p = n - p
 
 abbrev Inv-loop2 : tie.InvT-loop2
 Inv-loop2 hub oldest n p₀ free₀ p free = (n ≤ p) × Parties hub free p
@@ -319,14 +320,23 @@ loop3-again : At tie.Need-loop3-again
 loop3-again c =
     moved (hub4 (c .before)) (c .before .loop4 .inv .1) (omega (arith, c .before .loop4 .inv .0))
 
-returns-6 : At tie.Need-returns-6
-returns-6 c =
-    let l = c .before in
+-- Parties and places fit, and the radios are left.
+passes : (l : At tie.At-loop3) → 32 ≤ l .loop3 .j → {r : Bool} → r ≡ radiosFit (hub (loop l)) → r ≡ fits (hub (loop l))
+passes l i e =
     let q = l .before .before .before in
-    none-fails _ (figures (loop l))
+    radios-left _ (figures (loop l))
     (sym (not-false _ (l .before .if3 .left))
     ∙ none-left _ 32 _ (q .loop2 .free) _ (q .loop2 .inv .1) (omega arith))
-    (none-left _ 256 _ true _ (l .loop3 .inv) (omega arith))
+    (none-left _ 256 _ true _ (l .loop3 .inv) (omega arith)) e
+
+returns-6 : At tie.Need-returns-6
+returns-6 c = passes (c .before .before) (search needs) (sym (unnamed-fit _ (not-true _ (c .if6 .taken))))
+
+radios-fit-requires : At tie.Need-radios-fit-requires
+radios-fit-requires c κs = permits-few _ _ _ (figures (loop (c .before .before)))
+
+returns-7 : At tie.Need-returns-7
+returns-7 c = passes (c .before .before .before) (search needs) (c .radios-fit .ensures)
 
 pub fits-spec : {M : Type 1} → statement M
 fits-spec =
@@ -390,4 +400,6 @@ fits-spec =
     add-j
     loop3-less
     loop3-again
-    returns-6)
+    returns-6
+    radios-fit-requires
+    returns-7)

@@ -20,11 +20,11 @@ use Rattle.hub.specs.Calls.{answerOf, called, checked}
 use Rattle.hub.specs.Demand3.{Demand3}
 use Rattle.hub.specs.Look.{look}
 use Rattle.hub.specs.Moves.{Move}
-use Rattle.hub.specs.Opening.{fresh, opening, openingIf}
+use Rattle.hub.specs.Opening.{fresh, opening, openingIf, radiosDiffer}
 use Rattle.hub.specs.Schedule.{entries, run}
 use Rattle.hub.specs.Table.{stepAcquiring, stepSuspending, stepTicketed, stepReleasing, stepResuming}
 use Rattle.hub.specs.Table.{resumeWaiter, stepResumingAt, stepAborting, stepCancelling, stepRefusing}
-use Rattle.hub.specs.Table.{stepIn, acquire, cancel, release, decide}
+use Rattle.hub.specs.Table.{stepFetching, stepStoring, stepIn, acquire, cancel, release, tellRadio, decide}
 use Rattle.hub.proofs.Demand3.{demand3}
 use Rattle.hub.proofs.Laws.Bools.{first, if-true, if-false}
 use Rattle.hub.proofs.Laws.Phases.{places-alike}
@@ -37,7 +37,7 @@ use Rattle.frame.specs.Schedule.{Schedule, started, repliesOf, leftBy, H
 use Rattle.frame.specs.Schedule.{callsIn, scheduleOf, leftOut, kept, EveryInput}
 use Rattle.frame.proofs.Laws.Opening.{shut, stays-shut}
 
--- No call is answered by 2, 3, 12 or 13.
+-- No call is answered by 2, 3, 12, 13 or 14.
 abbrev isLeftOut : Move → Bool
 isLeftOut m = leftOut (printed (answerOf m) .code)
 
@@ -75,8 +75,13 @@ module _ (s : Sight) where
   resuming t Place.Refused = refl
   resuming t Place.Done = refl
 
+  fetching : (b : Bool) → Own (stepFetching b s)
+  unfolding stepFetching
+  fetching true = refl
+  fetching false = refl
+
   own-in : (x : Phase) → Own (stepIn x s)
-  unfolding stepIn stepSuspending stepTicketed stepResuming stepCancelling stepRefusing
+  unfolding stepIn stepSuspending stepTicketed stepResuming stepCancelling stepRefusing stepStoring
   own-in Phase.Free = refl
   own-in Phase.Holding = refl
   own-in (Phase.Waiting t) = refl
@@ -92,6 +97,8 @@ module _ (s : Sight) where
   own-in Phase.Releasing = releasing _
   own-in Phase.Resuming = refl
   own-in (Phase.ResumingAt t) = resuming t _
+  own-in Phase.Fetching = fetching _
+  own-in Phase.Storing = refl
 
 own-acquire : (a b full : Bool) (s : Sight) → Own (acquire a b full s)
 unfolding acquire
@@ -111,12 +118,18 @@ unfolding release
 own-release false s = refl
 own-release true s = refl
 
+own-radio : (a : Bool) (s : Sight) → Own (tellRadio a s)
+unfolding tellRadio
+own-radio true s = refl
+own-radio false s = refl
+
 own-decided : (o : Op) (full : Bool) (s : Sight) → Own (decide o full s)
 unfolding decide
 own-decided Op.Acquire full s = own-acquire _ _ full s
 own-decided Op.Step full s = own-in s (s .slot .phase)
 own-decided Op.Cancel full s = own-cancel _ _ _ s
 own-decided Op.Release full s = own-release _ s
+own-decided Op.Radio full s = own-radio _ s
 
 own-checked : (a b : Bool) (m : Move) → Own m → Own (checked a b m)
 unfolding checked
@@ -154,32 +167,35 @@ open-kept (toCall c ∷ rs) h o =
       (λ j. after (t j .hub) rs) ∙ i .1,
     )
 
--- An opening that opens a hub is accepted, and one that does not is answered by 2 or 3.
+-- An opening that opens a hub is accepted, and one that does not is answered by 2, 3 or 14.
 module _ (o : Opening) where
-  abbrev outcome : Bool → Bool → Outcome
-  outcome a b = openingIf a b o
+  abbrev outcome : Bool → Bool → Bool → Outcome
+  outcome a b d = openingIf a b d o
 
   opens : isOpen (opening o .hub) ≡ true → opening o .answer ≡ Answer.Opened
   unfolding openingIf fresh
-  opens = go (upTo32 (o .permits)) (upTo32 (o .parties))
+  opens = go (upTo32 (o .permits)) (upTo32 (o .parties)) (radiosDiffer o)
     where
-      go : (a b : Bool) → isOpen (outcome a b .hub) ≡ true → outcome a b .answer ≡ Answer.Opened
-      go true true z = refl
-      go true false z = let e : _≡_ {A = ℕ} 0 1 = cc in absurd (omega arith)
-      go false b z = let e : _≡_ {A = ℕ} 0 1 = cc in absurd (omega arith)
+      go : (a b d : Bool) → isOpen (outcome a b d .hub) ≡ true
+          → outcome a b d .answer ≡ Answer.Opened
+      go true true true z = refl
+      go true true false z = let e : _≡_ {A = ℕ} 0 1 = cc in absurd (omega arith)
+      go true false d z = let e : _≡_ {A = ℕ} 0 1 = cc in absurd (omega arith)
+      go false b d z = let e : _≡_ {A = ℕ} 0 1 = cc in absurd (omega arith)
 
   opens-not : isOpen (opening o .hub) ≡ false
       → leftOut (printed (opening o .answer) .code) ≡ true
   unfolding openingIf fresh
-  opens-not = go (upTo32 (o .permits)) refl (upTo32 (o .parties))
+  opens-not = go (upTo32 (o .permits)) refl (upTo32 (o .parties)) (radiosDiffer o)
     where
-      go : (a : Bool) → upTo32 (o .permits) ≡ a → (b : Bool) → isOpen (outcome a b .hub) ≡ false
-          → leftOut (printed (outcome a b .answer) .code) ≡ true
-      go true e true z =
+      go : (a : Bool) → upTo32 (o .permits) ≡ a → (b d : Bool) → isOpen (outcome a b d .hub) ≡ false
+          → leftOut (printed (outcome a b d .answer) .code) ≡ true
+      go true e true true z =
           let f = first (leb 1 (o .permits)) (leb (o .permits) 32) e in
           let g : _≡_ {A = ℕ} 0 1 = cc in absurd (omega arith)
-      go true e false z = refl
-      go false e b z = refl
+      go true e true false z = refl
+      go true e false d z = refl
+      go false e b d z = refl
 
 -- Before an opening, and from it on.
 abbrev Follows : List Request → Schedule → Type 0

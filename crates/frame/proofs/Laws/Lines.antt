@@ -4,13 +4,14 @@ use mathlib.Core.Path.{_≡_, refl, sym, ap, _∙_, subst}
 use mathlib.Core.Bool.{Bool, true, false}
 use mathlib.Core.List.{List, [], _∷_, _++_, map}
 use native.Mathlib.Omega.{arith}
-use borrow.Author.Tests.{lt-ltb, eq-eqb, ne-eqb, ltb-true, ltb-false}
+use borrow.Author.Tests.{eq-eqb, ne-eqb, ltb-true, ltb-false}
 use lib.Dec.{eqb, ltb}
 use lib.ListN.{length, take, set, length-append, length-set}
 use lib.Seq.{take-all, take-append-le, take-suc-set, length-take-le}
 use Rattle.hub.proofs.Laws.Bools.{if-true, if-false}
 use Rattle.line.specs.Program.{leftOver, linesFrom}
-use Rattle.line.specs.Requests.{LONGEST, Request, malformed, requestOf}
+use Rattle.line.specs.Requests.{LONGEST, Request, malformed, requested, requestOf}
+use Rattle.line.proofs.Laws.Lines.{too-long}
 use Rattle.frame.specs.declared.reader.Reader.{Reader}
 use Rattle.frame.specs.Reading.{KEPT, lineIn, pushed, emptied, next, past, asked}
 use Rattle.frame.specs.Session.{rest}
@@ -22,9 +23,9 @@ pub record Keeps (r : Reader) (l : List ℕ) : Type 0 where
   pub same : lineIn r ≡ take KEPT l
 
 -- They ask what the whole line does: nothing, if it is too long.
-too-long : (l : List ℕ) → LONGEST < length l → requestOf l ≡ malformed
-unfolding requestOf
-too-long l m = rw (lt-ltb LONGEST (length l) m)
+nothing-asked : (l : List ℕ) → LONGEST < length l → requestOf l ≡ malformed
+unfolding requestOf requested
+nothing-asked l m = ap requested (sym (too-long l m))
 
 clipped : (l : List ℕ) → requestOf (take KEPT l) ≡ requestOf l
 clipped l = go (ltb KEPT (length l)) refl
@@ -32,8 +33,8 @@ clipped l = go (ltb KEPT (length l)) refl
     go : (b : Bool) → ltb KEPT (length l) ≡ b → requestOf (take KEPT l) ≡ requestOf l
     go true e =
         let m = ltb-true KEPT (length l) e in
-        too-long (take KEPT l) (omega (arith, length-take-le KEPT l (omega arith)))
-        ∙ sym (too-long l (omega arith))
+        nothing-asked (take KEPT l) (omega (arith, length-take-le KEPT l (omega arith)))
+        ∙ sym (nothing-asked l (omega arith))
     go false e = ap requestOf (take-all KEPT l (ltb-false KEPT (length l) e))
 
 module _ (r : Reader) (l : List ℕ) (k : Keeps r l) where

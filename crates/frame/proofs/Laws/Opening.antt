@@ -16,7 +16,7 @@ use Rattle.hub.specs.declared.record.Hub.{Hub}
 use Rattle.hub.specs.declared.record.Outcome.{Outcome}
 use Rattle.hub.specs.Answers.{plain}
 use Rattle.hub.specs.Basics.{upTo32}
-use Rattle.hub.specs.Opening.{fresh, opening, openingIf}
+use Rattle.hub.specs.Opening.{fresh, opening, openingIf, radiosDiffer}
 use Rattle.hub.proofs.Laws.Bools.{if-true, if-false}
 use Rattle.hub.proofs.Laws.Opening.{accepted}
 use Rattle.line.specs.Form.{asText}
@@ -57,20 +57,21 @@ session-shut h (inr r) o = not-both (reachable-open h r) o
 
 opening-session : (o : Opening) → SessionHub (opening o .hub)
 unfolding openingIf
-opening-session o = go (upTo32 (o .permits)) refl (upTo32 (o .parties)) refl
+opening-session o =
+    go (upTo32 (o .permits)) refl (upTo32 (o .parties)) refl (radiosDiffer o) refl
   where
-    yes : upTo32 (o .permits) ≡ true → upTo32 (o .parties) ≡ true
+    yes : upTo32 (o .permits) ≡ true → upTo32 (o .parties) ≡ true → radiosDiffer o ≡ true
         → opening o ≡ record { answer = Answer.Opened; hub = fresh o }
-    yes e f =
-        accepted (upTo32 (o .permits)) (upTo32 (o .parties)) o e f
+    yes = accepted (upTo32 (o .permits)) (upTo32 (o .parties)) (radiosDiffer o) o
 
     go : (a : Bool) → upTo32 (o .permits) ≡ a → (b : Bool) → upTo32 (o .parties) ≡ b
-        → SessionHub (openingIf a b o .hub)
-    go true e true f =
-        inr (subst (λ (x : Outcome). Reachable (x .hub)) (yes e f)
-        (opening-reachable o (ap (λ (x : Outcome). x .answer) (yes e f))))
-    go true e false f = inl refl
-    go false e b f = inl refl
+        → (d : Bool) → radiosDiffer o ≡ d → SessionHub (openingIf a b d o .hub)
+    go true e true f true g =
+        inr (subst (λ (x : Outcome). Reachable (x .hub)) (yes e f g)
+        (opening-reachable o (ap (λ (x : Outcome). x .answer) (yes e f g))))
+    go true e true f false g = inl refl
+    go true e false f d g = inl refl
+    go false e b f d g = inl refl
 
 before-session : (q : Request) → SessionHub (beforeOpen q .hub)
 unfolding beforeOpen
@@ -170,6 +171,7 @@ refused-line (toCall a) c p e f m = (
     call-code Op.Step = refl
     call-code Op.Cancel = refl
     call-code Op.Release = refl
+    call-code Op.Radio = refl
 
 pub opening-header : (q : Request) → headerOf q .code ≡ 0x01 → isOpening q ≡ true
 opening-header malformed e = absurd (omega arith)
@@ -181,6 +183,7 @@ opening-header (toCall c) e = absurd (go (c .op) e)
     go Op.Step e = omega arith
     go Op.Cancel e = omega arith
     go Op.Release e = omega arith
+    go Op.Radio e = omega arith
 
 -- What is known once the reading stops.
 abbrev pub Stops : Hub → Reader → List ℕ → List ℕ → Begun → List ℕ → Type 0

@@ -1,22 +1,19 @@
 -- The lines of a schedule are answered as the schedule is.
 use mathlib.Core.Path.{_≡_, refl, ap, _∙_}
 use mathlib.Core.List.{List, [], _∷_, _++_, map}
-use native.Mathlib.Omega.{arith}
 use Rattle.hub.specs.declared.answers.Answer.{Answer}
 use Rattle.hub.specs.declared.moves.Call.{Call}
 use Rattle.hub.specs.declared.opening.Opening.{Opening}
 use Rattle.hub.specs.Answers.{plain, printed}
 use Rattle.hub.specs.Opening.{fresh, opening}
-use Rattle.hub.proofs.Demand3.{in-range}
 use Rattle.line.specs.Form.{asText}
 use Rattle.line.specs.Frame.{codeOf}
-use Rattle.line.specs.Hex.{hexOf}
 use Rattle.line.specs.Program.{unopened, Reply, beforeOpen, respond}
 use Rattle.line.specs.Program.{replies, after, rendered, closing, linesFrom, linesOf, outputOf}
 use Rattle.line.specs.Requests.{toOpen, toCall, requestOf}
 use Rattle.line.proofs.Laws.Schedules.{schedule-replies, schedule-after}
 use Rattle.batch.proofs.Laws.Reachable.{reachable-open, opening-reachable}
-use Rattle.frame.specs.Schedule.{callLines, inputOf, PartyBytes}
+use Rattle.frame.specs.Schedule.{callLines, openingFrame, inputOf, PartyBytes}
 use Rattle.frame.specs.Schedule.{PrintsSchedule}
 use Rattle.frame.proofs.Laws.Written.{line-read, call-back, opening-back}
 
@@ -34,11 +31,6 @@ openedReply = record { party = 0xFF; answer = plain 0x1F }
 
 -- From the opening on.
 module _ (o : Opening) (e : opening o .answer ≡ Answer.Opened) where
-  pub asked-opening : requestOf (hexOf (0x01 ∷ o .permits ∷ o .parties ∷ [])) ≡ toOpen o
-  asked-opening =
-      let r = in-range o e in
-      opening-back o (omega (arith, r .permits .1)) (omega (arith, r .parties .1))
-
   opening-response : respond unopened (toOpen o)
       ≡ record { reply = openedReply; hub = opening o .hub }
   unfolding respond beforeOpen fresh
@@ -50,13 +42,13 @@ module _ (o : Opening) (e : opening o .answer ≡ Answer.Opened) where
 
 pub prints-schedule : PrintsSchedule
 unfolding PrintsSchedule outputOf replies rendered after
-prints-schedule o e cs b =
+prints-schedule o e w cs b =
     let h = opening o .hub in
     let t = opening-response o e in
     let f = reachable-open h (opening-reachable o e) in
     let asked : map requestOf (linesOf (inputOf o cs)) ≡ toOpen o ∷ map toCall cs =
-    ap (map requestOf) (line-read (0x01 ∷ o .permits ∷ o .parties ∷ []) [] (callLines cs))
-    ∙ (λ i. asked-opening o e i ∷ calls-asked cs b i) in
+    ap (map requestOf) (line-read (openingFrame o) [] (callLines cs))
+    ∙ (λ i. opening-back o e w i ∷ calls-asked cs b i) in
     (λ i. rendered asText (replies unopened (asked i)) ++ closing (after unopened (asked i)))
     ∙ (λ i. rendered asText (t i .reply ∷ replies (t i .hub) (map toCall cs))
     ++ closing (after (t i .hub) (map toCall cs)))

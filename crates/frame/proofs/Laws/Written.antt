@@ -1,22 +1,30 @@
 -- A line that is written is read back as it was.
 use Prim.Native.Nat.{ℕ, zero, suc, _+_, _*_, _/_, _%_, _≤_, _<_}
 use mathlib.Core.Path.{_≡_, refl, sym, ap, _∙_, subst}
-use mathlib.Core.Bool.{Bool, true, false, not, _&&_}
+use mathlib.Core.Bool.{Bool, true, false, cond, not, _&&_}
 use mathlib.Core.List.{List, [], _∷_, _++_, append-assoc, append-nil}
 use native.Mathlib.Omega.{arith}
 use borrow.Author.Tests.{eqb-true, eqb-false, not-true}
 use lib.Dec.{eqb}
+use lib.ListN.{length}
+use Rattle.hub.specs.declared.answers.Answer.{Answer}
 use Rattle.hub.specs.declared.moves.Call.{Call}
 use Rattle.hub.specs.declared.moves.Op.{Op}
 use Rattle.hub.specs.Basics.{allFrom}
 use Rattle.hub.specs.declared.opening.Opening.{Opening}
-use Rattle.hub.proofs.Laws.Bools.{first, second, if-false}
-use Rattle.line.specs.Frame.{isCall, opOf, codeOf}
+use Rattle.hub.specs.Demand3.{AllBelow}
+use Rattle.hub.specs.Opening.{opening}
+use Rattle.hub.specs.Radios.{radiosOf}
+use Rattle.hub.proofs.Demand3.{InRange, in-range}
+use Rattle.hub.proofs.Laws.Bools.{first, second, if-true, if-false}
+use Rattle.hub.proofs.Radios.Length.{radios-length}
+use Rattle.line.specs.Frame.{isCall, codeOf}
 use Rattle.line.specs.Hex.{digitOf, byteOf, charOf, hexOf, textOf}
 use Rattle.line.specs.Program.{linesFrom}
-use Rattle.line.specs.Requests.{toOpen, toCall, requestOf}
+use Rattle.line.specs.Requests.{malformed, toOpen, toCall, allDigits, bytesOf, requested, requestOf}
 use Rattle.line.proofs.Laws.Codes.{is-call, op-back}
-use Rattle.line.proofs.Laws.Lines.{four, six, byte-both}
+use Rattle.line.proofs.Laws.Lines.{byte-both, spells, byte-is, one-more, none, readable}
+use Rattle.frame.specs.Schedule.{openingFrame, Spelled}
 
 -- What holds of all the numbers in a row holds of each.
 one-of : (f : ℕ → Bool) (n i j : ℕ) → allFrom f i n ≡ true → i ≤ j → j < i + n → f j ≡ true
@@ -86,34 +94,66 @@ spelled-back b l m =
     whole : (b : ℕ) → b < 256 → 16 * (b / 16 % 16) + b % 16 ≡ b
     whole b m = omega arith
 
+is-byte : {a b : ℕ} → a ≡ b → b < 256 → a < 256
+is-byte e m = omega (arith, e)
+
+-- The characters of some bytes are digits, two each, and spell those bytes.
+hex-length : (bs : List ℕ) → length (hexOf bs) ≡ 2 * length bs
+hex-length [] = refl
+hex-length (b ∷ bs) = omega (arith, hex-length bs)
+
+bytes-back : (bs : List ℕ) → AllBelow 256 bs → (allDigits (hexOf bs) ≡ true) × (bytesOf (hexOf bs) ≡ bs)
+unfolding AllBelow bytesOf
+bytes-back [] l = (none, refl)
+bytes-back (b ∷ bs) l =
+    let e = spelled-back b (hexOf bs) (l .0) in
+    let d = spells _ _ (hexOf bs) (is-byte e (l .0)) in
+    let i = bytes-back bs (l .1) in (
+      one-more _ _ (hexOf bs) d (i .0),
+      (λ j. (sym (byte-is _ _ (hexOf bs) d) ∙ e) j ∷ i .1 j),
+    )
+
+-- A line asks what it was written for.
+line-back : (bs : List ℕ) → AllBelow 256 bs → length bs ≤ 80 → requestOf (hexOf bs) ≡ requested bs
+unfolding requestOf
+line-back bs l m =
+    let i = bytes-back bs l in
+    let n = hex-length bs in
+    ap requested
+    (sym (readable (hexOf bs) (omega (arith, n)) (λ e. omega (arith, n, e)) (i .0)) ∙ i .1)
+
 code-byte : (o : Op) → codeOf o < 256
 code-byte Op.Acquire = omega arith
 code-byte Op.Step = omega arith
 code-byte Op.Cancel = omega arith
 code-byte Op.Release = omega arith
+code-byte Op.Radio = omega arith
 
-is-byte : {a b : ℕ} → a ≡ b → b < 256 → a < 256
-is-byte e m = omega (arith, e)
-
--- A line asks what it was written for.
 pub call-back : (c : Call) → c .party < 256
     → requestOf (hexOf (codeOf (c .op) ∷ c .party ∷ [])) ≡ toCall c
+unfolding requested AllBelow
 call-back c m =
     let o = c .op in
-    let e = spelled-back (codeOf o) (hexOf (c .party ∷ [])) (code-byte o) in
-    let f = spelled-back (c .party) [] m in
-    sym
-    (four (hexOf (codeOf o ∷ c .party ∷ [])) refl (ap isCall e ∙ is-call o) (is-byte e (code-byte o))
-    (is-byte f m))
-    ∙ (λ i. toCall (record { op = (ap opOf e ∙ op-back o) i; party = f i }))
+    line-back (codeOf o ∷ c .party ∷ []) (code-byte o, (m, tt)) (omega arith)
+    ∙ if-true (isCall (codeOf o)) _ malformed (is-call o)
+    ∙ (λ i. toCall (record { op = op-back o i; party = c .party }))
 
-pub opening-back : (o : Opening) → o .permits < 256 → o .parties < 256
-    → requestOf (hexOf (0x01 ∷ o .permits ∷ o .parties ∷ [])) ≡ toOpen o
-opening-back o l m =
-    let e = spelled-back (o .permits) (hexOf (o .parties ∷ [])) l in
-    let f = spelled-back (o .parties) [] m in
-    sym
-    (six (hexOf (0x01 ∷ o .permits ∷ o .parties ∷ [])) refl
-    (spelled-back 0x01 (hexOf (o .permits ∷ o .parties ∷ [])) (omega arith)) (is-byte e l)
-    (is-byte f m))
-    ∙ (λ i. toOpen (record { permits = e i; parties = f i }))
+pub opening-back : (o : Opening) → opening o .answer ≡ Answer.Opened → Spelled o
+    → requestOf (hexOf (openingFrame o)) ≡ toOpen o
+unfolding AllBelow
+opening-back o e s = let g = go (o .named) in line-back (openingFrame o) (g .0) (g .1) ∙ s .1
+  where
+    r : InRange o
+    r = in-range o e
+
+    go : (b : Bool)
+        → let f = cond b (0x02 ∷ o .permits ∷ o .parties ∷ radiosOf o) (0x01 ∷ o .permits ∷ o .parties ∷ []) in
+        AllBelow 256 f × (length f ≤ 80)
+    go true = (
+      (omega arith, (omega (arith, r .permits .1), (omega (arith, r .parties .1), s .0))),
+      omega (arith, r .permits .1, radios-length o (r .permits .1)),
+    )
+    go false = (
+      (omega arith, (omega (arith, r .permits .1), (omega (arith, r .parties .1), tt))),
+      omega arith,
+    )

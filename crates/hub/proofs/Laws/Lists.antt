@@ -1,11 +1,17 @@
 -- Sums over a list, and what one changed element does to them.
 use Prim.Native.Nat.{ℕ, zero, suc, suc-le-suc, _+_, _*_, _≤_, _<_}
 use mathlib.Core.Path.{_≡_, refl, ap}
-use mathlib.Core.List.{List, [], _∷_, map}
+use mathlib.Core.List.{List, [], _∷_, _++_, map}
 use native.Mathlib.Nat.{le-of-suc-le-suc, not-suc-le-zero, mul-zero, mul-add}
 use native.Mathlib.Omega.{arith}
 use lib.ListN.{length, getD, set, replicate}
 use Rattle.hub.specs.Basics.{weight}
+
+-- One element replaced, then each changed: the other way round.
+pub map-set : {A B : Type 0} (f : A → B) (l : List A) (i : ℕ) (x : A) → map f (set l i x) ≡ set (map f l) i (f x)
+map-set f [] i x = refl
+map-set f (y ∷ l) zero x = refl
+map-set {B = B} f (y ∷ l) (suc i) x = ap (λ (r : List B). f y ∷ r) (map-set f l i x)
 
 module _ {A : Type 0} (f : A → ℕ) where
   -- The law by which every count is kept: one element replaced.
@@ -20,6 +26,11 @@ module _ {A : Type 0} (f : A → ℕ) where
   unfolding weight
   weight-replicate a e zero = refl
   weight-replicate a e (suc n) = omega (arith, e, weight-replicate a e n)
+
+  pub weight-append : (l m : List A) → weight f (l ++ m) ≡ weight f l + weight f m
+  unfolding weight
+  weight-append [] m = omega arith
+  weight-append (x ∷ l) m = omega (arith, weight-append l m)
 
   pub weight-length : ((x : A) → f x ≤ 1) → (l : List A) → weight f l ≤ length l
   unfolding weight

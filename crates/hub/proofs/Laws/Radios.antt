@@ -13,7 +13,7 @@ use lib.ListN.{length-replicate, length-set, take-append-drop}
 use lib.Seq.{length-take-le, take-append-le, take-all, take-suc, take-take, getD-set-same, getD-set-other}
 use Rattle.hub.specs.declared.opening.Opening.{Opening}
 use Rattle.hub.specs.Basics.{among, bit}
-use Rattle.hub.specs.Radios.{STORE, differ, radiosOf, whole}
+use Rattle.hub.specs.Radios.{STORE, differ, radiosOf, ringFrom, whole}
 
 -- 32 bytes are the whole of it.
 pub whole-same : (l : List ℕ) → length l ≡ STORE → whole l ≡ l
@@ -38,6 +38,12 @@ or-true false = refl
 or-false : (c : Bool) → c || false ≡ c
 or-false true = refl
 or-false false = refl
+
+-- So many are in a ring.
+pub ring-length : (l : List ℕ) (i n : ℕ) → length (ringFrom l i n) ≡ n
+unfolding ringFrom
+ring-length l i zero = refl
+ring-length l i (suc n) = ap suc (ring-length l (suc i) n)
 
 -- One more is met.
 among-end : (l : List ℕ) (x b : ℕ) → among (l ++ (x ∷ [])) b ≡ among l b || eqb b x

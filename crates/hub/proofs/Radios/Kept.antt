@@ -27,6 +27,7 @@ use Rattle.hub.specs.Record.{PARTIES, emptySeat, freeSlot, phasesOf, pla
 use Rattle.hub.specs.Ring.{PLACES, Ring, canRetire, canSkip, readPlace, readSeat, retire, retired}
 use Rattle.hub.specs.Ring.{skip, skipped, writeSeat}
 use Rattle.hub.proofs.Laws.Bools.{if-false, second}
+use Rattle.hub.proofs.Laws.Lists.{map-set}
 use Rattle.hub.proofs.Laws.Opening.{kept-opening}
 use Rattle.hub.proofs.Laws.Phases.{phases-alike, place-of}
 use Rattle.hub.proofs.Laws.Radios.{whole-length}
@@ -127,11 +128,6 @@ unfolding tidied
 tidied-slots h = refl
 
 -- What a move leaves.
-map-set : {A B : Type 0} (f : A → B) (l : List A) (i : ℕ) (x : A) → map f (set l i x) ≡ set (map f l) i (f x)
-map-set f [] i x = refl
-map-set f (y ∷ l) zero x = refl
-map-set {B = B} f (y ∷ l) (suc i) x = ap (λ (r : List B). f y ∷ r) (map-set f l i x)
-
 placed-permits : (h : Hub) (a : PlaceSlot) (f : Phase)
     → permitsAt (placed h f a .places)
     ≡ byTicket (permitsAt (h .places)) (λ t. set (permitsAt (h .places)) (t % PLACES) (isPermit (a .place))) f

@@ -21,6 +21,7 @@ use Rattle.hub.specs.Radios.{shown, storedIn}
 use Rattle.hub.specs.RadiosKept.{FirstInFirstOut}
 use Rattle.hub.specs.Record.{PARTIES, phasesOf, placesOf}
 use Rattle.hub.specs.Ring.{PLACES}
+use Rattle.hub.proofs.Laws.Lists.{weight-append}
 use Rattle.hub.proofs.Radios.Store.{first-in-first-out, stored-first}
 
 -- Who has a radio; at which places a permit is.
@@ -46,11 +47,6 @@ abbrev pub one : ℕ → ℕ
 one r = 1
 
 module _ (g : ℕ → ℕ) where
-  weight-append : (l m : List ℕ) → weight g (l ++ m) ≡ weight g l + weight g m
-  unfolding weight
-  weight-append [] m = omega arith
-  weight-append (x ∷ l) m = omega (arith, weight-append l m)
-
   both-set : (bs : List Bool) (rs : List ℕ) (i : ℕ) (b : Bool) (r : ℕ) → i < length bs → i < length rs
       → sum g (set bs i b) (set rs i r) + share g (getD bs i false) (getD rs i 0) ≡ sum g bs rs + share g b r
   unfolding sum

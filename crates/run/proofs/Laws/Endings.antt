@@ -15,13 +15,14 @@ use Rattle.hub.specs.declared.opening.Opening.{Opening}
 use Rattle.hub.specs.declared.record.Hub.{Hub}
 use Rattle.hub.specs.declared.record.Outcome.{Outcome}
 use Rattle.hub.specs.Basics.{upTo32}
-use Rattle.hub.specs.Opening.{fresh, openingIf, opening}
+use Rattle.hub.specs.Opening.{fresh, openingIf, opening, radiosDiffer}
 use Rattle.hub.proofs.Laws.Opening.{accepted}
 use Rattle.line.specs.Form.{asBytes}
+use Rattle.line.specs.Requests.{Request, toOpen, toCall, isOpening}
 use Rattle.batch.specs.Batch.{replied, Reachable}
 use Rattle.batch.proofs.Laws.Reachable.{reachable-open, opening-reachable}
 use Rattle.run.specs.Bytes.{wellFormed}
-use Rattle.run.specs.Run.{written, runIf, runOf}
+use Rattle.run.specs.Run.{written, runIf, runOf, framedRun}
 use Rattle.run.specs.declared.Ran.{Ran}
 use Rattle.run.proofs.Laws.Answers.{all-answered}
 
@@ -29,10 +30,17 @@ use Rattle.run.proofs.Laws.Answers.{all-answered}
 abbrev others : List ℕ
 others =
     1 ∷ 2 ∷ 3 ∷ 4 ∷ 5 ∷ 6 ∷ 7 ∷ 8 ∷ 9 ∷ 10 ∷ 11 ∷ 12 ∷ 13 ∷ 14 ∷ 15 ∷ 16 ∷ 17 ∷ 18 ∷ 19 ∷ 20 ∷ 21
-    ∷ []
+    ∷ 22 ∷ 23 ∷ 24 ∷ 25 ∷ 26 ∷ []
 
 abbrev NotRefused : Answer → Type 0
 NotRefused a = OneOf others (tagOf answer.the-type a)
+
+-- The three tests of an opening passed, and the record that it made.
+record Opened (k : Opening) (a b d : Bool) (h : Hub) : Type 0 where
+  permits : a ≡ true
+  parties : b ≡ true
+  radios : d ≡ true
+  made : h ≡ fresh k
 
 module _ (k : Opening) (calls out : List ℕ) where
   abbrev Ends : Ran → List ℕ → Type 0
@@ -42,48 +50,60 @@ module _ (k : Opening) (calls out : List ℕ) where
       → Ends (Ran.NotOpened r) out
   unfolding openingIf runIf
   refused o r e f =
-      go (upTo32 (k .permits)) (upTo32 (k .parties)) _ _ (sym (ap (λ (o : Outcome). o .answer) e) ∙ f)
+      go (upTo32 (k .permits)) (upTo32 (k .parties)) (radiosDiffer k) _ _
+      (sym (ap (λ (o : Outcome). o .answer) e) ∙ f)
     where
-      go : (a b w m : Bool) → openingIf a b k .answer ≡ Answer.Refused r
-          → (Ran.NotOpened r ≡ runIf a b w m k calls out .ran)
-          × (out ≡ runIf a b w m k calls out .out)
-      go false b w m e = (cc, refl)
-      go true false w m e = (cc, refl)
-      go true true w m e = let z : _≡_ {A = ℕ} 0 1 = cc in absurd (omega arith)
+      go : (a b d w m : Bool) → openingIf a b d k .answer ≡ Answer.Refused r
+          → (Ran.NotOpened r ≡ runIf a b d w m k calls out .ran)
+          × (out ≡ runIf a b d w m k calls out .out)
+      go false b d w m e = (cc, refl)
+      go true false d w m e = (cc, refl)
+      go true true false w m e = (cc, refl)
+      go true true true w m e = let z : _≡_ {A = ℕ} 0 1 = cc in absurd (omega arith)
 
   module _ (o : Outcome) (e : o ≡ opening k) (t : NotRefused (o .answer)) where
-    opened : (upTo32 (k .permits) ≡ true) × (upTo32 (k .parties) ≡ true) × (o .hub ≡ fresh k)
+    opened : Opened k (upTo32 (k .permits)) (upTo32 (k .parties)) (radiosDiffer k) (o .hub)
     unfolding openingIf
     opened =
-        rw e (go (upTo32 (k .permits)) (upTo32 (k .parties)) (rw e at t))
+        rw e (go (upTo32 (k .permits)) (upTo32 (k .parties)) (radiosDiffer k) (rw e at t))
       where
-        go : (a b : Bool) → NotRefused (openingIf a b k .answer)
-            → (a ≡ true) × (b ≡ true) × (openingIf a b k .hub ≡ fresh k)
-        go false b t = absurd (miss others 0 tt t)
-        go true false t = absurd (miss others 0 tt t)
-        go true true t = (refl, refl, refl)
+        go : (a b d : Bool) → NotRefused (openingIf a b d k .answer)
+            → Opened k a b d (openingIf a b d k .hub)
+        go false b d t = absurd (miss others 0 tt t)
+        go true false d t = absurd (miss others 0 tt t)
+        go true true false t = absurd (miss others 0 tt t)
+        go true true true t = record { permits = refl; parties = refl; radios = refl; made = refl }
 
     pub malformed : wellFormed calls ≡ false → Ends Ran.Malformed out
     unfolding runIf
-    malformed w = rw (opened .0, opened .1, w) (refl, refl)
+    malformed w = rw (opened .permits, opened .parties, opened .radios, w) (refl, refl)
 
     pub no-room : wellFormed calls ≡ true → length out / 7 < length calls / 2
         → Ends Ran.NoRoom out
     unfolding runIf
-    no-room w l = rw (opened .0, opened .1, w, lt-leb _ _ l) (refl, refl)
+    no-room w l = rw (opened .permits, opened .parties, opened .radios, w, lt-leb _ _ l) (refl, refl)
 
     -- The record needs no check.
     pub reachable : Reachable (o .hub)
     reachable =
         rw e (opening-reachable k
-        (ap (λ (x : Outcome). x .answer) (accepted (upTo32 (k .permits)) (upTo32 (k .parties)) k (opened .0) (opened .1))))
+        (ap (λ (x : Outcome). x .answer)
+        (accepted (upTo32 (k .permits)) (upTo32 (k .parties)) (radiosDiffer k) k (opened .permits)
+        (opened .parties) (opened .radios))))
 
     pub done : (l : List ℕ) → wellFormed calls ≡ true → length calls / 2 ≤ length out / 7
         → l ≡ replied asBytes (o .hub) (length calls / 2) calls out → Ends Ran.Done l
     unfolding runIf
     done l w m f =
-        rw (opened .0, opened .1, w, le-leb _ _ m) (
+        rw (opened .permits, opened .parties, opened .radios, w, le-leb _ _ m) (
           refl,
           f ∙ all-answered calls out (o .hub) w (reachable-open (o .hub) reachable)
-              ∙ ap (λ (h : Hub). written h calls out) (opened .2),
+              ∙ ap (λ (h : Hub). written h calls out) (opened .made),
         )
+
+-- What is no opening makes no run.
+pub no-opening : (q : Request) (calls out : List ℕ) → isOpening q ≡ false
+    → (Ran.BadOpening ≡ framedRun q calls out .ran) × (out ≡ framedRun q calls out .out)
+no-opening Request.malformed calls out e = (refl, refl)
+no-opening (toOpen o) calls out e = let z : _≡_ {A = ℕ} 0 1 = cc in absurd (omega arith)
+no-opening (toCall c) calls out e = (refl, refl)

@@ -5,8 +5,8 @@ use Rattle.run.proofs.hub_run.Statement.{statement}
 use Rattle.run.proofs.hub_run.Tie as tie
 use Rattle.run.specs.Run.{ranCode}
 
-run-calls-requires : tie.Need-run-calls-requires
-run-calls-requires c κs = search needs
+run-framed-requires : tie.Need-run-framed-requires
+run-framed-requires c κs = search needs
 
 ran-code-requires : tie.Need-ran-code-requires
 ran-code-requires c κs = search needs
@@ -16,8 +16,8 @@ same-length c = search needs
 
 returns : tie.Need-returns
 returns c =
-    let run = c .before .before .before .run-calls .ensures in
+    let run = c .before .before .before .run-framed .ensures in
     (c .ran-code .ensures ∙ ap ranCode (run .0), run .1)
 
 pub hub-run-spec : {M : Type 1} → statement M
-hub-run-spec = tie.close (tie.spec run-calls-requires ran-code-requires same-length returns)
+hub-run-spec = tie.close (tie.spec run-framed-requires ran-code-requires same-length returns)

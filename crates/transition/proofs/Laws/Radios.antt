@@ -17,10 +17,11 @@ use Rattle.hub.specs.Answers.{Printed, printed}
 use Rattle.hub.specs.Basics.{allFrom, implies}
 use Rattle.hub.specs.Fits.{figuresFit, fits, partyFits, placeFits, radiosFit}
 use Rattle.hub.specs.Opening.{radiosDiffer}
-use Rattle.hub.specs.Radios.{STORE, moved, poolAfter, radiosIn, radiosOf, rearranged, ringFrom, whole}
+use Rattle.hub.specs.Radios.{STORE, moved, poolAfter, radiosIn, radiosOf, rearranged, whole}
 use Rattle.hub.specs.Record.{PARTIES}
 use Rattle.hub.specs.Ring.{PLACES}
 use Rattle.hub.proofs.Laws.Bools.{first, second}
+use Rattle.hub.proofs.Laws.Radios.{ring-length}
 
 -- On a hub with radios the code moves one by the answer; on another the pool stays.
 module _ (named : Bool) (y : Printed) (p : ℕ) (q : Pool) where
@@ -50,11 +51,6 @@ refused-pool true Refusal.NotCancellable p q = refl
 refused-pool true Refusal.NotHolding p q = refl
 refused-pool true Refusal.SameRadios p q = refl
 
-ring-size : (l : List ℕ) (i n : ℕ) → length (ringFrom l i n) ≡ n
-unfolding ringFrom
-ring-size l i zero = refl
-ring-size l i (suc n) = ap suc (ring-size l (suc i) n)
-
 few-radios : (o : Opening) → length (radiosOf o) ≤ STORE
 unfolding radiosOf whole
 few-radios o = simp length-take (omega arith)
@@ -62,7 +58,7 @@ few-radios o = simp length-take (omega arith)
 stored-within : (h : Hub) → h .pool .stored ≤ length (radiosIn (h .slots) (h .places) (h .pool))
 unfolding radiosIn
 stored-within h =
-    simp length-append (omega (arith, ring-size (h .pool .store) (h .pool .first) (h .pool .stored)))
+    simp length-append (omega (arith, ring-length (h .pool .store) (h .pool .first) (h .pool .stored)))
 
 -- On a hub with radios whose record fits.
 pub few-stored : (h : Hub) → fits h ≡ true → h .opening .named ≡ true → h .pool .stored ≤ STORE

@@ -221,7 +221,10 @@ returns-2 c =
     (ap isOpen (sym hub) ∙ sym (c .before .is-open2 .ensures) ∙ c .if4 .taken) _ (none (head r)) _ hub
 
 loop-less-3 : tie.Need-loop-less-3 Inv-loop μ-loop
-loop-less-3 c = search needs
+loop-less-3 c =
+    let o = c .before .before .before .before in
+    let r = reading (o .before .before .before .before .before .before) in
+    omega (arith, r .before .before .before .before .loop-test .taken)
 
 loop-again-3 : tie.Need-loop-again-3 Inv-loop μ-loop
 loop-again-3 c =

@@ -48,7 +48,7 @@ returns c =
     feeds-early (early u) (sym (c .before .is-open .ensures) ∙ not-true _ (c .if1 .taken)) _
 
 mul-at : tie.Need-mul-at
-mul-at c = omega (arith, lines-few (early (opening c)))
+mul-at c = omega (arith, lines-few (early (opening c)), begun (opening c) .good)
 
 sub-feed-open : tie.Need-sub-feed-open
 sub-feed-open c = omega (arith, read-few (early (opening c)))
