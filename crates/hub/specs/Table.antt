@@ -1,6 +1,7 @@
 -- "Four calls", and call 14: what each does, decided from what it looks at.
 use Prim.Native.Nat.{ℕ, suc, zero, _+_}
 use mathlib.Core.Bool.{Bool, true, false, cond, _&&_}
+use mathlib.Core.List.{[], _∷_}
 use lib.Dec.{leb, eqb}
 use lib.IntN.{ℤ, pos, negsuc, sucℤ, predℤ}
 use Rattle.hub.specs.declared.answers.Answer.{Answer}

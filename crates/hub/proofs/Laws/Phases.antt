@@ -17,6 +17,7 @@ use Rattle.hub.specs.declared.record.Phase.the-variants.{Free, Holding, 
 use Rattle.hub.specs.declared.record.Phase.the-variants.{Suspending, Ticketed, Aborting}
 use Rattle.hub.specs.declared.record.Phase.the-variants.{Cancelling, Refusing, Releasing}
 use Rattle.hub.specs.declared.record.Phase.the-variants.{Resuming, ResumingAt, Fetching, Storing}
+use Rattle.hub.specs.declared.record.Phase.the-variants.{AcquiringMarked, SuspendingMarked, TicketedMarked}
 use Rattle.hub.specs.declared.record.Place.{Place}
 use Rattle.hub.specs.declared.record.Place.the-variants.{Empty, Waiting as WaitedBy, Permit}
 use Rattle.hub.specs.declared.record.Place.the-variants.{Cancelled, Refused, Done}
@@ -62,7 +63,8 @@ module _ {X : Type 0} (all : ℕ → List X) (none : X) (tag number : X → ℕ)
 abbrev pub phasesWith : ℕ → List Phase
 phasesWith t =
     Free ∷ Holding ∷ Waiting t ∷ Acquiring ∷ Suspending ∷ Ticketed t ∷ Aborting t ∷ Cancelling t
-    ∷ Refusing t ∷ Releasing ∷ Resuming ∷ ResumingAt t ∷ Fetching ∷ Storing ∷ []
+    ∷ Refusing t ∷ Releasing ∷ Resuming ∷ ResumingAt t ∷ Fetching ∷ Storing ∷ AcquiringMarked
+    ∷ SuspendingMarked ∷ TicketedMarked t ∷ []
 
 phase-back : (x : Phase) → getD (phasesWith (ticketOf x)) (tagOf phase.the-type x) Free ≡ x
 phase-back Free = refl
@@ -79,6 +81,9 @@ phase-back Resuming = refl
 phase-back (ResumingAt t) = refl
 phase-back Fetching = refl
 phase-back Storing = refl
+phase-back AcquiringMarked = refl
+phase-back SuspendingMarked = refl
+phase-back (TicketedMarked t) = refl
 
 pub phase-arm : {A : Type 0} (ks : List ℕ) (f : Phase → A) {a : A} (x : Phase)
     → map (λ k. f (getD (phasesWith (ticketOf x)) k Free)) ks ≡ replicate (length ks) a

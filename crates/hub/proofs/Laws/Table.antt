@@ -28,10 +28,10 @@ isListed (Wake q s a c) = true
 
 -- The rows that are chosen by a test are listed either way.
 module _ (s : Sight) where
-  acquiring : (b : Bool) → isListed (stepAcquiring b s) ≡ true
+  acquiring : (x : Phase) (b : Bool) → isListed (stepAcquiring x b s) ≡ true
   unfolding stepAcquiring
-  acquiring true = refl
-  acquiring false = refl
+  acquiring x true = refl
+  acquiring x false = refl
 
   releasing : (b : Bool) → isListed (stepReleasing b s) ≡ true
   unfolding stepReleasing
@@ -68,10 +68,10 @@ module _ (s : Sight) where
   listed-in Phase.Free = refl
   listed-in Phase.Holding = refl
   listed-in (Phase.Waiting t) = refl
-  listed-in Phase.Acquiring = acquiring _
+  listed-in Phase.Acquiring = acquiring _ _
   listed-in Phase.Suspending = refl
   listed-in (Phase.Ticketed t) =
-      places-alike (λ a. isListed (stepTicketed t a s)) (placeListed (Phase.Ticketed t)) (λ q. refl)
+      places-alike (λ a. isListed (stepTicketed (Phase.Waiting t) t a s)) (placeListed (Phase.Ticketed t)) (λ q. refl)
       (s .seat .place)
   listed-in (Phase.Aborting t) = aborting t _
   listed-in (Phase.Cancelling t) =
@@ -85,6 +85,11 @@ module _ (s : Sight) where
   listed-in (Phase.ResumingAt t) = resuming t _
   listed-in Phase.Fetching = fetching _
   listed-in Phase.Storing = refl
+  listed-in Phase.AcquiringMarked = acquiring _ _
+  listed-in Phase.SuspendingMarked = refl
+  listed-in (Phase.TicketedMarked t) =
+      places-alike (λ a. isListed (stepTicketed (Phase.Aborting t) t a s)) (placeListed (Phase.TicketedMarked t)) (λ q. refl)
+      (s .seat .place)
 
   pub listed-is-tabled : isListed (step s) ≡ placeListed (s .slot .phase) (s .seat .place)
   listed-is-tabled = listed-in (s .slot .phase)

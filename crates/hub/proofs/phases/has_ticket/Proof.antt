@@ -9,12 +9,12 @@ use Rattle.hub.proofs.phases.has_ticket.Tie as tie
 
 returns : tie.Need-returns
 returns c =
-    phase-arm (2 ∷ 5 ∷ 6 ∷ 7 ∷ 8 ∷ 11 ∷ []) (byTicket false (λ t. true)) (c .before .args .phase)
+    phase-arm (2 ∷ 5 ∷ 6 ∷ 7 ∷ 8 ∷ 11 ∷ 16 ∷ []) (byTicket false (λ t. true)) (c .before .args .phase)
     refl (c .match .keys1)
 
 returns-2 : tie.Need-returns-2
 returns-2 c =
-    phase-arm (allBut (2 ∷ 5 ∷ 6 ∷ 7 ∷ 8 ∷ 11 ∷ [])) (byTicket false (λ t. true)) (c .before .args .phase)
+    phase-arm (allBut (2 ∷ 5 ∷ 6 ∷ 7 ∷ 8 ∷ 11 ∷ 16 ∷ [])) (byTicket false (λ t. true)) (c .before .args .phase)
     refl (c .match .keys2)
 
 pub has-ticket-spec : {M : Type 1} → statement M

@@ -25,9 +25,12 @@ enum-known-phase-5 c = search needs
 enum-known-phase-6 : tie.Need-enum-known-phase-6
 enum-known-phase-6 c = search needs
 
+enum-known-phase-7 : tie.Need-enum-known-phase-7
+enum-known-phase-7 c = search needs
+
 returns : tie.Need-returns
 returns c =
-    phase-arm (allBut (2 ∷ 5 ∷ 6 ∷ 7 ∷ 8 ∷ 11 ∷ [])) ticketOf (c .before .args .phase) refl (c .match .keys7)
+    phase-arm (allBut (2 ∷ 5 ∷ 6 ∷ 7 ∷ 8 ∷ 11 ∷ 16 ∷ [])) ticketOf (c .before .args .phase) refl (c .match .keys8)
 
 returns-2 : tie.Need-returns-2
 returns-2 c = search needs
@@ -47,6 +50,9 @@ returns-6 c = search needs
 returns-7 : tie.Need-returns-7
 returns-7 c = search needs
 
+returns-8 : tie.Need-returns-8
+returns-8 c = search needs
+
 pub ticket-spec : {M : Type 1} → statement M
 ticket-spec =
     tie.close
@@ -57,10 +63,12 @@ ticket-spec =
     enum-known-phase-4
     enum-known-phase-5
     enum-known-phase-6
+    enum-known-phase-7
     returns
     returns-2
     returns-3
     returns-4
     returns-5
     returns-6
-    returns-7)
+    returns-7
+    returns-8)
