@@ -127,6 +127,36 @@ notYet =
     ∷ at (pos 0) Op.Radio 1 (withNumber 0x39 0x2F)
     ∷ []
 
+-- Giving up early: party 1 in asked, party 2 in numbered, each once; where a wait would begin it is given up. Party
+-- 0, given up early too, got its permit first.
+abbrev pub early : List Row
+early =
+    at (pos 1) Acquire 0 (plain 0x20)
+    ∷ at (pos 1) Cancel 0 (plain 0x20)
+    ∷ at (pos 1) Step 0 (plain 0x21)
+    ∷ at (pos 0) Cancel 0 (plain 0x09)
+    ∷ at (pos 0) Acquire 1 (plain 0x20)
+    ∷ at (pos 0) Cancel 1 (plain 0x20)
+    ∷ at (pos 0) Cancel 1 (plain 0x09)
+    ∷ at (pos 0) Step 1 (plain 0x22)
+    ∷ at (negsuc 0) Step 1 (withNumber 0x23 0)
+    ∷ at (negsuc 0) Acquire 2 (plain 0x20)
+    ∷ at (negsuc 0) Step 2 (plain 0x22)
+    ∷ at (negsuc 1) Step 2 (withNumber 0x23 1)
+    ∷ at (negsuc 1) Cancel 2 (plain 0x20)
+    ∷ at (negsuc 1) Step 1 (withNumber 0x24 0)
+    ∷ at (negsuc 1) Cancel 1 (plain 0x09)
+    ∷ at (negsuc 1) Step 1 (plain 0x2E)
+    ∷ at (negsuc 0) Step 1 (withNumber 0x30 0)
+    ∷ at (negsuc 0) Step 2 (withNumber 0x24 1)
+    ∷ at (negsuc 0) Step 2 (plain 0x2E)
+    ∷ at (pos 0) Step 2 (withNumber 0x30 1)
+    ∷ at (pos 0) Acquire 1 (plain 0x20)
+    ∷ at (pos 0) Step 1 (plain 0x22)
+    ∷ at (negsuc 0) Step 1 (withNumber 0x23 2)
+    ∷ at (negsuc 0) Step 1 (withNumber 0x24 2)
+    ∷ []
+
 unfoldable pub edges : List Edge
 edges =
     opens (sized 0 3) 0x02
@@ -147,6 +177,7 @@ edges =
     ∷ runs (withRadios 2 3 (0x0A ∷ 0x0B ∷ [])) inTurn 1 0 (pos 1)
     ∷ runs (withRadios 1 2 (0x2F ∷ [])) notYet 1 0 (pos 0)
     ∷ runs (sized 1 3) (at (pos 1) Op.Radio 0 (plain 0x39) ∷ []) 0 0 (pos 1)
+    ∷ runs (sized 1 3) early 1 1 (negsuc 0)
     ∷ []
 
 -- Two counters, and two answers, alike?

@@ -12,7 +12,7 @@ use lib.IntN.{ℤ, pos, negsuc}
 use Rattle.hub.specs.declared.record.Phase.{Phase}
 use Rattle.hub.specs.declared.record.Phase.the-variants.{Free, Waiting, Ticketed, Aborting}
 use Rattle.hub.specs.declared.record.Phase.the-variants.{Cancelling, Refusing, Resuming}
-use Rattle.hub.specs.declared.record.Phase.the-variants.{ResumingAt}
+use Rattle.hub.specs.declared.record.Phase.the-variants.{ResumingAt, TicketedMarked}
 use Rattle.hub.specs.declared.record.Place.{Place}
 use Rattle.hub.specs.Ledger.{phaseIn}
 use Rattle.hub.specs.Phases.{isOneOf, ticketOf}
@@ -57,7 +57,7 @@ pick-once l o j f = go (isOneOf l f)
 
 -- The owner of t is live with it, or has it skipped, or refuses it.
 abbrev liveAt : ℕ → Phase → ℕ
-liveAt t = pick (Ticketed 0 ∷ Waiting 0 ∷ Aborting 0 ∷ []) (λ u. same u t)
+liveAt t = pick (Ticketed 0 ∷ TicketedMarked 0 ∷ Waiting 0 ∷ Aborting 0 ∷ []) (λ u. same u t)
 
 abbrev cancelAt : ℕ → Phase → ℕ
 cancelAt t = pick (Cancelling 0 ∷ []) (λ u. same u t)
@@ -111,7 +111,7 @@ module _ (k : ℕ) (m : Queue) (inv : Inv k m) where
         sum-add (λ t. sum (liveAt t) m + sum (cancelAt t) m) (λ t. cancelledCell (places m t))
             (m .figures .resumed) j,
         sum-add (λ t. sum (liveAt t) m) (λ t. sum (cancelAt t) m) (m .figures .resumed) j,
-        row-of (Ticketed 0 ∷ Waiting 0 ∷ Aborting 0 ∷ []) (m .figures .resumed) j,
+        row-of (Ticketed 0 ∷ TicketedMarked 0 ∷ Waiting 0 ∷ Aborting 0 ∷ []) (m .figures .resumed) j,
         row-of (Cancelling 0 ∷ []) (m .figures .resumed) j,
         part cancelledCell (m .figures .resumed) j (omega (arith, near (inv .tickets))),
       )

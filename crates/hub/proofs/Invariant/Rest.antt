@@ -11,7 +11,7 @@ use borrow.Author.Tests.{eqb-true}
 use lib.Dec.{eqb}
 use Rattle.hub.specs.declared.record.Phase.{Phase}
 use Rattle.hub.specs.declared.record.Phase.the-variants.{Free, Holding, Waiting, Suspending}
-use Rattle.hub.specs.declared.record.Phase.the-variants.{ResumingAt, Fetching}
+use Rattle.hub.specs.declared.record.Phase.the-variants.{ResumingAt, Fetching, SuspendingMarked}
 use Rattle.hub.specs.declared.record.Place.{Place}
 use Rattle.hub.specs.declared.record.Place.the-variants.{Permit}
 use Rattle.hub.specs.Basics.{among, bit, weight}
@@ -125,7 +125,7 @@ module _ {l : List Phase} {g : ℕ → Place} {n i r b q e : ℕ} (inv : Tickets
   no-permits = sum-zero (λ t. permitCell (g t)) 0 TICKETS (λ t a k. each t (isPermit (g t)) refl)
     where
       none : weight suspending l ≡ 0
-      none = idle (Suspending ∷ []) one refl
+      none = idle (Suspending ∷ SuspendingMarked ∷ []) one refl
 
       each : (t : ℕ) (c : Bool) → isPermit (g t) ≡ c → bit c ≡ 0
       each t false z = refl

@@ -19,6 +19,7 @@ use Rattle.hub.specs.declared.record.Phase.the-variants.{Free, Holding, 
 use Rattle.hub.specs.declared.record.Phase.the-variants.{Suspending, Ticketed, Aborting}
 use Rattle.hub.specs.declared.record.Phase.the-variants.{Cancelling, Refusing, Releasing}
 use Rattle.hub.specs.declared.record.Phase.the-variants.{Resuming, ResumingAt, Fetching, Storing}
+use Rattle.hub.specs.declared.record.Phase.the-variants.{AcquiringMarked, SuspendingMarked, TicketedMarked}
 use Rattle.hub.specs.declared.record.Place.{Place}
 use Rattle.hub.specs.declared.record.Place.the-variants.{Empty, Waiting as WaitedBy, Permit}
 use Rattle.hub.specs.declared.record.Place.the-variants.{Cancelled, Refused, Done}
@@ -31,13 +32,15 @@ use Rattle.hub.specs.Phases.{byTicket, byWaiter, isOneOf, isPlaceOf, isF
 use Rattle.hub.specs.Phases.{isWaiting, ticketOf}
 use Rattle.hub.specs.Queue.{Queue, look, phases, places, write}
 use Rattle.hub.specs.Record.{MAX-BEGUN, emptySeat, freeSlot, readSlot, withPhase, withPlace, writeSlot}
-use Rattle.hub.specs.Table.{aboveZero, belowZero, acquire, cancel, release, decide, step, stepIn}
+use Rattle.hub.specs.Table.{aboveZero, belowZero, acquire, canCancel, cancel, givenUp, release, decide}
+use Rattle.hub.specs.Table.{step, stepIn}
 use Rattle.hub.specs.Table.{stepAcquiring, stepSuspending, stepTicketed, stepReleasing}
 use Rattle.hub.specs.Table.{stepResuming, resumeWaiter, stepResumingAt, stepAborting}
 use Rattle.hub.specs.Table.{stepCancelling, stepRefusing, stepFetching, stepStoring, tellRadio}
 use Rattle.hub.proofs.Laws.Lists.{weight-scale}
 use Rattle.hub.proofs.Laws.Phases.{every-phase, one-of}
 use Rattle.hub.proofs.Laws.Slots.{read-phase, write-phase}
+use Rattle.hub.proofs.Laws.Table.{can-cancel}
 use Rattle.hub.proofs.Invariant.Weights.{same, same-self, same-eq, lt, lt-yes, lt-no, lt-le}
 use Rattle.hub.proofs.Invariant.Weights.{lt-suc, took-above, took-below, gave-above}
 use Rattle.hub.proofs.Invariant.Weights.{gave-below, pick, own, hand, stand, stand-own, stage, stage-waiting}
@@ -88,7 +91,7 @@ module _ (k : ℕ) (m : Queue) (p : ℕ) (l : p < m .opening .parties) (inv : In
   -- Rows on the counter alone. The ticket next issued stands for all: nothing happens to it.
   asked : (u v : Bool) → aboveZero (m .figures .counter) ≡ u → m .opening .named ≡ v
       → phaseIn (phases m) p ≡ Acquiring
-      → Good k Step p m Acquiring (stepAcquiring u (seeing v))
+      → Good k Step p m Acquiring (stepAcquiring Suspending u (seeing v))
   unfolding stepAcquiring pick isOneOf isPlaceOf seenBy phaseAfter phasesAfter counterAfter servedAfter
   asked true true e n f =
       phase-row k m p l inv _ issued f
@@ -103,6 +106,29 @@ module _ (k : ℕ) (m : Queue) (p : ℕ) (l : p < m .opening .parties) (inv : In
       (names-kept k m p l inv issued _ _ f (omega arith))
       (omega arith) (refl, rw n, refl, refl) (λ xs a. a)
   asked false v e n f =
+      phase-row k m p l inv _ issued f
+      (omega (arith, inv .tickets .at issued, took-below (m .figures .counter) e))
+      (omega (arith, took-below (m .figures .counter) e))
+      (names-kept k m p l inv issued _ _ f (omega arith))
+      (omega arith) (refl, refl, refl, refl) (λ xs a. a)
+
+  asked-marked : (u v : Bool) → aboveZero (m .figures .counter) ≡ u → m .opening .named ≡ v
+      → phaseIn (phases m) p ≡ AcquiringMarked
+      → Good k Step p m AcquiringMarked (stepAcquiring SuspendingMarked u (seeing v))
+  unfolding stepAcquiring pick isOneOf isPlaceOf seenBy phaseAfter phasesAfter counterAfter servedAfter
+  asked-marked true true e n f =
+      phase-row k m p l inv _ issued f
+      (omega (arith, inv .tickets .at issued, took-above (m .figures .counter) e, ap bit n))
+      (omega (arith, took-above (m .figures .counter) e))
+      (names-kept k m p l inv issued _ _ f (omega arith))
+      (omega arith) (refl, rw n, refl, refl) (λ xs a. a)
+  asked-marked true false e n f =
+      phase-row k m p l inv _ issued f
+      (omega (arith, inv .tickets .at issued, took-above (m .figures .counter) e))
+      (omega (arith, took-above (m .figures .counter) e))
+      (names-kept k m p l inv issued _ _ f (omega arith))
+      (omega arith) (refl, rw n, refl, refl) (λ xs a. a)
+  asked-marked false v e n f =
       phase-row k m p l inv _ issued f
       (omega (arith, inv .tickets .at issued, took-below (m .figures .counter) e))
       (omega (arith, took-below (m .figures .counter) e))
@@ -173,9 +199,28 @@ module _ (k : ℕ) (m : Queue) (p : ℕ) (l : p < m .opening .parties) (inv : In
       go Done a = omega (arith, none, lt-no issued issued (omega arith))
 
   unnumbered : phaseIn (phases m) p ≡ Suspending
-      → Good k Step p m Suspending (stepSuspending (look m p))
+      → Good k Step p m Suspending (stepSuspending Ticketed (look m p))
   unfolding stepSuspending pick isOneOf isPlaceOf seenBy phaseAfter phasesAfter counterAfter servedAfter
   unnumbered f =
+      phase-row k m p l inv _ issued f
+      (omega (
+        arith,
+        same-self issued,
+        inv .tickets .at issued,
+        lt-suc issued issued,
+        fresh-cell,
+      ))
+      (record {
+        numbers = λ u z. (omega (arith, lt-suc u issued), refl);
+        order = λ u j h. omega (arith, lt-yes u issued h);
+      })
+      (names-kept k m p l inv issued _ _ f (omega arith))
+      (omega arith) (refl, refl, refl, refl) (λ xs a. a)
+
+  unnumbered-marked : phaseIn (phases m) p ≡ SuspendingMarked
+      → Good k Step p m SuspendingMarked (stepSuspending TicketedMarked (look m p))
+  unfolding stepSuspending pick isOneOf isPlaceOf seenBy phaseAfter phasesAfter counterAfter servedAfter
+  unnumbered-marked f =
       phase-row k m p l inv _ issued f
       (omega (
         arith,
@@ -225,7 +270,7 @@ module _ (k : ℕ) (m : Queue) (p : ℕ) (l : p < m .opening .parties) (inv : In
   owns t = omega (arith, same-self t)
 
   numbered : (t : ℕ) (a : Place) → places m t ≡ a → phaseIn (phases m) p ≡ Ticketed t
-      → Good k Step p m (Ticketed t) (stepTicketed t a (look m p))
+      → Good k Step p m (Ticketed t) (stepTicketed (Waiting t) t a (look m p))
   unfolding stepTicketed pick isOneOf isPlaceOf seenBy phaseAfter phasesAfter counterAfter servedAfter AllBelow
   numbered t Empty i e =
       place-row k m p l inv _ _ t e i (few t _ e (owns t))
@@ -247,6 +292,31 @@ module _ (k : ℕ) (m : Queue) (p : ℕ) (l : p < m .opening .parties) (inv : In
   numbered t Refused i e =
       let y : ⊥ = omega (arith, same-self t, known t _ e (owns t) _ i) in absurd y
   numbered t Done i e =
+      let y : ⊥ = omega (arith, same-self t, known t _ e (owns t) _ i) in absurd y
+
+  numbered-marked : (t : ℕ) (a : Place) → places m t ≡ a → phaseIn (phases m) p ≡ TicketedMarked t
+      → Good k Step p m (TicketedMarked t) (stepTicketed (Aborting t) t a (look m p))
+  unfolding stepTicketed pick isOneOf isPlaceOf seenBy phaseAfter phasesAfter counterAfter servedAfter AllBelow
+  numbered-marked t Empty i e =
+      place-row k m p l inv _ _ t e i (few t _ e (owns t))
+      (omega (arith, same-self t, known t _ e (owns t) _ i)) (omega arith)
+      (λ y. same-self t, λ y. absurd (y refl)) (omega arith) (refl, refl, refl, refl) (λ xs a. a)
+  numbered-marked t Permit i e =
+      let b = permit-below (inv .tickets) t i in
+      place-row k m p l inv _ _ t e i (few t _ e (owns t))
+      (omega (arith, same-self t, known t _ e (owns t) _ i))
+      (record {
+        numbers = λ v y. (refl, refl);
+        order = λ v h j. omega (arith, lt-no v t (omega arith));
+      })
+      tt (omega arith) (refl, refl, refl, refl) (λ xs a. (omega (arith, ap ticketOf e), a))
+  numbered-marked t (WaitedBy q) i e =
+      let y : ⊥ = omega (arith, same-self t, known t _ e (owns t) _ i) in absurd y
+  numbered-marked t Cancelled i e =
+      let y : ⊥ = omega (arith, same-self t, known t _ e (owns t) _ i) in absurd y
+  numbered-marked t Refused i e =
+      let y : ⊥ = omega (arith, same-self t, known t _ e (owns t) _ i) in absurd y
+  numbered-marked t Done i e =
       let y : ⊥ = omega (arith, same-self t, known t _ e (owns t) _ i) in absurd y
 
   cancelling : (t : ℕ) (a : Place) → places m t ≡ a → phaseIn (phases m) p ≡ Cancelling t
@@ -566,6 +636,9 @@ module _ (k : ℕ) (m : Queue) (p : ℕ) (l : p < m .opening .parties) (inv : In
   step-good (ResumingAt t) e = handing t e _ (sym (seen (ResumingAt t) e)) refl
   step-good Fetching e = fetching _ e
   step-good Storing e = storing e
+  step-good AcquiringMarked e = asked-marked _ _ refl refl e
+  step-good SuspendingMarked e = unnumbered-marked e
+  step-good (TicketedMarked t) e = numbered-marked t _ (sym (seen (TicketedMarked t) e)) e
 
   -- The other calls. The party's own phase is what its slot says.
   abbrev phase : Phase
@@ -586,18 +659,34 @@ module _ (k : ℕ) (m : Queue) (p : ℕ) (l : p < m .opening .parties) (inv : In
       (omega arith) (names-kept k m p l inv issued _ _ f (omega arith)) (omega arith)
       (refl, refl, refl, refl) (λ xs a. a)
 
-  cancel-good : (a b : Bool) → isWaiting phase ≡ a
-      → Good k Cancel p m phase (cancel a b (ticketOf phase) (look m p))
-  unfolding cancel pick isOneOf isPlaceOf seenBy phaseAfter phasesAfter counterAfter servedAfter
-  cancel-good false b e = refl
-  cancel-good true true e = refl
-  cancel-good true false e =
-      let t = ticketOf phase in
-      let f = is-of (Waiting t) (one-of (Waiting 0) phase e) in
-      phase-row k m p l inv _ t f
+  -- A wait is given up; before it the give-up is remembered.
+  abbrev GivesUp : Phase → Type 0
+  GivesUp f = phaseIn (phases m) p ≡ f → Good k Cancel p m f (cancel true false (givenUp f) (look m p))
+
+  gives-up : (f : Phase) → canCancel f ≡ true → GivesUp f
+  unfolding cancel givenUp pick isOneOf isPlaceOf seenBy phaseAfter phasesAfter counterAfter servedAfter
+  gives-up =
+      can-cancel GivesUp
+      (λ t f. phase-row k m p l inv _ t f
       (omega (arith, same-self t, known t _ f (owns t) _ refl, least-le (places m t)))
       (omega arith) (names-kept k m p l inv t _ _ f (omega arith)) (omega arith)
-      (refl, refl, refl, refl) (λ xs a. a)
+      (refl, refl, refl, refl) (λ xs a. a))
+      (λ f. phase-row k m p l inv _ issued f (omega (arith, inv .tickets .at issued)) (omega arith)
+      (names-kept k m p l inv issued _ _ f (omega arith)) (omega arith) (refl, refl, refl, refl)
+      (λ xs a. a))
+      (λ f. phase-row k m p l inv _ issued f (omega (arith, inv .tickets .at issued)) (omega arith)
+      (names-kept k m p l inv issued _ _ f (omega arith)) (omega arith) (refl, refl, refl, refl)
+      (λ xs a. a))
+      (λ t f. phase-row k m p l inv _ t f (omega (arith, same-self t, known t _ f (owns t) _ refl))
+      (omega arith) (names-kept k m p l inv t _ _ f (omega arith)) (omega arith)
+      (refl, refl, refl, refl) (λ xs a. a))
+
+  cancel-good : (a b : Bool) → canCancel phase ≡ a
+      → Good k Cancel p m phase (cancel a b (givenUp phase) (look m p))
+  unfolding cancel
+  cancel-good false b e = refl
+  cancel-good true true e = refl
+  cancel-good true false e = gives-up phase e (is-of phase refl)
 
   release-good : (a : Bool) → isHolding phase ≡ a
       → Good k Release p m phase (release a (look m p))

@@ -15,6 +15,7 @@ use Rattle.hub.specs.declared.record.Phase.the-variants.{Holding, Waitin
 use Rattle.hub.specs.declared.record.Phase.the-variants.{Suspending, Ticketed, Aborting}
 use Rattle.hub.specs.declared.record.Phase.the-variants.{Cancelling, Refusing, Releasing}
 use Rattle.hub.specs.declared.record.Phase.the-variants.{Resuming, ResumingAt, Fetching, Storing}
+use Rattle.hub.specs.declared.record.Phase.the-variants.{AcquiringMarked, SuspendingMarked, TicketedMarked}
 use Rattle.hub.specs.declared.record.Place.{Place}
 use Rattle.hub.specs.declared.record.Place.the-variants.{Empty, Waiting as WaitedBy, Permit}
 use Rattle.hub.specs.declared.record.Place.the-variants.{Cancelled, Refused, Done}
@@ -191,14 +192,14 @@ abbrev pub refusing : Phase → ℕ
 refusing = pick (Refusing 0 ∷ []) one
 
 abbrev pub drawing : Phase → ℕ
-drawing = pick (Acquiring ∷ Suspending ∷ []) one
+drawing = pick (Acquiring ∷ Suspending ∷ AcquiringMarked ∷ SuspendingMarked ∷ []) one
 
 abbrev pub suspending : Phase → ℕ
-suspending = pick (Suspending ∷ []) one
+suspending = pick (Suspending ∷ SuspendingMarked ∷ []) one
 
 -- Live: with a ticket, and the counter has not been told that it gave up.
 abbrev pub live : Phase → ℕ
-live = pick (Ticketed 0 ∷ Waiting 0 ∷ Aborting 0 ∷ []) one
+live = pick (Ticketed 0 ∷ TicketedMarked 0 ∷ Waiting 0 ∷ Aborting 0 ∷ []) one
 
 -- Handing: with a ticket to resume; carrying: without. About to have its own ticket skipped.
 abbrev pub handing : Phase → ℕ
@@ -217,7 +218,7 @@ radioed = pick (Fetching ∷ Storing ∷ []) one
 -- Of ticket t: its owner, its hand, who stands at its place, who refuses it.
 abbrev pub own : ℕ → Phase → ℕ
 own t =
-    pick (Ticketed 0 ∷ Waiting 0 ∷ Aborting 0 ∷ Cancelling 0 ∷ Refusing 0 ∷ []) (λ u. same u t)
+    pick (Ticketed 0 ∷ TicketedMarked 0 ∷ Waiting 0 ∷ Aborting 0 ∷ Cancelling 0 ∷ Refusing 0 ∷ []) (λ u. same u t)
 
 abbrev pub hand : ℕ → Phase → ℕ
 hand t = pick (ResumingAt 0 ∷ []) (λ u. same u t)
@@ -231,13 +232,13 @@ refuse t = pick (Refusing 0 ∷ []) (λ u. same u t)
 -- How far the owner of t is: 1 with a ticket, 3 waiting, 2 once it gave up.
 abbrev pub stage : ℕ → Phase → ℕ
 stage t f =
-    pick (Ticketed 0 ∷ []) (λ u. same u t) f
+    pick (Ticketed 0 ∷ TicketedMarked 0 ∷ []) (λ u. same u t) f
     + pick (Aborting 0 ∷ Cancelling 0 ∷ Refusing 0 ∷ []) (λ u. 2 * same u t) f
     + pick (Waiting 0 ∷ []) (λ u. 3 * same u t) f
 
 -- Live, with a ticket above t.
 abbrev pub above : ℕ → Phase → ℕ
-above t = pick (Ticketed 0 ∷ Waiting 0 ∷ Aborting 0 ∷ []) (lt t)
+above t = pick (Ticketed 0 ∷ TicketedMarked 0 ∷ Waiting 0 ∷ Aborting 0 ∷ []) (lt t)
 
 -- Cells: with a permit, cancelled, refused; without an owner any more; after its hand-over;
 -- the least and the most stage of its owner.

@@ -4,7 +4,7 @@ use Prim.Native.Nat.{ℕ, zero, suc}
 use mathlib.Core.Path.{_≡_, refl, sym, ap, subst, _∙_}
 use mathlib.Core.Bool.{Bool, true, false, cond, _||_}
 use mathlib.Core.List.{List, [], _∷_, map}
-use mathlib.Core.Logic.{inl, inr}
+use mathlib.Core.Logic.{_⊎_, inl, inr}
 use borrow.Author.Tests.{eqb-true}
 use lib.Dec.{eqb}
 use lib.ListN.{length, replicate, getD}
@@ -113,6 +113,19 @@ one-of f x e =
     alone : (b : Bool) → b || false ≡ true → b ≡ true
     alone true i = i
     alone false i = i
+
+-- A phase of a list is its first one or one of the others.
+pub one-or : (f : Phase) (l : List Phase) (x : Phase) → isOneOf (f ∷ l) x ≡ true
+    → (x ≡ getD (phasesWith (ticketOf x)) (rank f) Free) ⊎ (isOneOf l x ≡ true)
+unfolding isOneOf
+one-or f l x e = go (eqb (rank x) (rank f)) refl e
+  where
+    go : (b : Bool) → eqb (rank x) (rank f) ≡ b → b || among (map rank l) (rank x) ≡ true
+        → (x ≡ getD (phasesWith (ticketOf x)) (rank f) Free) ⊎ (isOneOf l x ≡ true)
+    go true z i =
+        inl (sym (of-rank x)
+        ∙ ap (λ (k : ℕ). getD (phasesWith (ticketOf x)) k Free) (eqb-true (rank x) (rank f) z))
+    go false z i = inr i
 
 -- What is made of a ticket depends on whether there is one, and on the ticket.
 abbrev pub ticketed : Phase → Bool

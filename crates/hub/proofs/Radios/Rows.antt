@@ -21,6 +21,7 @@ use Rattle.hub.specs.declared.record.Phase.the-variants.{Free, Holding, 
 use Rattle.hub.specs.declared.record.Phase.the-variants.{Suspending, Ticketed, Aborting}
 use Rattle.hub.specs.declared.record.Phase.the-variants.{Cancelling, Refusing, Releasing}
 use Rattle.hub.specs.declared.record.Phase.the-variants.{Resuming, ResumingAt, Fetching, Storing}
+use Rattle.hub.specs.declared.record.Phase.the-variants.{AcquiringMarked, SuspendingMarked, TicketedMarked}
 use Rattle.hub.specs.declared.record.Place.{Place}
 use Rattle.hub.specs.declared.record.Place.the-variants.{Empty, Waiting as WaitedBy, Permit}
 use Rattle.hub.specs.declared.record.Place.the-variants.{Cancelled, Refused, Done}
@@ -31,11 +32,12 @@ use Rattle.hub.specs.Phases.{isPlaceOf, isWaiting, ticketOf}
 use Rattle.hub.specs.Radios.{moved}
 use Rattle.hub.specs.Record.{PARTIES, emptySeat, freeSlot, readSlot}
 use Rattle.hub.specs.Ring.{PLACES, readPlace, readSeat}
-use Rattle.hub.specs.Table.{acquire, cancel, decide, release, stepIn, tellRadio}
+use Rattle.hub.specs.Table.{acquire, canCancel, cancel, decide, givenUp, release, stepIn, tellRadio}
 use Rattle.hub.specs.Table.{stepAcquiring, stepSuspending, stepTicketed, stepReleasing}
 use Rattle.hub.specs.Table.{stepResuming, resumeWaiter, stepResumingAt, stepAborting}
 use Rattle.hub.specs.Table.{stepCancelling, stepRefusing, stepFetching, stepStoring}
 use Rattle.hub.specs.Table.{withPermit, withoutPermit}
+use Rattle.hub.proofs.Laws.Table.{can-cancel}
 use Rattle.hub.proofs.Laws.Phases.{one-of}
 use Rattle.hub.proofs.Radios.Ways.{Same, Sized, carriers, permitsAt, unmoved, within}
 use Rattle.hub.proofs.Radios.Ways.{fetched, stored, left, passed, found, dropped}
@@ -101,11 +103,12 @@ module _ (h : Hub) (p : ℕ) (named : h .opening .named ≡ true)
       subst (λ (l : List Bool). After bs′ l q)
       (sym (set-getD cs (t % PLACES) false) ∙ ap (set cs (t % PLACES)) e)
 
-  asked : (z : Bool) → phase ≡ Acquiring → Goes Acquiring (stepAcquiring z (look h p))
+  asked : (f x : Phase) → hasRadio f ≡ false → hasRadio x ≡ false → (z : Bool) → phase ≡ f
+      → Goes f (stepAcquiring x z (look h p))
   unfolding stepAcquiring isOneOf moved seenBy
-  asked true e =
-      party-still (radio-of p e ∙ sym (ap (λ n. hasRadio (withPermit n)) named)) unmoved
-  asked false e = party-still (radio-of p e) unmoved
+  asked f x i j true e =
+      party-still (radio-of p e ∙ i ∙ sym (ap (λ n. hasRadio (withPermit n)) named)) unmoved
+  asked f x i j false e = party-still (radio-of p e ∙ i ∙ sym j) unmoved
 
   giving-back : (z : Bool) → phase ≡ Releasing → Goes Releasing (stepReleasing z (look h p))
   unfolding stepReleasing isOneOf moved seenBy
@@ -126,7 +129,7 @@ module _ (h : Hub) (p : ℕ) (named : h .opening .named ≡ true)
   fetching false i e = unmoved
 
   numbered : (t : ℕ) (a : Place) → readPlace (h .places) t ≡ a → phase ≡ Ticketed t
-      → Goes (Ticketed t) (stepTicketed t a (look h p))
+      → Goes (Ticketed t) (stepTicketed (Waiting t) t a (look h p))
   unfolding stepTicketed isOneOf isPlaceOf moved seenBy
   numbered t Empty i e = party-still (radio-of p e) (place-still t (there t i) unmoved)
   numbered t Permit i e =
@@ -135,6 +138,17 @@ module _ (h : Hub) (p : ℕ) (named : h .opening .named ≡ true)
   numbered t Cancelled i e = unmoved
   numbered t Refused i e = unmoved
   numbered t Done i e = unmoved
+
+  numbered-marked : (t : ℕ) (a : Place) → readPlace (h .places) t ≡ a → phase ≡ TicketedMarked t
+      → Goes (TicketedMarked t) (stepTicketed (Aborting t) t a (look h p))
+  unfolding stepTicketed isOneOf isPlaceOf moved seenBy
+  numbered-marked t Empty i e = party-still (radio-of p e) (place-still t (there t i) unmoved)
+  numbered-marked t Permit i e =
+      found bs cs (h .pool) s t (there t i) p (radio-of p e) (party-in p e refl)
+  numbered-marked t (WaitedBy q) i e = unmoved
+  numbered-marked t Cancelled i e = unmoved
+  numbered-marked t Refused i e = unmoved
+  numbered-marked t Done i e = unmoved
 
   cancelling : (t : ℕ) (a : Place) → readPlace (h .places) t ≡ a → phase ≡ Cancelling t
       → Goes (Cancelling t) (stepCancelling t a (look h p))
@@ -194,7 +208,7 @@ module _ (h : Hub) (p : ℕ) (named : h .opening .named ≡ true)
   step-goes Free e = unmoved
   step-goes Holding e = unmoved
   step-goes (Waiting t) e = unmoved
-  step-goes Acquiring e = asked _ e
+  step-goes Acquiring e = asked Acquiring Suspending refl refl _ e
   step-goes Suspending e = party-still (radio-of p e) unmoved
   step-goes (Ticketed t) e = numbered t _ (seen e) e
   step-goes (Aborting t) e = giving-up t _ e
@@ -205,6 +219,9 @@ module _ (h : Hub) (p : ℕ) (named : h .opening .named ≡ true)
   step-goes (ResumingAt t) e = handing t _ (seen e) refl e
   step-goes Fetching e = fetching _ refl e
   step-goes Storing e = stored bs cs (h .pool) s p (radio-of p e)
+  step-goes AcquiringMarked e = asked AcquiringMarked SuspendingMarked refl refl _ e
+  step-goes SuspendingMarked e = party-still (radio-of p e) unmoved
+  step-goes (TicketedMarked t) e = numbered-marked t _ (seen e) e
 
   acquire-goes : (a b d : Bool) → isFree phase ≡ a → Goes phase (acquire a b d (look h p))
   unfolding acquire isOneOf moved seenBy
@@ -213,12 +230,19 @@ module _ (h : Hub) (p : ℕ) (named : h .opening .named ≡ true)
   acquire-goes true false true e = unmoved
   acquire-goes true false false e = party-still (radio-of p (one-of Free phase e)) unmoved
 
-  cancel-goes : (a b : Bool) → isWaiting phase ≡ a
-      → Goes phase (cancel a b (ticketOf phase) (look h p))
-  unfolding cancel isOneOf moved seenBy
+  no-radio : (f : Phase) → canCancel f ≡ true → (hasRadio f ≡ false) × (hasRadio (givenUp f) ≡ false)
+  unfolding givenUp isOneOf
+  no-radio =
+      can-cancel (λ f. (hasRadio f ≡ false) × (hasRadio (givenUp f) ≡ false))
+      (λ t. (refl, refl)) (refl, refl) (refl, refl) (λ t. (refl, refl))
+
+  cancel-goes : (a b : Bool) → canCancel phase ≡ a → Goes phase (cancel a b (givenUp phase) (look h p))
+  unfolding cancel moved seenBy
   cancel-goes false b e = unmoved
   cancel-goes true true e = unmoved
-  cancel-goes true false e = party-still (radio-of p (one-of (Waiting 0) phase e)) unmoved
+  cancel-goes true false e =
+      let z = no-radio phase e in
+      party-still (radio-of p refl ∙ z .0 ∙ sym (z .1)) unmoved
 
   release-goes : (a : Bool) → isHolding phase ≡ a → Goes phase (release a (look h p))
   unfolding release isOneOf moved seenBy

@@ -224,7 +224,7 @@ module _ (k : ℕ) (h : Hub) (m : Queue) (r : Tracks k h m) (c : Call) where
             (h .figures .issued + count drawsTicket (phasesOf (h .slots))) f,
         ap (λ (g : Figures). g .issued) (r .shows .figures),
         ap (λ (l : List PartySlot). count drawsTicket (phasesOf l)) (r .shows .slots),
-        count-pick (Phase.Acquiring ∷ Phase.Suspending ∷ []) (phases m),
+        count-pick (Phase.Acquiring ∷ Phase.Suspending ∷ Phase.AcquiringMarked ∷ Phase.SuspendingMarked ∷ []) (phases m),
         at-most (c .op),
       ))
       (decide o false seen) g e

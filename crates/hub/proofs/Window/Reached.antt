@@ -153,8 +153,8 @@ module _ (k : ℕ) (h : Hub) (m : Queue) (r : Tracks k h m) where
       (passed _ _ (where-true _ _ hands)
       (passed _ _ (where-true _ _ draws) (passed _ _ (where-true _ _ carries) none)))
     where
-      owns : isOneOf (Phase.Ticketed 0 ∷ Phase.Waiting 0 ∷ Phase.Aborting 0 ∷ Phase.Cancelling 0
-          ∷ Phase.Refusing 0 ∷ []) f ≡ true
+      owns : isOneOf (Phase.Ticketed 0 ∷ Phase.TicketedMarked 0 ∷ Phase.Waiting 0 ∷ Phase.Aborting 0
+          ∷ Phase.Cancelling 0 ∷ Phase.Refusing 0 ∷ []) f ≡ true
           → inWindow (h .oldest) (h .figures .issued) (ticketOf f) ≡ true
       owns i =
           let t = ticketOf f in
@@ -171,14 +171,16 @@ module _ (k : ℕ) (h : Hub) (m : Queue) (r : Tracks k h m) where
           in-window p t (h .figures .resumed) (ResumingAt t) e′ (omega (arith, same-self t))
           (omega (arith, hand-below (r .inv .tickets) p t e′, fig (λ g. g .resumed)))
 
-      draws : isOneOf (Suspending ∷ []) f ≡ true
+      draws : isOneOf (Suspending ∷ Phase.SuspendingMarked ∷ []) f ≡ true
           → ltb (h .figures .issued) (h .oldest + PLACES) ≡ true
       draws i =
-          let e′ = e ∙ one-of Suspending f i in
+          let s : suspending f ≡ 1 = ap (λ (b : Bool). cond b 1 0) i in
           lt-ltb (h .figures .issued) (h .oldest + PLACES)
           (omega (
             arith,
-            one-in (r .inv .tickets) drawing p Suspending refl e′,
+            one-in (r .inv .tickets) suspending p f refl e,
+            s,
+            drawing-most (r .inv .tickets),
             r .room,
             fig (λ g. g .issued),
           ))
