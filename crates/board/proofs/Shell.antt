@@ -1,5 +1,5 @@
 -- A shell hands the fields behind a `&mut Hub` to a function over them and stores the record that it
--- answers, so it meets its contract whatever that function answers: one walk serves all four.
+-- answers, so it meets its contract whatever that function answers: one walk serves all five.
 use mathlib.Core.Path.{_≡_, refl, ap, sym, _∙_}
 use Prim.Native.Nat.{ℕ, _<_, _^_}
 use mathlib.Core.List.{[], _∷_, List, map}
@@ -165,6 +165,8 @@ use Rattle.hub.proofs.record.PartySlot as PartySlot
 use Rattle.hub.proofs.record.PartySlot.Laws as PartySlot′
 use Rattle.hub.proofs.record.PlaceSlot as PlaceSlot
 use Rattle.hub.proofs.record.PlaceSlot.Laws as PlaceSlot′
+use Rattle.hub.proofs.record.Pool as Pool
+use Rattle.hub.proofs.record.Pool.Laws as Pool′
 use Rattle.board.proofs.call_fields as core
 use Rattle.board.proofs.acquire as shell
 
@@ -207,15 +209,16 @@ shellFn key k = record {
       ∷ local (tyInt w32) valueLocal
       ∷ local (tyArray PlaceSlot′.mir 256) valueLocal
       ∷ local (tyArray PartySlot′.mir 32) valueLocal
+      ∷ local Pool′.mir valueLocal
       ∷ [];
   body =
       seq (assign (place 4 []) (aggregate (int w8 k ∷ [])))
-      (reads 5 0 (reads 6 1 (reads 7 2 (reads 8 3 (reads 9 4
+      (reads 5 0 (reads 6 1 (reads 7 2 (reads 8 3 (reads 9 4 (reads 10 5
       (seq (call key
       (copy (place 4 []) ∷ copy (place 2 []) ∷ copy (place 5 []) ∷ copy (place 6 []) ∷ copy (place 7 [])
-      ∷ copy (place 8 []) ∷ copy (place 9 []) ∷ []) (place 3 []))
+      ∷ copy (place 8 []) ∷ copy (place 9 []) ∷ copy (place 10 []) ∷ []) (place 3 []))
       (seq (assign (place 1 (deref T′.mir ∷ [])) (rvOpd (copy (place 3 (field 1 ∷ [])))))
-      (seq (assign (place 0 []) (rvOpd (copy (place 3 (field 0 ∷ []))))) return))))))));
+      (seq (assign (place 0 []) (rvOpd (copy (place 3 (field 0 ∷ []))))) return)))))))));
 }
 
 -- what a function over the fields ensures that answers D, and what a shell does that answers f
@@ -296,12 +299,14 @@ tag Op.Acquire = 0
 tag Op.Step = 1
 tag Op.Cancel = 2
 tag Op.Release = 3
+tag Op.Radio = 4
 
 pub tagged : (a : Op) → Is O.the-row a (tagVal (tag a) ∷ [])
 tagged Op.Acquire = EL.owes O.the-type O′.the-laws Op.Acquire tt
 tagged Op.Step = EL.owes O.the-type O′.the-laws Op.Step tt
 tagged Op.Cancel = EL.owes O.the-type O′.the-laws Op.Cancel tt
 tagged Op.Release = EL.owes O.the-type O′.the-laws Op.Release tt
+tagged Op.Radio = EL.owes O.the-type O′.the-laws Op.Radio tt
 
 module _ {M : Type 1} (𝓤 : URA M) (H : Heap 𝓤) (A : Atoms 𝓤) (W : Given 𝓤 H A)
     (D : Hub → Op → ℕ → Outcome) (a : Op) (k : ℕ) (is-op : Is O.the-row a (tagVal k ∷ []))
@@ -356,6 +361,8 @@ module _ {M : Type 1} (𝓤 : URA M) (H : Heap 𝓤) (A : Atoms 𝓤) (W : Given
   goes-core fits is =
       let e = LL.owed T.the-type T′.the-laws h _ is in
       qed W (‵ ftrue ∷ []) ∵
+      owned ! Pool.the-row (Is Pool.the-row) (LL.makes Pool.the-type Pool′.the-plain 𝓤 H A) (h .pool) _
+      (e .1 .1 .1 .1 .1 .0) $ fjoin ! $
       owned ! (Array PartySlot.the-row 32) (Is (Array PartySlot.the-row 32))
       (array-makes 𝓤 H A W PartySlot.the-row (LL.makes PartySlot.the-type PartySlot′.the-plain 𝓤 H A) 32)
       (h .slots) _ (of-records PartySlot.the-type 32 (h .slots) _ (e .1 .1 .1 .1 .0)) $ fjoin ! $
@@ -395,46 +402,48 @@ module _ {M : Type 1} (𝓤 : URA M) (H : Heap 𝓤) (A : Atoms 𝓤) (W : Given
         enter ! C Λ (shellFn key k) (vptr b o ∷ vint w8 n ∷ []) _ $
         alloc1 ! (λ l₀. alloc1 ! (λ l₁. alloc1 ! (λ l₂. alloc1 ! (λ l₃. alloc1 ! (λ l₄.
         alloc1 ! (λ l₅. alloc1 ! (λ l₆. alloc1 ! (λ l₇. alloc1 ! (λ l₈. alloc1 ! (λ l₉.
-        alloc0 ! $ params1 ! $
-        pass1 ! (init ! 16 refl (tt, tt)) $ pass1 ! (init ! 14 refl (tt, record { fits = fits })) $ pass0 ! $
-        move ! (20 ∷ 21 ∷ 22 ∷ []) $ opens ! tt T.the-row {h = h} b o (λ vs.
+        alloc1 ! (λ l₁₀. alloc0 ! $ params1 ! $
+        pass1 ! (init ! 18 refl (tt, tt)) $ pass1 ! (init ! 16 refl (tt, record { fits = fits })) $ pass0 ! $
+        move ! (22 ∷ 23 ∷ 24 ∷ []) $ opens ! tt T.the-row {h = h} b o (λ vs.
         spelt ! T.the-row (Is T.the-row) (shows 𝓤 H A T.the-row) (LL.vals T.the-type T′.the-laws)
         (LL.tells T.the-type T′.the-laws) fullShare h vs b o $
         use1 W (‵ (fat fullShare T′.mir b o (hubVal h))) (W .laws .raw-at fullShare T′.mir b o (hubVal h)) $
         move ! (1 ∷ []) $ peeks ! T.the-row (Is T.the-row) (shows 𝓤 H A T.the-row) h (hubVal h ∷ []) (λ is.
         move ! (1 ∷ 0 ∷ []) $
-        -- [the record; what it owns; the open borrow; both its names; _9; …; _8; …; _0; …]
+        -- [the record; what it owns; the open borrow; both its names; _10; …; _9; …; _0; …]
         assigns ! (agg ! (and-then ! (lit ! small) (no-more !))) (from ! (stop !))
-        (init ! 15 refl (EL.lawful O.the-type O′.the-laws 𝓤 H A W tt .typed a _ is-op .0)) $
-        assigns ! (behind ! 21 0 refl refl) (from ! (stop !)) (init ! 13 refl (typed is .0)) $
-        assigns ! (behind ! 21 1 refl refl) (from ! (stop !)) (init ! 11 refl (typed is .1 .0)) $
-        assigns ! (behind ! 21 2 refl refl) (from ! (stop !)) (init ! 9 refl (typed is .1 .1 .0)) $
-        assigns ! (behind ! 21 3 refl refl) (from ! (stop !)) (init ! 7 refl (typed is .1 .1 .1 .0)) $
-        assigns ! (behind ! 21 4 refl refl) (from ! (stop !)) (init ! 5 refl (typed is .1 .1 .1 .1 .0)) $
+        (init ! 17 refl (EL.lawful O.the-type O′.the-laws 𝓤 H A W tt .typed a _ is-op .0)) $
+        assigns ! (behind ! 23 0 refl refl) (from ! (stop !)) (init ! 15 refl (typed is .0)) $
+        assigns ! (behind ! 23 1 refl refl) (from ! (stop !)) (init ! 13 refl (typed is .1 .0)) $
+        assigns ! (behind ! 23 2 refl refl) (from ! (stop !)) (init ! 11 refl (typed is .1 .1 .0)) $
+        assigns ! (behind ! 23 3 refl refl) (from ! (stop !)) (init ! 9 refl (typed is .1 .1 .1 .0)) $
+        assigns ! (behind ! 23 4 refl refl) (from ! (stop !)) (init ! 7 refl (typed is .1 .1 .1 .1 .0)) $
+        assigns ! (behind ! 23 5 refl refl) (from ! (stop !)) (init ! 5 refl (typed is .1 .1 .1 .1 .1 .0)) $
         nothing ! $ use1 W (raw (Core 𝓤 H A D .pre to-core)) (goes-core fits is) $
         calls-at ! fm (Core 𝓤 H A D) known to-core
+        (and-then ! (load ! (from ! (stop !)) (look ! 18 refl))
+        (and-then ! (load ! (from ! (stop !)) (look ! 22 refl))
         (and-then ! (load ! (from ! (stop !)) (look ! 16 refl))
-        (and-then ! (load ! (from ! (stop !)) (look ! 20 refl))
         (and-then ! (load ! (from ! (stop !)) (look ! 14 refl))
         (and-then ! (load ! (from ! (stop !)) (look ! 12 refl))
         (and-then ! (load ! (from ! (stop !)) (look ! 10 refl))
         (and-then ! (load ! (from ! (stop !)) (look ! 8 refl))
-        (and-then ! (load ! (from ! (stop !)) (look ! 6 refl)) (no-more !)))))))) (λ v.
+        (and-then ! (load ! (from ! (stop !)) (look ! 6 refl)) (no-more !))))))))) (λ v.
         use1 W (later (some (λ (r : Outcome). (‵ ftrue ⊛ ‵ (R.the-row .own r (v ∷ [])))
         ⊛ raw (ensured 𝓤 H A core.ended (coreClauses 𝓤 D) tt (a, (n, T.struct .as-values h)) tt r)))) (id⊢ 𝓤 _) $
         await ! tt $ pick ! (λ r. split ! $ move ! (1 ∷ []) $
         use1 W (raw (fact 𝓤 (r ≡ f h n))) (answered 𝓤 H A D h a n r) $ heard ! (r ≡ f h n) (λ e.
         split ! $ drop ! $ peeks ! R.the-row (Is R.the-row) (shows 𝓤 H A R.the-row) r (v ∷ []) (λ is′.
-        -- [what the outcome owns; the record; what it owned; the open borrow; …; _9; …]
+        -- [what the outcome owns; the record; what it owned; the open borrow; …; _10; …]
         land ! (from ! (stop !))
-        (init ! 18 refl (LL.lawful R.the-type R′.the-laws 𝓤 H A W .typed r _ is′ .0)) $
-        rewrite ! 18 (λ (u : Val). ‵ (fat fullShare R′.mir l₃ 0 u))
+        (init ! 20 refl (LL.lawful R.the-type R′.the-laws 𝓤 H A W .typed r _ is′ .0)) $
+        rewrite ! 20 (λ (u : Val). ‵ (fat fullShare R′.mir l₃ 0 u))
         (ap only (LL.tells R.the-type R′.the-laws r _ is′)) refl $
-        assigns ! (of-opd ! (load ! (from ! (fld ! refl (stop !))) (look-in ! 18 (sub ! 1 refl (whole !)))))
-        (from ! (hop ! (look ! 22 refl) (stop !))) (store-in ! 1 (whole !)
+        assigns ! (of-opd ! (load ! (from ! (fld ! refl (stop !))) (look-in ! 20 (sub ! 1 refl (whole !)))))
+        (from ! (hop ! (look ! 24 refl) (stop !))) (store-in ! 1 (whole !)
         (LL.lawful T.the-type T′.the-laws 𝓤 H A W .typed (r .hub) _ (parts r v is′ .1 .0) .0)) $
-        assigns ! (of-opd ! (load ! (from ! (fld ! refl (stop !))) (look-in ! 18 (sub ! 0 refl (whole !)))))
-        (from ! (stop !)) (init ! 24 refl
+        assigns ! (of-opd ! (load ! (from ! (fld ! refl (stop !))) (look-in ! 20 (sub ! 0 refl (whole !)))))
+        (from ! (stop !)) (init ! 26 refl
         (EL.lawful P.the-type P′.the-laws 𝓤 H A W tt .typed (r .answer) _ (parts r v is′ .0) .0)) $
         drop ! $ move ! (1 ∷ []) $ drop ! $
         owned ! T.the-row (Is T.the-row) (LL.makes T.the-type T′.the-plain 𝓤 H A) (r .hub) _
@@ -442,14 +451,14 @@ module _ {M : Type 1} (𝓤 : URA M) (H : Heap 𝓤) (A : Atoms 𝓤) (W : Given
         use1 W (‵ (cellAt fullShare (T.the-row .mir) (hubVal (r .hub) ∷ []) b o))
         (W .laws .at-raw fullShare T′.mir b o (hubVal (r .hub))) $
         closes ! tt T.the-row (r .hub) (hubVal (r .hub) ∷ []) b o $
-        returns ! (look ! 21 refl) $ forget ! 3 refl $ forget ! 5 refl $ forget ! 7 refl $ forget ! 9 refl $
+        returns ! (look ! 23 refl) $ forget ! 3 refl $ forget ! 5 refl $ forget ! 7 refl $ forget ! 9 refl $
         forget ! 11 refl $ forget ! 13 refl $ forget ! 15 refl $ forget ! 17 refl $ forget ! 19 refl $
-        forget ! 21 refl $
+        forget ! 21 refl $ forget ! 23 refl $ move ! (23 ∷ 24 ∷ []) $ free1 ! $
         move ! (21 ∷ 22 ∷ []) $ free1 ! $ move ! (19 ∷ 20 ∷ []) $ free1 ! $ move ! (17 ∷ 18 ∷ []) $ free1 ! $
         move ! (15 ∷ 16 ∷ []) $ free1 ! $ move ! (13 ∷ 14 ∷ []) $ free1 ! $ move ! (11 ∷ 12 ∷ []) $ free1 ! $
         move ! (9 ∷ 10 ∷ []) $ free1 ! $ move ! (7 ∷ 8 ∷ []) $ free1 ! $ move ! (5 ∷ 6 ∷ []) $ free1 ! $
         move ! (3 ∷ 4 ∷ []) $ free1 ! $ free0 ! $
-        by ! (exits fits r (parts r v is′ .0) e)))))))))))))))))
+        by ! (exits fits r (parts r v is′ .0) e))))))))))))))))))
 
 module _ {M : Type 1} (𝓤 : URA M) (H : Heap 𝓤) (A : Atoms 𝓤) (W : Given 𝓤 H A)
     (D : Hub → Op → ℕ → Outcome) (a : Op) (k : ℕ) (is-op : Is O.the-row a (tagVal k ∷ []))

@@ -1,13 +1,14 @@
 // The radios of a record as bytes: whether there are any, those of the opening, those with parties, at
 // places and stored. A reply shows a radio only where one is, and the store in order.
 
+use crate::wide;
 use hub::opening::Opening;
 use hub::phases::has_radio;
 use hub::phases::place_rank;
 use hub::record::PartySlot;
 use hub::record::PlaceSlot;
 use hub::record::Pool;
-ghost use Prim.Native.Nat.{_+_, _≤_};
+ghost use Prim.Native.Nat.{_+_, _<_, _≤_};
 
 pub(crate) fn opening_of(bytes: &[u8; 1817]) -> Opening {
     Opening {
@@ -19,7 +20,7 @@ pub(crate) fn opening_of(bytes: &[u8; 1817]) -> Opening {
 }
 
 pub(crate) fn pool_of(bytes: &[u8; 1817]) -> Pool {
-    let first = bytes[1783] as u32;
+    let first = wide(bytes[1783]);
     Pool {
         hands: few_at(bytes, 1495),
         laid: laid_of(bytes),
@@ -114,7 +115,9 @@ fn hands_shown(slots: [PartySlot; 32], hands: [u8; 32]) -> [u8; 32] {
 }
 
 // Where the store's radio of this turn is in a ring that begins at `first`.
-fn ring_index(first: u32, turn: usize) -> usize {
+fn ring_index(first: u32, turn: usize) -> usize
+    ensures { λ r. ⌜ r < 32 ⌝ }
+{
     ((first % 32) as usize + turn % 32) % 32
 }
 

@@ -156,24 +156,28 @@ use Rattle.board.proofs.cancel.Symbol as cancel
 use Rattle.board.proofs.cancel.Met as cancel-thm
 use Rattle.board.proofs.release.Symbol as release
 use Rattle.board.proofs.release.Met as release-thm
+use Rattle.board.proofs.radio.Symbol as radio
+use Rattle.board.proofs.radio.Met as radio-thm
 use Rattle.board.proofs.call_on_board.Key.{name}
 use Rattle.board.proofs.call_on_board as on
 use Rattle.board.proofs.call_on_board.Statement.{statement}
 use Rattle.board.proofs.call_on_board.Code as code
 
--- the shell that an operation calls, of four that are named, and the local that the reference for it
+-- the shell that an operation calls, of five that are named, and the local that the reference for it
 -- is in
-abbrev keys : Name → Name → Name → Name → Op → Name
-keys a s c r Op.Acquire = a
-keys a s c r Op.Step = s
-keys a s c r Op.Cancel = c
-keys a s c r Op.Release = r
+abbrev keys : Name → Name → Name → Name → Name → Op → Name
+keys a s c r q Op.Acquire = a
+keys a s c r q Op.Step = s
+keys a s c r q Op.Cancel = c
+keys a s c r q Op.Release = r
+keys a s c r q Op.Radio = q
 
 abbrev slot : Op → ℕ
 slot Op.Acquire = 7
 slot Op.Step = 8
 slot Op.Cancel = 9
 slot Op.Release = 10
+slot Op.Radio = 11
 
 -- the MIR: the arm of an operation, the match, what follows it, and the function
 abbrev calls : (Op → Name) → Op → Body
@@ -187,13 +191,14 @@ match key =
     (arm (0 ∷ []) (calls key Op.Acquire)
     (arm (1 ∷ []) (calls key Op.Step)
     (arm (2 ∷ []) (calls key Op.Cancel)
-    (arm (3 ∷ []) (calls key Op.Release) noDefault))))
+    (arm (3 ∷ []) (calls key Op.Release)
+    (arm (4 ∷ []) (calls key Op.Radio) noDefault)))))
 
 abbrev rest : Body
 rest =
     seq (assign (place 5 []) (rvOpd (copy (place 6 []))))
-    (seq (assign (place 11 []) (rvOpd (copy (place 4 []))))
-    (seq (assign (place 0 []) (aggregate (copy (place 5 []) ∷ copy (place 11 []) ∷ []))) return))
+    (seq (assign (place 12 []) (rvOpd (copy (place 4 []))))
+    (seq (assign (place 0 []) (aggregate (copy (place 5 []) ∷ copy (place 12 []) ∷ []))) return))
 
 abbrev ref : Ty
 ref = tyRef erased mut (pointee (T.the-row .written))
@@ -211,6 +216,7 @@ function key = record {
       ∷ local T′.mir memorySlot
       ∷ local P′.mir valueLocal
       ∷ local P′.mir valueLocal
+      ∷ local ref valueLocal
       ∷ local ref valueLocal
       ∷ local ref valueLocal
       ∷ local ref valueLocal
@@ -269,11 +275,12 @@ module _ {M : Type 1} (𝓤 : URA M) (H : Heap 𝓤) (A : Atoms 𝓤) (W : Given
 
   module _ (key : Op → Name) (C : Calls 𝓤 H) (Λ : Loops 𝓤 H) (fm : FmC 𝓤 H (W .laws) C)
       (known : (o : Op) → Triple 𝓤 (C (key o)) (Shell 𝓤 H A (λ z p. D z o p)))
-      (l₀ l₁ l₂ l₃ l₄ l₅ l₆ l₇ l₈ l₉ l₁₀ l₁₁ : ℕ) where
+      (l₀ l₁ l₂ l₃ l₄ l₅ l₆ l₇ l₈ l₉ l₁₀ l₁₁ l₁₂ : ℕ) where
     abbrev E : Env 𝓤 H
     E =
         (R′.mir, l₀) ∷ (T′.mir, l₁) ∷ (O′.mir, l₂) ∷ (tyInt w8, l₃) ∷ (T′.mir, l₄) ∷ (P′.mir, l₅)
-        ∷ (P′.mir, l₆) ∷ (ref, l₇) ∷ (ref, l₈) ∷ (ref, l₉) ∷ (ref, l₁₀) ∷ (T′.mir, l₁₁) ∷ []
+        ∷ (P′.mir, l₆) ∷ (ref, l₇) ∷ (ref, l₈) ∷ (ref, l₉) ∷ (ref, l₁₀) ∷ (ref, l₁₁)
+        ∷ (T′.mir, l₁₂) ∷ []
 
     abbrev cell : Ty → ℕ → Val → Item 𝓤
     cell τ l v = ‵ (fat fullShare τ l 0 v)
@@ -292,7 +299,8 @@ module _ {M : Type 1} (𝓤 : URA M) (H : Heap 𝓤) (A : Atoms 𝓤) (W : Given
 
     -- the locals before the match, the last first; and after it, with those that it used in front
     abbrev refs : List (Item 𝓤) → List (Item 𝓤)
-    refs Γ = unset T′.mir l₁₁ (unset ref l₁₀ (unset ref l₉ (unset ref l₈ (unset ref l₇ Γ))))
+    refs Γ = unset T′.mir l₁₂
+        (unset ref l₁₁ (unset ref l₁₀ (unset ref l₉ (unset ref l₈ (unset ref l₇ Γ)))))
 
     abbrev passed : Op → List (Item 𝓤)
     passed o = holds O′.mir l₂ (opVal o) (holds T′.mir l₁ (hubVal h) (unset R′.mir l₀ []))
@@ -318,20 +326,21 @@ module _ {M : Type 1} (𝓤 : URA M) (H : Heap 𝓤) (A : Atoms 𝓤) (W : Given
         → Sq W (After o) (prop (Wp 𝓤 H C Λ E rest (atReturn 𝓤 H E (Post o))))
     leaves o iso r =
         exec ! C Λ E rest (atRet E (Post o)) $
-        assigns ! (of-opd ! (load ! (from ! (stop !)) (look ! 2 refl))) (from ! (stop !)) (init ! 14 refl
+        assigns ! (of-opd ! (load ! (from ! (stop !)) (look ! 2 refl))) (from ! (stop !)) (init ! 16 refl
         (EL.lawful P.the-type P′.the-laws 𝓤 H A W tt .typed (D h o n .answer) _
         (parts (D h o n) _ r .0) .0)) $
         assigns ! (of-opd ! (load ! (from ! (stop !)) (look ! 0 refl))) (from ! (stop !)) (init ! 3 refl
         (LL.lawful T.the-type T′.the-laws 𝓤 H A W .typed (D h o n .hub) _ (parts (D h o n) _ r .1 .0) .0)) $
-        assigns ! (agg ! (and-then ! (load ! (from ! (stop !)) (look ! 14 refl))
+        assigns ! (agg ! (and-then ! (load ! (from ! (stop !)) (look ! 16 refl))
         (and-then ! (load ! (from ! (stop !)) (look ! 3 refl)) (no-more !)))) (from ! (stop !))
-        (init ! 22 refl (LL.lawful R.the-type R′.the-laws 𝓤 H A W .typed (D h o n) _ r .0)) $
-        returns ! (look ! 22 refl) $ forget ! 0 refl $ forget ! 1 refl $ forget ! 2 refl $ forget ! 3 refl $
-        forget ! 14 refl $ forget ! 18 refl $ forget ! 20 refl $ forget ! 22 refl $
-        move ! (22 ∷ 23 ∷ []) $ free1 ! $ move ! (20 ∷ 21 ∷ []) $ free1 ! $ move ! (18 ∷ 19 ∷ []) $ free1 ! $
-        move ! (1 ∷ 17 ∷ []) $ free1 ! $ move ! (0 ∷ 15 ∷ []) $ free1 ! $ move ! (12 ∷ 13 ∷ []) $ free1 ! $
-        move ! (0 ∷ 11 ∷ []) $ free1 ! $ move ! (8 ∷ 9 ∷ []) $ free1 ! $ move ! (6 ∷ 7 ∷ []) $ free1 ! $
-        move ! (4 ∷ 5 ∷ []) $ free1 ! $ move ! (2 ∷ 3 ∷ []) $ free1 ! $ free1 ! $ free0 ! $
+        (init ! 24 refl (LL.lawful R.the-type R′.the-laws 𝓤 H A W .typed (D h o n) _ r .0)) $
+        returns ! (look ! 24 refl) $ forget ! 0 refl $ forget ! 1 refl $ forget ! 2 refl $ forget ! 3 refl $
+        forget ! 16 refl $ forget ! 20 refl $ forget ! 22 refl $ forget ! 24 refl $
+        move ! (24 ∷ 25 ∷ []) $ free1 ! $ move ! (22 ∷ 23 ∷ []) $ free1 ! $ move ! (20 ∷ 21 ∷ []) $ free1 ! $
+        move ! (1 ∷ 19 ∷ []) $ free1 ! $ move ! (0 ∷ 17 ∷ []) $ free1 ! $ move ! (14 ∷ 15 ∷ []) $ free1 ! $
+        move ! (0 ∷ 13 ∷ []) $ free1 ! $ move ! (10 ∷ 11 ∷ []) $ free1 ! $ move ! (8 ∷ 9 ∷ []) $ free1 ! $
+        move ! (6 ∷ 7 ∷ []) $ free1 ! $ move ! (4 ∷ 5 ∷ []) $ free1 ! $ move ! (2 ∷ 3 ∷ []) $ free1 ! $
+        free1 ! $ free0 ! $
         by ! (exits o iso r)
 
     -- one arm: the local's record is lent for the call; q is what is to hold after it
@@ -371,25 +380,30 @@ module _ {M : Type 1} (𝓤 : URA M) (H : Heap 𝓤) (A : Atoms 𝓤) (W : Given
     -- the tag is a numeral in each case, and what is left computes to the arm that runs
     matched : (o : Op) → Is O.the-row o (opVal o ∷ []) → Sq W (Before o) (runs C Λ E (match key) (Then o))
     matched Op.Acquire iso =
-        switches-on ! (load ! (from ! (vrt ! refl (fld ! refl (stop !)))) (look-tag ! 18 (whole !))) $
-        exec ! C Λ E (calls key Op.Acquire) (Then Op.Acquire) $ move ! (8 ∷ 14 ∷ 16 ∷ 10 ∷ []) $
+        switches-on ! (load ! (from ! (vrt ! refl (fld ! refl (stop !)))) (look-tag ! 20 (whole !))) $
+        exec ! C Λ E (calls key Op.Acquire) (Then Op.Acquire) $ move ! (10 ∷ 16 ∷ 18 ∷ 12 ∷ []) $
         armed Op.Acquire _ _ (tt, tt) (λ r.
-        move ! (1 ∷ 2 ∷ 3 ∷ 4 ∷ 5 ∷ 6 ∷ 7 ∷ 8 ∷ 9 ∷ 10 ∷ 11 ∷ 0 ∷ []) $ leaves Op.Acquire iso r)
+        move ! (1 ∷ 2 ∷ 3 ∷ 4 ∷ 5 ∷ 6 ∷ 7 ∷ 8 ∷ 9 ∷ 10 ∷ 11 ∷ 12 ∷ 13 ∷ 0 ∷ []) $ leaves Op.Acquire iso r)
     matched Op.Step iso =
-        switches-on ! (load ! (from ! (vrt ! refl (fld ! refl (stop !)))) (look-tag ! 18 (whole !))) $
-        exec ! C Λ E (calls key Op.Step) (Then Op.Step) $ move ! (6 ∷ 14 ∷ 16 ∷ 10 ∷ []) $
+        switches-on ! (load ! (from ! (vrt ! refl (fld ! refl (stop !)))) (look-tag ! 20 (whole !))) $
+        exec ! C Λ E (calls key Op.Step) (Then Op.Step) $ move ! (8 ∷ 16 ∷ 18 ∷ 12 ∷ []) $
         armed Op.Step _ _ (tt, tt) (λ r.
-        move ! (1 ∷ 2 ∷ 3 ∷ 4 ∷ 5 ∷ 6 ∷ 7 ∷ 8 ∷ 9 ∷ 0 ∷ []) $ leaves Op.Step iso r)
+        move ! (1 ∷ 2 ∷ 3 ∷ 4 ∷ 5 ∷ 6 ∷ 7 ∷ 8 ∷ 9 ∷ 10 ∷ 11 ∷ 0 ∷ []) $ leaves Op.Step iso r)
     matched Op.Cancel iso =
-        switches-on ! (load ! (from ! (vrt ! refl (fld ! refl (stop !)))) (look-tag ! 18 (whole !))) $
-        exec ! C Λ E (calls key Op.Cancel) (Then Op.Cancel) $ move ! (4 ∷ 14 ∷ 16 ∷ 10 ∷ []) $
+        switches-on ! (load ! (from ! (vrt ! refl (fld ! refl (stop !)))) (look-tag ! 20 (whole !))) $
+        exec ! C Λ E (calls key Op.Cancel) (Then Op.Cancel) $ move ! (6 ∷ 16 ∷ 18 ∷ 12 ∷ []) $
         armed Op.Cancel _ _ (tt, tt) (λ r.
-        move ! (1 ∷ 2 ∷ 3 ∷ 4 ∷ 5 ∷ 6 ∷ 7 ∷ 0 ∷ []) $ leaves Op.Cancel iso r)
+        move ! (1 ∷ 2 ∷ 3 ∷ 4 ∷ 5 ∷ 6 ∷ 7 ∷ 8 ∷ 9 ∷ 0 ∷ []) $ leaves Op.Cancel iso r)
     matched Op.Release iso =
-        switches-on ! (load ! (from ! (vrt ! refl (fld ! refl (stop !)))) (look-tag ! 18 (whole !))) $
-        exec ! C Λ E (calls key Op.Release) (Then Op.Release) $ move ! (2 ∷ 14 ∷ 16 ∷ 10 ∷ []) $
+        switches-on ! (load ! (from ! (vrt ! refl (fld ! refl (stop !)))) (look-tag ! 20 (whole !))) $
+        exec ! C Λ E (calls key Op.Release) (Then Op.Release) $ move ! (4 ∷ 16 ∷ 18 ∷ 12 ∷ []) $
         armed Op.Release _ _ (tt, tt) (λ r.
-        move ! (1 ∷ 2 ∷ 3 ∷ 4 ∷ 5 ∷ 0 ∷ []) $ leaves Op.Release iso r)
+        move ! (1 ∷ 2 ∷ 3 ∷ 4 ∷ 5 ∷ 6 ∷ 7 ∷ 0 ∷ []) $ leaves Op.Release iso r)
+    matched Op.Radio iso =
+        switches-on ! (load ! (from ! (vrt ! refl (fld ! refl (stop !)))) (look-tag ! 20 (whole !))) $
+        exec ! C Λ E (calls key Op.Radio) (Then Op.Radio) $ move ! (2 ∷ 16 ∷ 18 ∷ 12 ∷ []) $
+        armed Op.Radio _ _ (tt, tt) (λ r.
+        move ! (1 ∷ 2 ∷ 3 ∷ 4 ∷ 5 ∷ 0 ∷ []) $ leaves Op.Radio iso r)
 
   module _ (key : Op → Name) (C : Calls 𝓤 H) (Λ : Loops 𝓤 H) (fm : FmC 𝓤 H (W .laws) C)
       (known : (o : Op) → Triple 𝓤 (C (key o)) (Shell 𝓤 H A (λ z p. D z o p))) where
@@ -402,13 +416,13 @@ module _ {M : Type 1} (𝓤 : URA M) (H : Heap 𝓤) (A : Atoms 𝓤) (W : Given
         enter ! C Λ (function key) (hubVal h ∷ opVal o ∷ vint w8 n ∷ []) _ $
         alloc1 ! (λ l₀. alloc1 ! (λ l₁. alloc1 ! (λ l₂. alloc1 ! (λ l₃. alloc1 ! (λ l₄. alloc1 ! (λ l₅.
         alloc1 ! (λ l₆. alloc1 ! (λ l₇. alloc1 ! (λ l₈. alloc1 ! (λ l₉. alloc1 ! (λ l₁₀. alloc1 ! (λ l₁₁.
-        alloc0 ! $ params1 ! $
-        pass1 ! (init ! 20 refl (LL.lawful T.the-type T′.the-laws 𝓤 H A W .typed h _ is .0)) $
-        pass1 ! (init ! 18 refl (EL.lawful O.the-type O′.the-laws 𝓤 H A W tt .typed o _ iso .0)) $
-        pass1 ! (init ! 16 refl (tt, record { fits = fits })) $ pass0 ! $
-        assigns ! (of-opd ! (load ! (from ! (stop !)) (look ! 20 refl))) (from ! (stop !))
-        (init ! 14 refl (LL.lawful T.the-type T′.the-laws 𝓤 H A W .typed h _ is .0)) $ first ! $
-        matched key C Λ fm known l₀ l₁ l₂ l₃ l₄ l₅ l₆ l₇ l₈ l₉ l₁₀ l₁₁ o iso))))))))))))
+        alloc1 ! (λ l₁₂. alloc0 ! $ params1 ! $
+        pass1 ! (init ! 22 refl (LL.lawful T.the-type T′.the-laws 𝓤 H A W .typed h _ is .0)) $
+        pass1 ! (init ! 20 refl (EL.lawful O.the-type O′.the-laws 𝓤 H A W tt .typed o _ iso .0)) $
+        pass1 ! (init ! 18 refl (tt, record { fits = fits })) $ pass0 ! $
+        assigns ! (of-opd ! (load ! (from ! (stop !)) (look ! 22 refl))) (from ! (stop !))
+        (init ! 16 refl (LL.lawful T.the-type T′.the-laws 𝓤 H A W .typed h _ is .0)) $ first ! $
+        matched key C Λ fm known l₀ l₁ l₂ l₃ l₄ l₅ l₆ l₇ l₈ l₉ l₁₀ l₁₁ l₁₂ o iso)))))))))))))
 
 module _ {M : Type 1} (𝓤 : URA M) (H : Heap 𝓤) (A : Atoms 𝓤) (W : Given 𝓤 H A)
     (D : Hub → Op → ℕ → Outcome) where
@@ -444,7 +458,7 @@ module _ {M : Type 1} (𝓤 : URA M) (H : Heap 𝓤) (𝓜 : Model 𝓤 H) (𝓖
   abbrev Known : Name → Op → Type 1
   Known k o = Triple 𝓤 (tables 𝓤 H 𝓜 𝓡 code.env .C k) (Shell 𝓤 H (𝓖 .A) (λ z p. by-op z o p))
 
-  shells : (o : Op) → Known (keys acquire.name step.name cancel.name release.name o) o
+  shells : (o : Op) → Known (keys acquire.name step.name cancel.name release.name radio.name o) o
   shells Op.Acquire =
       cited 𝓤 H (Shell 𝓤 H (𝓖 .A) (λ z p. by-op z Op.Acquire p)) 𝓜 𝓡 code.env acquire.name acquire.routine
       code.calls-board·acquire (acquire-thm.met 𝓤 H 𝓜 𝓖 𝓡)
@@ -457,23 +471,26 @@ module _ {M : Type 1} (𝓤 : URA M) (H : Heap 𝓤) (𝓜 : Model 𝓤 H) (𝓖
   shells Op.Release =
       cited 𝓤 H (Shell 𝓤 H (𝓖 .A) (λ z p. by-op z Op.Release p)) 𝓜 𝓡 code.env release.name release.routine
       code.calls-board·release (release-thm.met 𝓤 H 𝓜 𝓖 𝓡)
+  shells Op.Radio =
+      cited 𝓤 H (Shell 𝓤 H (𝓖 .A) (λ z p. by-op z Op.Radio p)) 𝓜 𝓡 code.env radio.name radio.routine
+      code.calls-board·radio (radio-thm.met 𝓤 H 𝓜 𝓖 𝓡)
 
-  -- the names of the four are read off the code, and each must be known to do its operation
+  -- the names of the five are read off the code, and each must be known to do its operation
   enters :
-      (a s c r : Name)
+      (a s c r q : Name)
       → Closed 𝓤 H (tables 𝓤 H 𝓜 𝓡 code.env .C) (tables 𝓤 H 𝓜 𝓡 code.env .Λ) name
-      (function (keys a s c r))
-      → ((o : Op) → Known (keys a s c r o) o)
+      (function (keys a s c r q))
+      → ((o : Op) → Known (keys a s c r q o) o)
       → Meets 𝓤 H (𝓖 .A) on.signature (𝓡 .run (code.env name))
       (closing 𝓤 H (𝓖 .A) on.ended (clauses 𝓤 by-op))
   unfolding tablesOf
-  enters a s c r closed known =
+  enters a s c r q closed known =
       entered 𝓤 H
       (tripleOf 𝓤 H (𝓖 .A) on.signature (closing 𝓤 H (𝓖 .A) on.ended (clauses 𝓤 by-op)))
-      (tables 𝓤 H 𝓜 𝓡 code.env .C) (tables 𝓤 H 𝓜 𝓡 code.env .Λ) name (function (keys a s c r)) closed
-      (meets 𝓤 H (𝓖 .A) (givenOf 𝓤 H 𝓜 𝓖) by-op (keys a s c r)
+      (tables 𝓤 H 𝓜 𝓡 code.env .C) (tables 𝓤 H 𝓜 𝓡 code.env .Λ) name (function (keys a s c r q)) closed
+      (meets 𝓤 H (𝓖 .A) (givenOf 𝓤 H 𝓜 𝓖) by-op (keys a s c r q)
       (tablesOf 𝓤 H 𝓜 (tables 𝓤 H 𝓜 𝓡 code.env)) known)
 
 pub call-on-board-spec : {M : Type 1} → statement M
 unfolding code.routine
-call-on-board-spec 𝓤 H 𝓜 𝓖 𝓡 = enters 𝓤 H 𝓜 𝓖 𝓡 _ _ _ _ (code.unfolded 𝓤 H 𝓜 𝓡) (shells 𝓤 H 𝓜 𝓖 𝓡)
+call-on-board-spec 𝓤 H 𝓜 𝓖 𝓡 = enters 𝓤 H 𝓜 𝓖 𝓡 _ _ _ _ _ (code.unfolded 𝓤 H 𝓜 𝓡) (shells 𝓤 H 𝓜 𝓖 𝓡)

@@ -1,4 +1,5 @@
--- `prepared` ends: a party is behind the loop each turn.
+-- `prepared` ends: a party is behind the loop each turn. That there are fewer than 256 stands too far
+-- behind the calls to be found by itself.
 use borrow.Author.Needs.{needs}
 use Prim.Native.Nat.{_-_}
 use Rattle.costs.proofs.prepared.Statement.{statement}
@@ -9,6 +10,9 @@ Inv-loop parties hub₀ p₀ hub p = Unit {0}
 
 abbrev μ-loop : tie.MeasureT-loop
 μ-loop parties hub₀ p₀ hub p = parties - p
+
+sized-requires : tie.Need-sized-requires Inv-loop μ-loop
+sized-requires c κs = search needs
 
 open-requires : tie.Need-open-requires Inv-loop μ-loop
 open-requires c κs = search needs
@@ -29,7 +33,9 @@ waits-requires-2 : tie.Need-waits-requires-2 Inv-loop μ-loop
 waits-requires-2 c κs = search needs
 
 add-p : tie.Need-add-p Inv-loop μ-loop
-add-p c = search needs
+add-p c =
+    let entry = c .before .before .before .before .before .before .before .before in
+    search (needs, entry .fits .parties)
 
 loop-less : tie.Need-loop-less Inv-loop μ-loop
 loop-less c = search needs
@@ -49,6 +55,7 @@ prepared-spec =
     (tie.spec
     Inv-loop
     μ-loop
+    sized-requires
     open-requires
     call-on-board-requires
     call-on-board-requires-2

@@ -1,0 +1,15 @@
+-- `radio` meets its contract: the walk of `Shell.antt`, over `call_fields`.
+use Rattle.hub.specs.declared.moves.Op.{Op}
+use Rattle.board.proofs.Shell.{by-op, shell-spec, tagged}
+use Rattle.board.proofs.call_fields.Met.{met}
+use Rattle.board.proofs.call_fields.Symbol as core
+use Rattle.board.proofs.radio.Key.{name}
+use Rattle.board.proofs.radio.Statement.{statement}
+use Rattle.board.proofs.radio.Code as code
+
+pub radio-spec : {M : Type 1} → statement M
+unfolding code.routine
+radio-spec 𝓤 H 𝓜 𝓖 𝓡 =
+    shell-spec 𝓤 H 𝓜 𝓖 𝓡 by-op Op.Radio code.env name core.name core.routine
+    (code.unfolded 𝓤 H 𝓜 𝓡) (tagged Op.Radio) tt
+    code.calls-board·call-fields (met 𝓤 H 𝓜 𝓖 𝓡)
