@@ -11,7 +11,7 @@ use Rattle.hub.specs.Answers.{plain}
 use Rattle.hub.specs.Basics.{among}
 use Rattle.hub.specs.Demand3.{Accounts, AllBelow}
 use Rattle.hub.specs.Ledger.{ledger, opened}
-use Rattle.hub.specs.Opening.{opening}
+use Rattle.hub.specs.Opening.{opening, sized, withRadios}
 use Rattle.hub.specs.Radios.{radiosOf}
 use Rattle.hub.specs.Schedule.{entries, run}
 use Rattle.line.specs.Form.{asText}
@@ -19,7 +19,7 @@ use Rattle.line.specs.Frame.{codeOf}
 use Rattle.line.specs.Hex.{textOf}
 use Rattle.line.specs.Program.{unopened, isOpen, Reply, replyOf, replies, rendered}
 use Rattle.line.specs.Program.{closing, linesOf, outputOf}
-use Rattle.line.specs.Requests.{Request, malformed, toOpen, toCall, requested, requestOf}
+use Rattle.line.specs.Requests.{Request, malformed, toOpen, toCall, requestOf}
 
 -- No hub is opened, or one is and calls follow.
 pub data Schedule : Type 0 where
@@ -96,9 +96,11 @@ unfoldable pub PartyBytes : List Call → Type 0
 PartyBytes [] = Unit {0}
 PartyBytes (c ∷ cs) = (c .party < 256) × PartyBytes cs
 
--- An opening that a line can spell: of bytes, and what its own frame asks for.
+-- An opening that a line can spell: its radios are bytes, and it keeps nothing but what its frame has.
 abbrev pub Spelled : Opening → Type 0
-Spelled o = AllBelow 256 (radiosOf o) × (requested (openingFrame o) ≡ toOpen o)
+Spelled o =
+    AllBelow 256 (radiosOf o)
+    × (cond (o .named) (withRadios (o .permits) (o .parties) (radiosOf o)) (sized (o .permits) (o .parties)) ≡ o)
 
 -- For an accepted opening and any calls after it nothing else is printed.
 unfoldable pub PrintsSchedule : Type 0

@@ -11,7 +11,7 @@ use Rattle.hub.specs.Table.{stepSuspending, stepTicketed, stepReleasing,
 use Rattle.hub.specs.Table.{resumeWaiter, stepResumingAt, stepAborting, stepCancelling}
 use Rattle.hub.specs.Table.{stepRefusing, stepFetching, stepStoring, tellRadio}
 use Rattle.hub.specs.Radios.{differ, handOf, laidAt, moved, poolAfter, radiosIn, radiosOf}
-use Rattle.hub.specs.Radios.{rearranged, ringFrom, shown, whole}
+use Rattle.hub.specs.Radios.{rearranged, ringFrom, shown, padded}
 use Rattle.hub.specs.Fits.{counterFits, figuresFit, inWindow, ticketFits, placeListed}
 use Rattle.hub.specs.Fits.{partyFits, placeFits, radiosFit, fits}
 use Rattle.hub.specs.Opening.{fresh, openingIf, radiosDiffer}
@@ -24,6 +24,6 @@ unfolding EdgesHold edges goes holdsAt allHold checked apply tidied fresh openin
     acquire cancel givenUp release decide stepIn stepAcquiring stepSuspending stepTicketed stepReleasing
     stepResuming resumeWaiter stepResumingAt stepAborting stepCancelling stepRefusing
     stepFetching stepStoring tellRadio
-    differ handOf laidAt moved poolAfter radiosIn radiosOf rearranged ringFrom shown whole radiosDiffer
+    differ handOf laidAt moved poolAfter radiosIn radiosOf rearranged ringFrom shown padded radiosDiffer
     radiosFit isOneOf isPlaceOf readSlot writeSlot readSeat writeSeat kindOf weight allFrom allOf
 edges-hold = refl

@@ -1,5 +1,5 @@
 -- "Edges": the paper's marked cases as one table, with one test over all of it. Some rows more
--- are there for what stands beside an edge: 2 before 3, an opening that is accepted.
+-- are there for what stands beside an edge, 2 before 3, an opening that is accepted, and for radios.
 use Prim.Native.Nat.{ℕ}
 use mathlib.Core.Path.{_≡_}
 use mathlib.Core.Bool.{Bool, true, false, _&&_}
@@ -16,7 +16,7 @@ use Rattle.hub.specs.Calls.{called}
 use Rattle.hub.specs.Basics.{count}
 use Rattle.hub.specs.Phases.{holds, isWaiting}
 use Rattle.hub.specs.Record.{phasesOf}
-use Rattle.hub.specs.Opening.{opening, sized}
+use Rattle.hub.specs.Opening.{opening, sized, withRadios}
 
 -- A step of a run: the counter before the call, the call, and what it must answer.
 pub record Row : Type 0 where
@@ -26,10 +26,6 @@ pub record Row : Type 0 where
 
 abbrev pub at : ℤ → Op → ℕ → Printed → Row
 at z o p r = record { counter = z; call = record { op = o; party = p }; answer = r }
-
--- K, n, and the radios of an opening 02.
-abbrev pub withRadios : ℕ → ℕ → List ℕ → Opening
-withRadios k n rs = record { permits = k; parties = n; named = true; radios = rs }
 
 pub data Edge : Type 0 where
   -- An opening, and its code.
@@ -91,8 +87,7 @@ bounded =
     ∷ at (pos 0) Release 2 (plain 0x20)
     ∷ []
 
--- First in, first out, with radios 0A and 0B: party 0 puts back what it took, and party 1 takes the other
--- one; then 37, when party 0's permit is the counter's and its radio not yet the store's.
+-- First in, first out, with radios 0A and 0B: party 0 puts back what it took, and party 1 takes the other one.
 abbrev pub inTurn : List Row
 inTurn =
     at (pos 2) Acquire 0 (plain 0x20)
@@ -112,6 +107,7 @@ inTurn =
     ∷ at (pos 1) Op.Radio 3 (plain 0x04)
     ∷ []
 
+-- 37: party 0's permit is the counter's, and its radio not yet the store's.
 abbrev pub notYet : List Row
 notYet =
     at (pos 1) Acquire 0 (plain 0x20)

@@ -9,10 +9,10 @@ pub mod Ring  -- the places, and the tidying
 pub mod Radios  -- "Radios by name"
 pub mod Look  -- what a call looks at
 pub mod Moves  -- what it does
-pub mod Table  -- "Four calls"
+pub mod Table  -- "Four calls", and call 14
+pub mod Opening  -- "When the hub says no", for openings
 pub mod Fits  -- "A record that fits"
-pub mod Opening  -- "When the hub says no"
-pub mod Calls
+pub mod Calls  -- "When the hub says no", for calls
 pub mod Schedule  -- a list of calls
 pub mod Ledger  -- "Counting links"
 pub mod Demand3  -- the third demand

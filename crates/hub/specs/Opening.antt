@@ -1,6 +1,7 @@
 -- Opening a hub, with refusals 2, 3 and 14.
 use Prim.Native.Nat.{ℕ}
 use mathlib.Core.Bool.{Bool, true, false}
+use mathlib.Core.List.{List}
 use lib.ListN.{replicate}
 use lib.IntN.{pos}
 use Rattle.hub.specs.declared.answers.Answer.{Answer}
@@ -11,7 +12,7 @@ use Rattle.hub.specs.declared.record.Hub.{Hub}
 use Rattle.hub.specs.declared.record.Outcome.{Outcome}
 use Rattle.hub.specs.declared.record.Pool.{Pool}
 use Rattle.hub.specs.Basics.{implies, upTo32}
-use Rattle.hub.specs.Radios.{STORE, differ, radiosOf, whole}
+use Rattle.hub.specs.Radios.{STORE, differ, radiosOf, padded}
 use Rattle.hub.specs.Record.{PARTIES, emptySeat, freeSlot}
 use Rattle.hub.specs.Ring.{PLACES}
 
@@ -19,17 +20,21 @@ use Rattle.hub.specs.Ring.{PLACES}
 abbrev pub sized : ℕ → ℕ → Opening
 sized k n = record { permits = k; parties = n; named = false; radios = replicate STORE 0 }
 
+-- Opening 02: K, n, and K radios.
+abbrev pub withRadios : ℕ → ℕ → List ℕ → Opening
+withRadios k n rs = record { permits = k; parties = n; named = true; radios = padded rs }
+
 abbrev pub figuresAt : Opening → Figures
 figuresAt o =
     record { counter = pos (o .permits); issued = 0; resumed = 0; begun = 0 }
 
--- All radios are stored, in the opening's order.
+-- All radios are stored, in the opening's order; without radios it counts for nothing.
 abbrev pub poolAt : Opening → Pool
 poolAt o =
     record {
       hands = replicate PARTIES 0;
       laid = replicate PLACES 0;
-      store = whole (o .radios);
+      store = padded (o .radios);
       first = 0;
       stored = o .permits;
     }

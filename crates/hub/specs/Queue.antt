@@ -1,6 +1,7 @@
 -- The semaphore of document 000 in the steps of document 01: the hub with an unbounded array of
 -- cells instead of 256 places. It has no oldest ticket and never refuses by 7. As the hub does,
--- it passes cancelled cells at once, where document 000 passes one with each resume.
+-- it passes cancelled cells at once, where document 000 passes one with each resume. Radios at cells are
+-- kept as the hub keeps them, by number modulo 256; that none is lost by it is `RadiosKept`.
 use Prim.Native.Nat.{ℕ, zero, suc, _+_}
 use mathlib.Core.Bool.{Bool, true, false, cond}
 use mathlib.Core.List.{List, [], _∷_}

@@ -19,12 +19,12 @@ abbrev pub STORE : ℕ
 STORE = 32
 
 -- An opening keeps 32 bytes for its radios: what is not given is 0.
-unfoldable pub whole : List ℕ → List ℕ
-whole l = take STORE (l ++ replicate STORE 0)
+unfoldable pub padded : List ℕ → List ℕ
+padded l = take STORE (l ++ replicate STORE 0)
 
 -- The radios of an opening: the first K.
 unfoldable pub radiosOf : Opening → List ℕ
-radiosOf o = take (o .permits) (whole (o .radios))
+radiosOf o = take (o .permits) (padded (o .radios))
 
 -- No two are alike.
 unfoldable pub differ : List ℕ → Bool

@@ -1,4 +1,4 @@
--- What is claimed of radios: over every schedule from an opening with radios, call 14 among the calls.
+-- What is claimed of radios: two claims over every schedule, call 14 among the calls, and one about any store.
 use Prim.Native.Nat.{ℕ, suc, _≤_, _<_}
 use mathlib.Core.Path.{_≡_}
 use mathlib.Core.Bool.{true}
@@ -18,8 +18,8 @@ use Rattle.hub.specs.Radios.{STORE, fetch, handOf, occurs, putBack, radi
 use Rattle.hub.specs.Record.{readSlot}
 use Rattle.hub.specs.Schedule.{run}
 
--- Parties, places and store together hold a rearrangement of the opening's list. Its radios are all
--- different, so that each is with one of them, and with one alone.
+-- Parties, places and store together hold a rearrangement of the opening's list: as often each byte. Its radios
+-- are all different, so that each is with one of them, and with one alone.
 unfoldable pub RadiosKept : Type 0
 RadiosKept =
     (o : Opening) → opening o .answer ≡ Answer.Opened → o .named ≡ true → (cs : List Call)

@@ -1,5 +1,5 @@
 // The link hub of one house: a fair, abortable semaphore over a ring of waiting places.
-// The paper that it is built from is document 01; specs/ has its definitions, and every contract
+// The papers that it is built from are documents 01 and 02; specs/ has their definitions, and every contract
 // here cites one of them.
 
 pub mod record; // the record of a hub: phases, places, figures

@@ -51,8 +51,8 @@ pub struct Figures {
     pub begun: u32, // acquires accepted since opening
 }
 
-// The radios of a hub that has some. They have arrays of their own, apart from slots and places: a
-// call on a hub without radios does not touch them.
+// The radios of a hub that has some. They have arrays of their own, apart from slots and places: on a
+// hub without radios no call alters them, and what it reads there counts for nothing.
 pub struct Pool {
     pub hands: [u8; 32], // with each party; it counts where the party's phase has one
     pub laid: [u8; 256], // at each place; it counts where a permit lies

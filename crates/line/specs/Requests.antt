@@ -8,8 +8,7 @@ use lib.ListN.{length}
 use Rattle.hub.specs.declared.moves.Call.{Call}
 use Rattle.line.specs.declared.request.Header.{Header}
 use Rattle.hub.specs.declared.opening.Opening.{Opening}
-use Rattle.hub.specs.Opening.{sized}
-use Rattle.hub.specs.Radios.{whole}
+use Rattle.hub.specs.Opening.{sized, withRadios}
 use Rattle.line.specs.Frame.{isCall, opOf, codeOf}
 use Rattle.line.specs.Hex.{isDigit, spelled}
 
@@ -35,10 +34,6 @@ unfoldable pub bytesOf : List ℕ → List ℕ
 bytesOf [] = []
 bytesOf (a ∷ []) = []
 bytesOf (a ∷ b ∷ l) = spelled a b ∷ bytesOf l
-
--- Opening 02: K, n, and K radios.
-abbrev pub withRadios : ℕ → ℕ → List ℕ → Opening
-withRadios k n l = record { permits = k; parties = n; named = true; radios = whole l }
 
 -- An opening is its code, K, n, and behind them nothing if it is 01, K radios if it is 02. K is what the
 -- line says, legal or not.

@@ -1,4 +1,5 @@
--- The radios that the check has noted, which are at most 33: so many that they are too many are enough.
+-- The radios that the check has noted. 33 are enough: a hub has at most 32, so that the 33rd shows that there are
+-- too many.
 use Prim.Native.Nat.{ℕ, _≤_}
 use mathlib.Core.Path.{_≡_}
 use mathlib.Core.List.{List}

@@ -23,7 +23,7 @@ ghost use Rattle.hub.specs.Answers.{printed};
 ghost use Rattle.hub.specs.Calls.{called};
 
 // Any of them. Check, look, store and tidy stand in one function, since a record that is handed
-// on is copied; what goes to other functions is small. A refused call stores what was there.
+// on is copied; what goes to other functions is small. A refused call stores what was there, and so do 37 and 39.
 pub fn call(mut hub: Hub, op: Op, party: u8) -> Outcome
     ensures { λ r. ⌜ (r ≡ called hub (record { op = op; party = party }))
         × (printed (r .answer) ≡ printed (called hub (record { op = op; party = party }) .answer)) ⌝ }

@@ -6,9 +6,10 @@ use hub::record::Figures;
 use hub::record::PartySlot;
 use hub::record::PlaceSlot;
 
-// What was seen and does not change is in it, too; a refused call changes nothing.
+// What was seen and does not change is in it, too; a call that is refused, or answered 37 or 39,
+// changes nothing.
 pub struct Effect {
-    pub turns: u32, // that each of the tidying's loops may take: none if refused
+    pub turns: u32, // that each of the tidying's loops may take: none if nothing changes
     pub woken: u32, // the party whose slot becomes the waiter's; 32 if nobody is woken
     pub waiter: PartySlot,
     pub slot: PartySlot, // of the party that calls

@@ -4,7 +4,7 @@ use mathlib.Core.Path.{_≡_, refl, sym, ap, _∙_, subst}
 use mathlib.Core.Bool.{Bool, true, false, cond, not, _&&_}
 use mathlib.Core.List.{List, [], _∷_, _++_, append-assoc, append-nil}
 use native.Mathlib.Omega.{arith}
-use borrow.Author.Tests.{eqb-true, eqb-false, not-true}
+use borrow.Author.Tests.{eq-eqb, eqb-true, eqb-false, not-true}
 use lib.Dec.{eqb}
 use lib.ListN.{length}
 use Rattle.hub.specs.declared.answers.Answer.{Answer}
@@ -13,7 +13,7 @@ use Rattle.hub.specs.declared.moves.Op.{Op}
 use Rattle.hub.specs.Basics.{allFrom}
 use Rattle.hub.specs.declared.opening.Opening.{Opening}
 use Rattle.hub.specs.Demand3.{AllBelow}
-use Rattle.hub.specs.Opening.{opening}
+use Rattle.hub.specs.Opening.{opening, sized, withRadios}
 use Rattle.hub.specs.Radios.{radiosOf}
 use Rattle.hub.proofs.Demand3.{InRange, in-range}
 use Rattle.hub.proofs.Laws.Bools.{first, second, if-true, if-false}
@@ -21,7 +21,7 @@ use Rattle.hub.proofs.Radios.Length.{radios-length}
 use Rattle.line.specs.Frame.{isCall, codeOf}
 use Rattle.line.specs.Hex.{digitOf, byteOf, charOf, hexOf, textOf}
 use Rattle.line.specs.Program.{linesFrom}
-use Rattle.line.specs.Requests.{malformed, toOpen, toCall, allDigits, bytesOf, requested, requestOf}
+use Rattle.line.specs.Requests.{malformed, toOpen, toCall, allDigits, bytesOf, openingIn, requested, requestOf}
 use Rattle.line.proofs.Laws.Codes.{is-call, op-back}
 use Rattle.line.proofs.Laws.Lines.{byte-both, spells, byte-is, one-more, none, readable}
 use Rattle.frame.specs.Schedule.{openingFrame, Spelled}
@@ -140,20 +140,32 @@ call-back c m =
 
 pub opening-back : (o : Opening) → opening o .answer ≡ Answer.Opened → Spelled o
     → requestOf (hexOf (openingFrame o)) ≡ toOpen o
-unfolding AllBelow
-opening-back o e s = let g = go (o .named) in line-back (openingFrame o) (g .0) (g .1) ∙ s .1
+unfolding AllBelow requested openingIn
+opening-back o e s =
+    let g = bytes (o .named) in
+    line-back (openingFrame o) (g .0) (g .1) ∙ asks (o .named) ∙ ap toOpen (s .1)
   where
     r : InRange o
     r = in-range o e
 
-    go : (b : Bool)
-        → let f = cond b (0x02 ∷ o .permits ∷ o .parties ∷ radiosOf o) (0x01 ∷ o .permits ∷ o .parties ∷ []) in
-        AllBelow 256 f × (length f ≤ 80)
-    go true = (
+    frame : Bool → List ℕ
+    frame b = cond b (0x02 ∷ o .permits ∷ o .parties ∷ radiosOf o) (0x01 ∷ o .permits ∷ o .parties ∷ [])
+
+    bytes : (b : Bool) → AllBelow 256 (frame b) × (length (frame b) ≤ 80)
+    bytes true = (
       (omega arith, (omega (arith, r .permits .1), (omega (arith, r .parties .1), s .0))),
       omega (arith, r .permits .1, radios-length o (r .permits .1)),
     )
-    go false = (
+    bytes false = (
       (omega arith, (omega (arith, r .permits .1), (omega (arith, r .parties .1), tt))),
       omega arith,
     )
+
+    -- an opening with radios is as long as its K says
+    asks : (b : Bool)
+        → requested (frame b)
+        ≡ toOpen (cond b (withRadios (o .permits) (o .parties) (radiosOf o)) (sized (o .permits) (o .parties)))
+    asks true =
+        if-true (eqb (length (radiosOf o)) (o .permits)) _ _
+        (eq-eqb _ _ (radios-length o (r .permits .1)))
+    asks false = refl

@@ -13,23 +13,23 @@ use lib.ListN.{length-replicate, length-set, take-append-drop}
 use lib.Seq.{length-take-le, take-append-le, take-all, take-suc, take-take, getD-set-same, getD-set-other}
 use Rattle.hub.specs.declared.opening.Opening.{Opening}
 use Rattle.hub.specs.Basics.{among, bit}
-use Rattle.hub.specs.Radios.{STORE, differ, radiosOf, ringFrom, whole}
+use Rattle.hub.specs.Radios.{STORE, differ, radiosOf, ringFrom, padded}
 
 -- 32 bytes are the whole of it.
-pub whole-same : (l : List ℕ) → length l ≡ STORE → whole l ≡ l
-unfolding whole
-whole-same l e =
+pub padded-same : (l : List ℕ) → length l ≡ STORE → padded l ≡ l
+unfolding padded
+padded-same l e =
     take-append-le STORE l (replicate STORE 0) (omega (arith, e)) ∙ take-all STORE l (omega (arith, e))
 
-pub whole-length : (l : List ℕ) → length (whole l) ≡ STORE
-unfolding whole
-whole-length l =
+pub padded-length : (l : List ℕ) → length (padded l) ≡ STORE
+unfolding padded
+padded-length l =
     length-take-le STORE (l ++ replicate STORE 0)
     (omega (arith, length-append l (replicate STORE 0), length-replicate {A = ℕ} STORE 0))
 
 pub radios-of : (o : Opening) → length (o .radios) ≡ STORE → radiosOf o ≡ take (o .permits) (o .radios)
 unfolding radiosOf
-radios-of o e = ap (take (o .permits)) (whole-same (o .radios) e)
+radios-of o e = ap (take (o .permits)) (padded-same (o .radios) e)
 
 or-true : (c : Bool) → c || true ≡ true
 or-true true = refl

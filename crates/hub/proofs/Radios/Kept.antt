@@ -22,7 +22,7 @@ use Rattle.hub.specs.Calls.{answerOf, apply, called, checked, moveOf, pl
 use Rattle.hub.specs.Look.{look, seenBy}
 use Rattle.hub.specs.Opening.{fresh}
 use Rattle.hub.specs.Phases.{byTicket, hasRadio, isOneOf, isPermit, isPlaceOf}
-use Rattle.hub.specs.Radios.{STORE, moved, occurs, poolAfter, radiosIn, radiosOf, shown, storedIn, whole}
+use Rattle.hub.specs.Radios.{STORE, moved, occurs, poolAfter, radiosIn, radiosOf, shown, storedIn, padded}
 use Rattle.hub.specs.Record.{PARTIES, emptySeat, freeSlot, phasesOf, placesOf, writeSlot}
 use Rattle.hub.specs.Ring.{PLACES, Ring, canRetire, canSkip, readPlace, readSeat, retire, retired}
 use Rattle.hub.specs.Ring.{skip, skipped, writeSeat}
@@ -30,7 +30,7 @@ use Rattle.hub.proofs.Laws.Bools.{if-false, second}
 use Rattle.hub.proofs.Laws.Lists.{map-set}
 use Rattle.hub.proofs.Laws.Opening.{kept-opening}
 use Rattle.hub.proofs.Laws.Phases.{phases-alike, place-of}
-use Rattle.hub.proofs.Laws.Radios.{whole-length}
+use Rattle.hub.proofs.Laws.Radios.{padded-length}
 use Rattle.hub.proofs.Radios.Store.{ring-take}
 use Rattle.hub.proofs.Radios.Ways.{Same, Sized, carriers, count-ring, one, permitsAt, radios-count}
 use Rattle.hub.proofs.Radios.Ways.{radios-weigh, unmoved}
@@ -208,7 +208,7 @@ module _ (o : Opening) (few : o .permits ≤ STORE) where
         places = length-replicate PLACES emptySeat;
         hands = length-replicate {A = ℕ} PARTIES 0;
         laid = length-replicate {A = ℕ} PLACES 0;
-        store = whole-length (o .radios);
+        store = padded-length (o .radios);
         few = few;
         counted =
             radios-count (fresh o .slots) (fresh o .places) (fresh o .pool) refl refl
@@ -217,5 +217,5 @@ module _ (o : Opening) (few : o .permits ≤ STORE) where
             ∙ count-ring (fresh o .pool .store) 0 (o .permits);
         same = λ b.
             ap (occurs b)
-            (stored-only ∙ ring-take (whole (o .radios)) 0 (o .permits) (whole-length (o .radios)) (omega arith));
+            (stored-only ∙ ring-take (padded (o .radios)) 0 (o .permits) (padded-length (o .radios)) (omega arith));
       }

@@ -8,8 +8,8 @@ use lib.Seq.{length-take-le}
 use Rattle.hub.specs.declared.opening.Opening.{Opening}
 use Rattle.hub.specs.declared.record.Hub.{Hub}
 use Rattle.hub.specs.Basics.{weight}
-use Rattle.hub.specs.Radios.{STORE, radiosIn, radiosOf, whole}
-use Rattle.hub.proofs.Laws.Radios.{whole-length}
+use Rattle.hub.specs.Radios.{STORE, radiosIn, radiosOf, padded}
+use Rattle.hub.proofs.Laws.Radios.{padded-length}
 use Rattle.hub.proofs.Radios.Ways.{one, radios-count, radios-weigh}
 use Rattle.hub.proofs.Radios.Kept.{Kept}
 
@@ -20,7 +20,7 @@ each-one (x ∷ l) = omega (arith, each-one l)
 
 pub radios-length : (o : Opening) → o .permits ≤ STORE → length (radiosOf o) ≡ o .permits
 unfolding radiosOf
-radios-length o i = length-take-le (o .permits) (whole (o .radios)) (omega (arith, whole-length (o .radios)))
+radios-length o i = length-take-le (o .permits) (padded (o .radios)) (omega (arith, padded-length (o .radios)))
 
 pub kept-length : (h : Hub) → Kept h
     → length (radiosIn (h .slots) (h .places) (h .pool)) ≡ length (radiosOf (h .opening))

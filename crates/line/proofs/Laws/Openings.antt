@@ -14,7 +14,7 @@ use lib.Seq.{take-all, take-take, take-suc, take-append-le, take-set-lt, set-at,
 use Rattle.hub.specs.declared.moves.Call.{Call}
 use Rattle.hub.specs.declared.opening.Opening.{Opening}
 use Rattle.hub.specs.Opening.{sized}
-use Rattle.hub.specs.Radios.{STORE, whole}
+use Rattle.hub.specs.Radios.{STORE, padded}
 use Rattle.line.specs.Frame.{isCall}
 use Rattle.line.specs.Requests.{malformed, toOpen, toCall, withRadios, openingIn}
 use Rattle.line.specs.Requests.{requested, frameSize, isOpening}
@@ -105,7 +105,7 @@ module _ (l : List ℕ) (t : isOpening (requested l) ≡ true) where
   plain-frame e =
       ap toOpen (sym (if-true (eqb (getD l 0 0) 0x01) _ _ (eq-eqb (getD l 0 0) 0x01 e))) ∙ asked-for l t
 
-  pub named-frame : (getD l 0 0 ≡ 0x01 → ⊥) → (radios : List ℕ) → radios ≡ whole (drop 3 l)
+  pub named-frame : (getD l 0 0 ≡ 0x01 → ⊥) → (radios : List ℕ) → radios ≡ padded (drop 3 l)
       → toOpen (record { permits = getD l 1 0; parties = getD l 2 0; named = true; radios = radios })
       ≡ requested l
   named-frame f radios e =
@@ -119,15 +119,15 @@ module _ (l : List ℕ) (t : isOpening (requested l) ≡ true) where
 -- The first i of m are copied into 32 bytes.
 pub record Copied (m radios : List ℕ) (i : ℕ) : Type 0 where
   pub within : i ≤ length m
-  pub copied : radios ≡ whole (take i m)
+  pub copied : radios ≡ padded (take i m)
 
 pub none : (m : List ℕ) → Copied m (replicate STORE 0) 0
-unfolding whole
+unfolding padded
 none m = record { within = omega arith; copied = refl }
 
 module _ (m radios : List ℕ) (i : ℕ) (d : Copied m radios i) where
   pub one-more : i < length m → i < STORE → (x : ℕ) → x ≡ getD m i 0 → Copied m (set radios i x) (i + 1)
-  unfolding whole
+  unfolding padded
   one-more a b x e =
       record {
         within = omega arith;
@@ -148,11 +148,11 @@ module _ (m radios : List ℕ) (i : ℕ) (d : Copied m radios i) where
           ap (λ (n : ℕ). take n m) (add-one i) ∙ take-suc m i 0 a
           ∙ ap (λ (y : ℕ). take i m ++ (y ∷ [])) (sym e)
 
-  pub all-copied : length m ≤ i → radios ≡ whole m
-  all-copied a = d .copied ∙ ap whole (take-all i m a)
+  pub all-copied : length m ≤ i → radios ≡ padded m
+  all-copied a = d .copied ∙ ap padded (take-all i m a)
 
-  pub full : STORE ≤ i → radios ≡ whole m
-  unfolding whole
+  pub full : STORE ≤ i → radios ≡ padded m
+  unfolding padded
   full a =
       let s = length-take-le i m (d .within) in
       d .copied

@@ -17,7 +17,7 @@ use Rattle.hub.specs.Answers.{Printed, printed}
 use Rattle.hub.specs.Basics.{allFrom, implies}
 use Rattle.hub.specs.Fits.{figuresFit, fits, partyFits, placeFits, radiosFit}
 use Rattle.hub.specs.Opening.{radiosDiffer}
-use Rattle.hub.specs.Radios.{STORE, moved, poolAfter, radiosIn, radiosOf, rearranged, whole}
+use Rattle.hub.specs.Radios.{STORE, moved, poolAfter, radiosIn, radiosOf, rearranged, padded}
 use Rattle.hub.specs.Record.{PARTIES}
 use Rattle.hub.specs.Ring.{PLACES}
 use Rattle.hub.proofs.Laws.Bools.{first, second}
@@ -52,7 +52,7 @@ refused-pool true Refusal.NotHolding p q = refl
 refused-pool true Refusal.SameRadios p q = refl
 
 few-radios : (o : Opening) → length (radiosOf o) ≤ STORE
-unfolding radiosOf whole
+unfolding radiosOf padded
 few-radios o = simp length-take (omega arith)
 
 stored-within : (h : Hub) → h .pool .stored ≤ length (radiosIn (h .slots) (h .places) (h .pool))

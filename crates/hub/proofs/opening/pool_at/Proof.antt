@@ -5,7 +5,7 @@ use mathlib.Core.List.{List}
 use Prim.Native.Nat.{ℕ}
 use lib.ListN.{replicate}
 use Rattle.hub.specs.declared.record.Pool.{Pool}
-use Rattle.hub.proofs.Laws.Radios.{whole-same}
+use Rattle.hub.proofs.Laws.Radios.{padded-same}
 use Rattle.hub.proofs.opening.pool_at.Statement.{statement}
 use Rattle.hub.proofs.opening.pool_at.Tie as tie
 
@@ -17,7 +17,7 @@ cast-t5 : tie.Need-cast-t5
 cast-t5 c = search needs
 
 returns : tie.Need-returns
-returns c = ap (λ (l : List ℕ). filled l (c .before .before .args .o .permits)) (sym (whole-same _ (search needs)))
+returns c = ap (λ (l : List ℕ). filled l (c .before .before .args .o .permits)) (sym (padded-same _ (search needs)))
 
 pub pool-at-spec : {M : Type 1} → statement M
 pool-at-spec = tie.close (tie.spec cast-t5 returns)
