@@ -1,5 +1,5 @@
 // One call on any record at all, also on one that no opening reaches. A case on standard input is a
-// record and a call, 1819 bytes; its reply is the answer and the record that is left, 1824 bytes.
+// record and a call, 1851 bytes; its reply is the answer and the record that is left, 1856 bytes.
 // tests/README.md lays them out.
 
 mod radios; // the radios' part of a record
@@ -28,7 +28,7 @@ use step::calls::call;
 ghost use Prim.Native.Nat.{_+_, _<_, _≤_};
 
 // Only this function and `bytes_of` know the record's fields.
-fn record_of(bytes: &[u8; 1817]) -> Hub {
+fn record_of(bytes: &[u8; 1849]) -> Hub {
     let places = places_of(bytes);
     let slots = slots_of(bytes);
     Hub {
@@ -46,8 +46,8 @@ fn record_of(bytes: &[u8; 1817]) -> Hub {
     }
 }
 
-fn bytes_of(hub: Hub) -> [u8; 1817] {
-    let mut out = [0u8; 1817];
+fn bytes_of(hub: Hub) -> [u8; 1849] {
+    let mut out = [0u8; 1849];
     out[0] = hub.opening.permits;
     out[1] = hub.opening.parties;
     put_number(&mut out, 2, twos_complement(hub.figures.counter));
@@ -64,7 +64,7 @@ fn bytes_of(hub: Hub) -> [u8; 1817] {
     out
 }
 
-fn places_of(bytes: &[u8; 1817]) -> [PlaceSlot; 256] {
+fn places_of(bytes: &[u8; 1849]) -> [PlaceSlot; 256] {
     let empty = empty_seat();
     let mut places = [empty; 256];
     let mut i: usize = 0;
@@ -76,7 +76,7 @@ fn places_of(bytes: &[u8; 1817]) -> [PlaceSlot; 256] {
     places
 }
 
-fn put_places(out: &mut [u8; 1817], places: [PlaceSlot; 256]) {
+fn put_places(out: &mut [u8; 1849], places: [PlaceSlot; 256]) {
     let mut i: usize = 0;
     while i < 256 {
         let slot = places[i];
@@ -86,24 +86,25 @@ fn put_places(out: &mut [u8; 1817], places: [PlaceSlot; 256]) {
     }
 }
 
-fn slots_of(bytes: &[u8; 1817]) -> [PartySlot; 32] {
+fn slots_of(bytes: &[u8; 1849]) -> [PartySlot; 32] {
     let free = free_slot();
     let mut slots = [free; 32];
     let mut p: usize = 0;
     while p < 32 {
         let phase = phase_of(cell_at(bytes, 1302 + 5 * p));
-        slots[p] = with_phase(phase, free);
+        slots[p] = with_phase(marked(phase, bytes[1817 + p]), free);
         p += 1;
     }
     slots
 }
 
-fn put_slots(out: &mut [u8; 1817], slots: [PartySlot; 32]) {
+fn put_slots(out: &mut [u8; 1849], slots: [PartySlot; 32]) {
     let mut p: usize = 0;
     while p < 32 {
         let slot = slots[p];
         let phase = slot.phase;
         put_cell(out, 1302 + 5 * p, phase_cell(phase));
+        out[1817 + p] = mark_of(phase);
         p += 1;
     }
 }
@@ -114,8 +115,8 @@ struct Cell {
     number: u32,
 }
 
-fn cell_at(bytes: &[u8; 1817], at: usize) -> Cell
-    requires { ⌜ at + 5 ≤ 1817 ⌝ }
+fn cell_at(bytes: &[u8; 1849], at: usize) -> Cell
+    requires { ⌜ at + 5 ≤ 1849 ⌝ }
 {
     Cell {
         name: bytes[at],
@@ -123,8 +124,8 @@ fn cell_at(bytes: &[u8; 1817], at: usize) -> Cell
     }
 }
 
-fn put_cell(out: &mut [u8; 1817], at: usize, cell: Cell)
-    requires { ⌜ at + 5 ≤ 1817 ⌝ }
+fn put_cell(out: &mut [u8; 1849], at: usize, cell: Cell)
+    requires { ⌜ at + 5 ≤ 1849 ⌝ }
 {
     out[at] = cell.name;
     put_number(out, at + 1, cell.number);
@@ -198,6 +199,29 @@ fn phase_cell(phase: Phase) -> Cell {
         },
         Phase::Fetching => plain(12),
         Phase::Storing => plain(13),
+        Phase::AcquiringMarked => plain(3),
+        Phase::SuspendingMarked => plain(4),
+        Phase::TicketedMarked(t) => Cell { name: 5, number: t },
+    }
+}
+
+// A phase with its mark. A mark counts in three phases, and there is none in the others.
+fn marked(phase: Phase, mark: u8) -> Phase {
+    if mark % 2 == 0 {
+        return phase;
+    }
+    match phase {
+        Phase::Acquiring => Phase::AcquiringMarked,
+        Phase::Suspending => Phase::SuspendingMarked,
+        Phase::Ticketed(t) => Phase::TicketedMarked(t),
+        _ => phase,
+    }
+}
+
+fn mark_of(phase: Phase) -> u8 {
+    match phase {
+        Phase::AcquiringMarked | Phase::SuspendingMarked | Phase::TicketedMarked(_) => 1,
+        _ => 0,
     }
 }
 
@@ -217,16 +241,16 @@ fn op_of(byte: u8) -> Op {
 }
 
 // The number in the four bytes from here on, the high byte first.
-fn number_at(bytes: &[u8; 1817], at: usize) -> u32
-    requires { ⌜ at + 4 ≤ 1817 ⌝ }
+fn number_at(bytes: &[u8; 1849], at: usize) -> u32
+    requires { ⌜ at + 4 ≤ 1849 ⌝ }
 {
     let high = wide(bytes[at]) * 256 + wide(bytes[at + 1]);
     let low = wide(bytes[at + 2]) * 256 + wide(bytes[at + 3]);
     high * 65536 + low
 }
 
-fn put_number(out: &mut [u8; 1817], at: usize, n: u32)
-    requires { ⌜ at + 4 ≤ 1817 ⌝ }
+fn put_number(out: &mut [u8; 1849], at: usize, n: u32)
+    requires { ⌜ at + 4 ≤ 1849 ⌝ }
 {
     out[at] = (n / 16777216 % 256) as u8;
     out[at + 1] = (n / 65536 % 256) as u8;
@@ -263,8 +287,8 @@ fn print_reply(party: u8, o: Outcome) -> bool {
 
 // False where the input ends, or writing fails.
 fn answer_one() -> bool {
-    let mut record = [0u8; 1817];
-    if io::read_full(STDIN_FILENO, &mut record) < 1817 {
+    let mut record = [0u8; 1849];
+    if io::read_full(STDIN_FILENO, &mut record) < 1849 {
         return false;
     }
     let mut asked = [0u8; 2];

@@ -10,7 +10,7 @@ use hub::record::PlaceSlot;
 use hub::record::Pool;
 ghost use Prim.Native.Nat.{_+_, _<_, _≤_};
 
-pub(crate) fn opening_of(bytes: &[u8; 1817]) -> Opening {
+pub(crate) fn opening_of(bytes: &[u8; 1849]) -> Opening {
     Opening {
         permits: bytes[0],
         parties: bytes[1],
@@ -19,7 +19,7 @@ pub(crate) fn opening_of(bytes: &[u8; 1817]) -> Opening {
     }
 }
 
-pub(crate) fn pool_of(bytes: &[u8; 1817]) -> Pool {
+pub(crate) fn pool_of(bytes: &[u8; 1849]) -> Pool {
     let first = wide(bytes[1783]);
     Pool {
         hands: few_at(bytes, 1495),
@@ -32,7 +32,7 @@ pub(crate) fn pool_of(bytes: &[u8; 1817]) -> Pool {
 
 // On a hub with radios alone; else nothing is written.
 pub(crate) fn put_radios(
-    out: &mut [u8; 1817],
+    out: &mut [u8; 1849],
     opening: Opening,
     slots: [PartySlot; 32],
     places: [PlaceSlot; 256],
@@ -54,8 +54,8 @@ pub(crate) fn put_radios(
 }
 
 // The 32 bytes from here on.
-fn few_at(bytes: &[u8; 1817], at: usize) -> [u8; 32]
-    requires { ⌜ at + 32 ≤ 1817 ⌝ }
+fn few_at(bytes: &[u8; 1849], at: usize) -> [u8; 32]
+    requires { ⌜ at + 32 ≤ 1849 ⌝ }
 {
     let mut few = [0u8; 32];
     let mut i: usize = 0;
@@ -66,8 +66,8 @@ fn few_at(bytes: &[u8; 1817], at: usize) -> [u8; 32]
     few
 }
 
-fn put_few(out: &mut [u8; 1817], at: usize, few: [u8; 32])
-    requires { ⌜ at + 32 ≤ 1817 ⌝ }
+fn put_few(out: &mut [u8; 1849], at: usize, few: [u8; 32])
+    requires { ⌜ at + 32 ≤ 1849 ⌝ }
 {
     let mut i: usize = 0;
     while i < 32 {
@@ -76,7 +76,7 @@ fn put_few(out: &mut [u8; 1817], at: usize, few: [u8; 32])
     }
 }
 
-fn laid_of(bytes: &[u8; 1817]) -> [u8; 256] {
+fn laid_of(bytes: &[u8; 1849]) -> [u8; 256] {
     let mut laid = [0u8; 256];
     let mut i: usize = 0;
     while i < 256 {
@@ -87,7 +87,7 @@ fn laid_of(bytes: &[u8; 1817]) -> [u8; 256] {
 }
 
 // Where a permit lies.
-fn put_laid(out: &mut [u8; 1817], places: [PlaceSlot; 256], laid: [u8; 256]) {
+fn put_laid(out: &mut [u8; 1849], places: [PlaceSlot; 256], laid: [u8; 256]) {
     let mut i: usize = 0;
     while i < 256 {
         let slot = places[i];
