@@ -13,6 +13,7 @@
 use std::collections::VecDeque;
 use std::env;
 use std::io::{self, BufRead, BufReader, BufWriter, ErrorKind, Write};
+use std::mem;
 use std::process::ExitCode;
 
 mod records;
@@ -75,6 +76,11 @@ enum Phase {
 }
 
 impl Phase {
+    /// Whether a party in this phase can have given up early.
+    const fn may_be_marked(self) -> bool {
+        matches!(self, Phase::Asked | Phase::Unnumbered | Phase::Numbered(_))
+    }
+
     /// Whether a party in this phase has a radio, on a hub with radios.
     const fn has_radio(self) -> bool {
         matches!(
@@ -246,6 +252,8 @@ struct Hub {
     begun: u32,
     ring: [Place; PLACES],
     phases: [Phase; PARTIES],
+    /// Who gave up before waiting, and has neither a permit nor a wait yet.
+    marked: [bool; PARTIES],
     /// On a hub with radios, where they are.
     pool: Option<Pool>,
 }
@@ -268,6 +276,7 @@ impl Hub {
             begun: 0,
             ring: [Place::Empty; PLACES],
             phases: [Phase::Free; PARTIES],
+            marked: [false; PARTIES],
             pool: None,
         })
     }
@@ -326,15 +335,19 @@ impl Hub {
         Ok(Answer::plain(0x20))
     }
 
-    /// Paper: give up.
+    /// Paper: give up. Before waiting it is remembered, once in an acquire.
     fn cancel(&mut self, party: usize) -> Result<Answer, Refusal> {
-        let Phase::Waiting(t) = self.phases[party] else {
+        let early = self.phases[party].may_be_marked() && !self.marked[party];
+        if !early && !matches!(self.phases[party], Phase::Waiting(_)) {
             return Err(Refusal::NotWaiting);
-        };
+        }
         if kind(party) == Kind::BatteryRound {
             return Err(Refusal::MustWait);
         }
-        self.phases[party] = Phase::GivingUp(t);
+        match self.phases[party] {
+            Phase::Waiting(t) => self.phases[party] = Phase::GivingUp(t),
+            _ => self.marked[party] = true,
+        }
         Ok(Answer::plain(0x20))
     }
 
@@ -365,7 +378,8 @@ impl Hub {
 
     /// The step table. Counter tests look at the value before the change. A
     /// place in a state the table does not list means that the record never
-    /// fitted; those arms answer so before anything is altered.
+    /// fitted; those arms answer so before anything is altered. The mark of
+    /// an early cancel ends with a permit or with the wait.
     fn step(&mut self, party: usize) -> Result<Answer, Refusal> {
         let (phase, answer) = match self.phases[party] {
             Phase::Free | Phase::Holding | Phase::Waiting(_) => return Err(Refusal::AtRest),
@@ -378,6 +392,7 @@ impl Hub {
                         Some(_) => Phase::Fetching,
                         None => Phase::Holding,
                     };
+                    self.marked[party] = false;
                     (acquired, Answer::plain(0x21))
                 } else {
                     (Phase::Unnumbered, Answer::plain(0x22))
@@ -391,11 +406,17 @@ impl Hub {
             Phase::Numbered(t) => match self.place(t) {
                 Place::Empty => {
                     self.set_place(t, Place::Waiting(party as u32));
-                    (Phase::Waiting(t), Answer::of(0x24, t))
+                    let waiting = if mem::take(&mut self.marked[party]) {
+                        Phase::GivingUp(t)
+                    } else {
+                        Phase::Waiting(t)
+                    };
+                    (waiting, Answer::of(0x24, t))
                 }
                 Place::Permit => {
                     self.set_place(t, Place::Done);
                     self.pass_radio(Hand::Place(t), Hand::Party(party));
+                    self.marked[party] = false;
                     (Phase::Holding, Answer::of(0x25, t))
                 }
                 _ => return Err(Refusal::Misfit),
@@ -525,6 +546,7 @@ impl Hub {
     fn fits(&self) -> bool {
         self.bounds_fit()
             && self.phases.iter().all(|&phase| self.phase_fits(phase))
+            && (0..PARTIES).all(|party| self.mark_fits(party))
             && (self.oldest..self.oldest + SPAN).all(|t| self.place_fits(t))
             && self.radios_fit()
     }
@@ -572,6 +594,11 @@ impl Hub {
                     && !matches!(self.place(t), Place::Permit | Place::Done)
             }
         }
+    }
+
+    /// Nobody who holds or waits, or is through with that, is marked.
+    fn mark_fits(&self, party: usize) -> bool {
+        !self.marked[party] || self.phases[party].may_be_marked()
     }
 
     /// A waiting place's party is there, or on its way out, with that ticket.

@@ -6,15 +6,15 @@ use super::{Answer, Call, Hub, Phase, Place, Pool, Ticket};
 use super::{MAX_RADIOS, NO_NUMBER, NO_PARTY, PARTIES, PLACES};
 use std::io::{self, ErrorKind, Read, Write};
 
-/// Bytes of a record but for its radios: K, n, five figures, the places and
-/// the phases.
+/// Bytes of a record but for its radios and marks: K, n, five figures, the
+/// places and the phases.
 const LINKS: usize = 2 + 5 * 4 + PLACES * 5 + PARTIES * 5;
 /// Bytes of the radios: whether the hub has them, the opening's, one for each
 /// party, one for each place; how far the store is turned, how many it has,
 /// and room for the most.
 const RADIOS: usize = 1 + MAX_RADIOS + PARTIES + PLACES + 2 + MAX_RADIOS;
-/// Bytes of a record.
-pub const RECORD: usize = LINKS + RADIOS;
+/// Bytes of a record: after all that, a mark for each party.
+pub const RECORD: usize = LINKS + RADIOS + PARTIES;
 /// Bytes of a case: a record, the call's code and its party.
 pub const CASE: usize = RECORD + 2;
 /// Bytes of a reply: an answer as on a line, and a record.
@@ -63,7 +63,8 @@ fn number(bytes: &[u8], at: usize) -> u32 {
 fn read_record(bytes: &[u8]) -> Hub {
     let (figures, rest) = bytes.split_at(22);
     let (places, rest) = rest.split_at(PLACES * 5);
-    let (phases, radios) = rest.split_at(PARTIES * 5);
+    let (phases, rest) = rest.split_at(PARTIES * 5);
+    let (radios, marks) = rest.split_at(RADIOS);
     let mut hub = Hub {
         permits: figures[0],
         parties: figures[1],
@@ -74,6 +75,7 @@ fn read_record(bytes: &[u8]) -> Hub {
         oldest: number(figures, 18),
         ring: [Place::Empty; PLACES],
         phases: [Phase::Free; PARTIES],
+        marked: [false; PARTIES],
         pool: None,
     };
     for (place, bytes) in hub.ring.iter_mut().zip(places.chunks(5)) {
@@ -81,6 +83,10 @@ fn read_record(bytes: &[u8]) -> Hub {
     }
     for (phase, bytes) in hub.phases.iter_mut().zip(phases.chunks(5)) {
         *phase = read_phase(bytes[0], number(bytes, 1));
+    }
+    // A mark is passed over where none fits.
+    for (party, byte) in marks.iter().enumerate() {
+        hub.marked[party] = hub.phases[party].may_be_marked() && byte % 2 == 1;
     }
     hub.pool = read_pool(&hub, radios);
     hub
@@ -139,6 +145,7 @@ fn write_record(hub: &Hub, bytes: &mut Vec<u8>) {
         Some(pool) => write_pool(pool, bytes),
         None => bytes.extend([0; RADIOS]),
     }
+    bytes.extend(hub.marked.map(u8::from));
 }
 
 /// The party counts for a waiting place only.

@@ -1134,6 +1134,167 @@ mod radios {
     }
 }
 
+/// Cancels before the wait (paper: give-ups in asked, unnumbered, numbered).
+mod early {
+    use super::*;
+    use Phase::*;
+
+    const EARLY: [Phase; 3] = [Asked, Unnumbered, Numbered(7)];
+
+    /// A fitting record with so much at the counter; party 0 in this phase,
+    /// marked or not, and its place so.
+    fn hub_with(counter: i32, phase: Phase, marked: bool, place: Place) -> Hub {
+        let mut hub = Hub::open(1, 32).unwrap();
+        hub.counter = counter;
+        hub.next_ticket = 8;
+        hub.next_resume = 8;
+        hub.ring[7] = place;
+        hub.phases[0] = phase;
+        hub.marked[0] = marked;
+        hub
+    }
+
+    #[test]
+    fn a_cancel_is_remembered_and_alters_nothing_else() {
+        for phase in EARLY {
+            let mut hub = hub_with(-1, phase, false, Place::Empty);
+            let expected = hub_with(-1, phase, true, Place::Empty);
+            let answer = hub.call(Call::Cancel, 0, true);
+            assert_eq!(answer, Ok(Answer::plain(0x20)));
+            assert_eq!(hub, expected);
+            let again = hub.call(Call::Cancel, 0, true);
+            assert_eq!(again, Err(Refusal::NotWaiting));
+            assert_eq!(hub, expected);
+        }
+    }
+
+    /// It is a success, so it ends with a tidying.
+    #[test]
+    fn a_remembered_cancel_tidies() {
+        for phase in EARLY {
+            let mut hub = hub_with(-1, phase, false, Place::Empty);
+            hub.ring[0] = Place::Done;
+            hub.ring[8] = Place::Cancelled;
+            hub.call(Call::Cancel, 0, true).unwrap();
+            assert_eq!((hub.oldest, hub.next_resume), (1, 9));
+            assert_eq!((hub.ring[0], hub.ring[8]), (Place::Empty, Place::Done));
+        }
+    }
+
+    /// What a step makes of a marked party: the code, its phase and its mark.
+    fn stepped(mut hub: Hub) -> (u8, Phase, bool) {
+        let code = hub.call(Call::Step, 0, true).unwrap().code;
+        assert!(hub.fits());
+        (code, hub.phases[0], hub.marked[0])
+    }
+
+    #[test]
+    fn steps_of_a_marked_party() {
+        let hub = |counter, phase, place| hub_with(counter, phase, true, place);
+        let empty = Place::Empty;
+        assert_eq!(stepped(hub(1, Asked, empty)), (0x21, Holding, false));
+        assert_eq!(stepped(hub(0, Asked, empty)), (0x22, Unnumbered, true));
+        assert_eq!(
+            stepped(hub(-1, Unnumbered, empty)),
+            (0x23, Numbered(8), true)
+        );
+        assert_eq!(
+            stepped(hub(-1, Numbered(7), empty)),
+            (0x24, GivingUp(7), false)
+        );
+        let found = stepped(hub(-1, Numbered(7), Place::Permit));
+        assert_eq!(found, (0x25, Holding, false));
+        let mut waiting = hub(-1, Numbered(7), empty);
+        waiting.call(Call::Step, 0, true).unwrap();
+        assert_eq!(waiting.ring[7], Place::Waiting(0));
+        assert_eq!(waiting.waiters(), 0);
+    }
+
+    #[test]
+    fn a_permit_fetched_forgets_the_mark() {
+        let mut hub = Hub::open_pool(1, 1, &[0xA7]).unwrap();
+        for (call, code) in [(Call::Acquire, 0x20), (Call::Cancel, 0x20)] {
+            assert_eq!(hub.call(call, 0, true), Ok(Answer::plain(code)));
+        }
+        assert!(hub.marked[0]);
+        assert_eq!(hub.call(Call::Step, 0, true), Ok(Answer::plain(0x21)));
+        assert_eq!((hub.phases[0], hub.marked[0]), (Fetching, false));
+        assert_eq!(hub.call(Call::Cancel, 0, true), Err(Refusal::NotWaiting));
+    }
+
+    /// 10 as when waiting. A marked party of this kind, which no call makes,
+    /// fits and is 9: that comes first.
+    #[test]
+    fn battery_rounds() {
+        for party in [29, 30, 31] {
+            for phase in EARLY {
+                let mut hub = hub_with(-1, Free, false, Place::Empty);
+                hub.phases[party] = phase;
+                let before = hub.clone();
+                let outcome = hub.call(Call::Cancel, party as u8, true);
+                if party == 29 {
+                    assert_eq!(outcome, Ok(Answer::plain(0x20)));
+                    continue;
+                }
+                assert_eq!(outcome, Err(Refusal::MustWait));
+                assert_eq!(hub, before);
+                hub.marked[party] = true;
+                assert!(hub.fits());
+                let outcome = hub.call(Call::Cancel, party as u8, true);
+                assert_eq!(outcome, Err(Refusal::NotWaiting));
+            }
+        }
+    }
+
+    #[test]
+    fn a_mark_fits_in_three_phases() {
+        let phases = [
+            Free,
+            Holding,
+            Waiting(7),
+            GivingUp(7),
+            GivingBack,
+            Carrying,
+            Handing(6),
+        ];
+        for &phase in phases.iter().chain(&EARLY) {
+            let hub = hub_with(-1, phase, false, Place::Empty);
+            assert!(hub.fits());
+            let mut marked = hub_with(-1, phase, true, Place::Empty);
+            assert_eq!(marked.fits(), EARLY.contains(&phase), "{phase:?}");
+            if !EARLY.contains(&phase) {
+                let outcome = marked.call(Call::Cancel, 0, true);
+                assert_eq!(outcome, Err(Refusal::Misfit));
+            }
+        }
+        for phase in [Cancelling(7), Refusing(7)] {
+            let mut hub = hub_with(-1, phase, false, Place::Waiting(0));
+            assert!(hub.fits());
+            hub.marked[0] = true;
+            assert!(!hub.fits());
+        }
+        let mut hub = Hub::open_pool(2, 3, &[1, 2]).unwrap();
+        hub.phases[0] = Fetching;
+        hub.phases[1] = PuttingBack;
+        hub.pool.as_mut().unwrap().pass(Hand::Store, Hand::Party(1));
+        assert!(hub.fits());
+        for party in [0, 1, 2, 31] {
+            hub.marked[party] = true;
+            assert!(!hub.fits());
+            hub.marked[party] = false;
+        }
+    }
+
+    /// Neither holds nor waits: the closing line counts a marked party nowhere.
+    #[test]
+    fn closing_line() {
+        let input = "010104\n1000\n1100\n1001\n1201\n1002\n1102\n1202\n1003\n1103\n1103\n1203\n";
+        assert_eq!(answers(input).lines().last(), Some("7E0100FFFFFFFE"));
+        let input = format!("{input}1103\n");
+        assert_eq!(answers(input).lines().last(), Some("7E0100FFFFFFFE"));
+    }
+}
+
 mod record_mode {
     use super::*;
     use records::{CASE, RECORD, REPLY};
@@ -1171,6 +1332,7 @@ mod record_mode {
     const TURNED: usize = 1783;
     const COUNT: usize = 1784;
     const STORE: usize = 1785;
+    const MARK: usize = 1817;
 
     fn set(record: &mut [u8], at: usize, byte: u8, number: u32) {
         record[at] = byte;
@@ -1179,7 +1341,7 @@ mod record_mode {
 
     #[test]
     fn sizes() {
-        assert_eq!((RECORD, CASE, REPLY), (1817, 1819, 1824));
+        assert_eq!((RECORD, CASE, REPLY), (1849, 1851, 1856));
     }
 
     /// The run, each record handed back in; the last one by hand.
@@ -1258,6 +1420,7 @@ mod record_mode {
             let numbered = matches!(phase, 2 | 5..=8 | 11);
             let t = if numbered { 0xA1B2_C3D4 } else { 0 };
             set(&mut record, PHASE + 5 * party, phase, t);
+            record[MARK + party] = u8::from(matches!(phase, 3..=5) && party < 14);
         }
         let calls = [(0x10, 0), (0x11, 31), (0x12, 32), (0x13, 255), (0x14, 0)];
         let mut with_radios = record.clone();
@@ -1274,7 +1437,7 @@ mod record_mode {
             with_radios[AT + place] = 0;
         }
         with_radios[COUNT] = 31;
-        for (byte, value) in with_radios[STORE..RECORD - 1].iter_mut().zip(0x41..) {
+        for (byte, value) in with_radios[STORE..MARK - 1].iter_mut().zip(0x41..) {
             *byte = value;
         }
         for record in [record, with_radios] {
@@ -1392,6 +1555,43 @@ mod record_mode {
         }
     }
 
+    /// A mark counts by its remainder, in the three phases; elsewhere it is
+    /// passed over and written as zero.
+    #[test]
+    fn marks() {
+        for byte in 0..=255u8 {
+            for phase in 0..14u8 {
+                let mut record = opened(0, 0);
+                set(&mut record, PHASE + 5 * 31, phase, 0);
+                record[MARK + 31] = byte;
+                let left = reply(&record, 0x10, 0).1;
+                let mut expected = record;
+                expected[MARK + 31] = if matches!(phase, 3..=5) { byte % 2 } else { 0 };
+                assert_eq!(left, expected);
+            }
+        }
+        // asked at 0, then marked; then 22, 23, 24 and 2E
+        let mut record = opened(1, 3);
+        record[5] = 0;
+        set(&mut record, PHASE + 5 * 2, 3, 0);
+        let (answer, mut left) = reply(&record, 0x12, 2);
+        record[MARK + 2] = 1;
+        assert_eq!((&answer[..], &left), ("2002FFFFFFFFFF", &record));
+        assert_eq!(reply(&left, 0x12, 2).0, "0902FFFFFFFFFF");
+        let steps = [
+            ("2202FFFFFFFFFF", 4, 1),
+            ("2302FF00000000", 5, 1),
+            ("2402FF00000000", 6, 0),
+            ("2E02FFFFFFFFFF", 7, 0),
+        ];
+        for (expected, phase, mark) in steps {
+            let (answer, next) = reply(&left, 0x11, 2);
+            assert_eq!(answer, expected);
+            assert_eq!((next[PHASE + 5 * 2], next[MARK + 2]), (phase, mark));
+            left = next;
+        }
+    }
+
     #[test]
     fn only_whole_cases_are_answered() {
         let cases = [opened(1, 1), vec![0x10, 0], opened(2, 2), vec![0x11, 1]].concat();
@@ -1489,6 +1689,8 @@ struct Ledger {
     radios: Option<(Vec<Radio>, Whereabouts)>,
     permits: i32,
     phases: [Phase; PARTIES],
+    /// Who gave up before waiting: 20 to a cancel in one of three phases.
+    marked: [bool; PARTIES],
     held: i32,
     counter: i32,
     /// Places with a permit.
@@ -1514,6 +1716,7 @@ impl Ledger {
             radios: radios.map(|radios| (sorted(radios.to_vec()), stored(radios))),
             permits: i32::from(permits),
             phases: [Phase::Free; PARTIES],
+            marked: [false; PARTIES],
             held: 0,
             counter: i32::from(permits),
             lying: 0,
@@ -1548,9 +1751,17 @@ impl Ledger {
         assert_eq!(answer.number.is_some(), numbered);
         let ticket = answer.number.or(own);
         let t = || ticket.expect("an answer that needs a number");
+        let leaves = self.marked[party];
         let phase = match (call, answer.code) {
             (Call::Acquire, 0x20) => Asked,
-            (Call::Cancel, 0x20) => GivingUp(t()),
+            (Call::Cancel, 0x20) => match self.phases[party] {
+                Waiting(t) => GivingUp(t),
+                early @ (Asked | Unnumbered | Numbered(_)) if !leaves => {
+                    self.marked[party] = true;
+                    early
+                }
+                other => panic!("gives up: {:?}", other),
+            },
             (Call::Release, 0x20) => GivingBack,
             (Call::Step, 0x21 | 0x37) if has_radios => Fetching,
             (Call::Step, 0x26) if has_radios => PuttingBack,
@@ -1559,6 +1770,7 @@ impl Ledger {
             (Call::Step, 0x21 | 0x25) => Holding,
             (Call::Step, 0x22) => Unnumbered,
             (Call::Step, 0x23) => Numbered(t()),
+            (Call::Step, 0x24) if leaves => GivingUp(t()),
             (Call::Step, 0x24) => Waiting(t()),
             (Call::Step, 0x27 | 0x2C | 0x31) => Carrying,
             (Call::Step, 0x28) => Handing(t()),
@@ -1567,6 +1779,9 @@ impl Ledger {
             (Call::Step, 0x2F) => Refusing(t()),
             other => panic!("no such answer: {:?}", other),
         };
+        if matches!(answer.code, 0x21 | 0x24 | 0x25) {
+            self.marked[party] = false;
+        }
         self.phases[party] = phase;
         assert_eq!(answer.woken.is_some(), answer.code == 0x2A);
         if let Some(woken) = answer.woken {
@@ -1632,6 +1847,7 @@ impl Ledger {
     fn assert_shown_by(&self, hub: &Hub) {
         let places = |wanted| hub.ring.iter().filter(|&&place| place == wanted).count() as i32;
         assert_eq!(self.phases, hub.phases);
+        assert_eq!(self.marked, hub.marked);
         assert_eq!(self.counter, hub.counter);
         assert_eq!(self.lying, places(Place::Permit));
         assert_eq!(self.refused, places(Place::Refused));
@@ -1655,6 +1871,8 @@ struct Habits {
     acquire: u32,
     cancel: u32,
     release: u32,
+    /// One step in so many of a party not yet waiting is a give-up.
+    early: u32,
 }
 
 impl Habits {
@@ -1669,6 +1887,7 @@ impl Habits {
             acquire: 1 + random.below(8),
             cancel: random.below(9),
             release: random.below(9),
+            early: [2, 8, 100][random.below(3) as usize],
         }
     }
 
@@ -1690,6 +1909,7 @@ impl Habits {
                 Phase::Free => (Call::Acquire, self.acquire),
                 Phase::Waiting(_) => (Call::Cancel, self.cancel),
                 Phase::Holding => (Call::Release, self.release),
+                phase if phase.may_be_marked() && random.one_in(self.early) => (Call::Cancel, 8),
                 _ => (Call::Step, 8),
             };
             if random.below(8) < eager {
@@ -1711,8 +1931,9 @@ mod schedules {
         random: Random,
     }
 
-    /// How often each answer and refusal was met, by number.
-    type Seen = [u64; 256];
+    /// How often each answer and refusal was met, by number; from 256 on, by
+    /// a marked party.
+    type Seen = [u64; 512];
 
     impl Walk {
         fn new(seed: u64) -> Self {
@@ -1742,16 +1963,19 @@ mod schedules {
         /// One call, entered in the ledger and checked against it.
         fn make(&mut self, call: Call, party: u8, seen: &mut Seen) {
             let before = self.hub.clone();
-            match self.hub.call(call, party, true) {
+            let marked = before.marked.get(usize::from(party)) == Some(&true);
+            let number = match self.hub.call(call, party, true) {
                 Ok(answer) => {
-                    seen[usize::from(answer.code)] += 1;
                     self.ledger.enter(call, usize::from(party), answer);
+                    usize::from(answer.code)
                 }
                 Err(refusal) => {
-                    seen[refusal as usize] += 1;
                     assert_eq!(self.hub, before);
+                    refusal as usize
                 }
-            }
+            };
+            seen[number] += 1;
+            seen[256 + number] += u64::from(marked);
             assert!(self.hub.fits());
             self.ledger.assert_shown_by(&self.hub);
             self.ledger.assert_sound();
@@ -1773,7 +1997,7 @@ mod schedules {
 
     #[test]
     fn every_reached_record_is_sound() {
-        let mut seen: Seen = [0; 256];
+        let mut seen: Seen = [0; 512];
         let mut rests_with_waiters = 0u64;
         for seed in 0..600 {
             let mut walk = Walk::new(seed);
@@ -1797,8 +2021,9 @@ mod schedules {
         for number in (0x20..=0x33)
             .chain(0x36..=0x39)
             .chain([4, 5, 7, 8, 9, 10, 11])
+            .chain([5, 9, 11, 0x21, 0x22, 0x23, 0x24, 0x25, 0x39].map(|code| 256 + code))
         {
-            assert!(seen[number] > 0, "never met {:#04X}", number);
+            assert!(seen[number] > 0, "never met {:#05X}", number);
         }
         assert!(rests_with_waiters > 1_000);
     }
@@ -1849,6 +2074,7 @@ mod schedules {
             let ticket = hub.oldest.wrapping_add(random.below(SPAN));
             hub.phases[party as usize] = any_phase(random, ticket);
             hub.set_place(ticket, any_place(random, party));
+            hub.marked[party as usize] = random.one_in(3);
         }
         if random.one_in(2) {
             hub.pool = Some(any_pool(random, &hub));

@@ -2,10 +2,12 @@
 //! same calls to both, and every answer must agree. Usage: archive SECOND SCHEDULES. Links
 //! librun.a.
 
+mod early;
 mod library;
 mod process;
 mod schedules;
 
+use early::{Early, Follower};
 use library::hub_run;
 use schedules::{hex, schedule, Random, Schedule, Seen};
 use std::env;
@@ -50,6 +52,7 @@ fn main() -> ExitCode {
     };
     let schedules: u64 = schedules.parse().expect("SCHEDULES is a number");
     let mut seen = Seen::nothing();
+    let mut early = Early::nothing();
     for seed in 1..=schedules {
         let s = schedule(&mut Random::seeded(seed), 4000);
         let answers = proved(&s);
@@ -69,11 +72,16 @@ fn main() -> ExitCode {
             return ExitCode::FAILURE;
         }
         answers.iter().for_each(|answer| seen.count(answer[0]));
+        let mut hub = Follower::opened(s.radios.is_some());
+        for (call, answer) in s.calls.iter().zip(&answers[1..]) {
+            hub.enter(&mut early, *call, answer[0]);
+        }
     }
     println!("archive and second program: {schedules} schedules, all answers agree");
     // 1 no opening reaches, 6 takes a million asks, 13 is the program's; 12 is an opening's
     let refusals = (2..=14).filter(|&refusal| refusal != 6 && refusal != 13);
-    if seen.shows(refusals.chain(0x1F..=0x33).chain(0x36..=0x39)) {
+    let answers = seen.shows(refusals.chain(0x1F..=0x33).chain(0x36..=0x39));
+    if early.shows(true) && answers {
         ExitCode::SUCCESS
     } else {
         ExitCode::FAILURE

@@ -34,6 +34,8 @@ pub enum Clause {
     WaiterParty,
     /// Unnumbered and carrying need a number to take.
     Taking,
+    /// A mark fits in three phases, whatever the party's kind. Elsewhere the bytes have none.
+    Mark,
     /// Where in the record the broken clause was.
     Found,
     /// Fetching and putting back fit on a hub with radios alone.
@@ -49,7 +51,7 @@ pub enum Clause {
     Missing,
 }
 
-const CLAUSES: [(Clause, &str); 26] = [
+const CLAUSES: [(Clause, &str); 27] = [
     (Clause::Links, "K"),
     (Clause::Parties, "n"),
     (Clause::Counter, "counter"),
@@ -68,6 +70,7 @@ const CLAUSES: [(Clause, &str); 26] = [
     (Clause::WaiterNumber, "number of a waiting place's party"),
     (Clause::WaiterParty, "party of a waiting place"),
     (Clause::Taking, "number to take below oldest + 256"),
+    (Clause::Mark, "marked"),
     (Clause::Found, "found at"),
     (Clause::RadioPhase, "phase of a hub with radios"),
     (Clause::Alike, "opening's radios"),
@@ -138,6 +141,17 @@ impl Clause {
                 Phase::Unnumbered | Phase::Carrying => BOTH,
                 _ => NEITHER,
             }),
+            Clause::Mark => each(
+                &[
+                    "asked",
+                    "unnumbered",
+                    "numbered",
+                    "asked, kind 3",
+                    "unnumbered, kind 3",
+                    "numbered, kind 3",
+                ],
+                INSIDE,
+            ),
             Clause::RadioPhase => {
                 by_phase(|phase| if phase.needs_radios() { BOTH } else { NEITHER })
             }
@@ -287,6 +301,10 @@ impl Judgement {
             } else {
                 self.breaks(label.0, [label].into_iter().chain(found.iter().copied()));
             }
+        }
+        if record.phases[party].marked {
+            let kind_3 = if party >= 30 { 3 } else { 0 };
+            self.at_bound.push((Clause::Mark, phase as usize - Phase::Asked as usize + kind_3));
         }
         if phase.has_number() {
             self.party_number(record, party, found);

@@ -3,8 +3,8 @@
 
 use crate::clauses::{is_listed, Judgement};
 use crate::record::{
-    Keeper, Party, Phase, Place, Record, State, AT_PLACE_AT, OPENING_AT, PARTIES, PHASES, PLACES,
-    RADIOS, RADIOS_AT, RECORD, STATES, STORED_AT, STORE_AT, TURNED_AT, WITH_PARTY_AT,
+    Keeper, Party, Phase, Place, Record, State, AT_PLACE_AT, MARKS_AT, OPENING_AT, PARTIES, PHASES,
+    PLACES, RADIOS, RADIOS_AT, RECORD, STATES, STORED_AT, STORE_AT, TURNED_AT, WITH_PARTY_AT,
 };
 use crate::schedules::{radios, schedule, Random, Schedule, ASK, GIVE_BACK, GIVE_UP, RADIO, STEP};
 use std::vec;
@@ -22,10 +22,11 @@ pub enum Family {
     Untidy,
     ToUnfit,
     Unfit,
+    Early,
     OddBytes,
 }
 
-pub const FAMILIES: [&str; 9] = [
+pub const FAMILIES: [&str; 10] = [
     "reached",
     "called on from any that fits",
     "damaged",
@@ -34,6 +35,7 @@ pub const FAMILIES: [&str; 9] = [
     "untidy",
     "to be left unfit",
     "left unfit",
+    "not yet waiting",
     "odd bytes",
 ];
 
@@ -152,6 +154,7 @@ impl Maker {
             cases.push(Case::new(Family::Untidy, &record, call));
         }
         cases.extend((0..40).map(|_| to_unfit(random)));
+        early(random, &mut cases);
         cases.extend((0..20).map(|_| odd_bytes(random)));
         cases.iter_mut().for_each(|case| litter(random, &mut case.bytes));
         cases
@@ -189,7 +192,11 @@ fn call_for(random: &mut Random, record: &Record) -> [u8; 2] {
     if random.one_in(12) {
         return [RADIO, party];
     }
-    [usual(record.phases[usize::from(party)].phase), party]
+    let phase = record.phases[usize::from(party)].phase;
+    if phase.takes_mark() && random.one_in(4) {
+        return [GIVE_UP, party];
+    }
+    [usual(phase), party]
 }
 
 /// The call that a party in a phase may make.
@@ -206,9 +213,12 @@ fn usual(phase: Phase) -> u8 {
 fn success(random: &mut Random, record: &mut Record) -> [u8; 2] {
     for _ in 0..8 {
         let party = random.below(record.parties.into()) as u8;
-        let phase = record.phases[usize::from(party)].phase;
+        let Party { phase, marked, .. } = record.phases[usize::from(party)];
         if random.one_in(10) {
             return [RADIO, party];
+        }
+        if phase.takes_mark() && !marked && party < 30 && random.one_in(2) {
+            return [GIVE_UP, party];
         }
         // an ask may find no room, and waits of kind 3 stay
         if phase != Phase::Free && (phase != Phase::Waiting || party < 30) {
@@ -309,14 +319,19 @@ fn given(random: &mut Random, record: &Record, phase: Phase) -> u32 {
     record.oldest + random.pick(&[any, any, 0, count - 1])
 }
 
+/// A party in a phase, every other one marked if the phase takes that.
+fn somebody(random: &mut Random, phase: Phase, number: u32) -> Party {
+    Party { marked: phase.takes_mark() && random.one_in(2), ..Party::at(phase, number) }
+}
+
 /// Puts a party into a phase and makes the place of its number suit it, and the hub.
 fn settle(random: &mut Random, record: &mut Record, party: usize, phase: Phase, t: u32) {
     record.has_radios |= phase.needs_radios();
     if !phase.has_number() {
-        record.phases[party] = Party::at(phase, 0);
+        record.phases[party] = somebody(random, phase, 0);
         return;
     }
-    record.phases[party] = Party::at(phase, t);
+    record.phases[party] = somebody(random, phase, t);
     // those two act on no place, so that any is right; mostly it is their own
     let left_alone = if matches!(phase, Phase::Waiting | Phase::GivingUp) { 1 } else { 2 };
     if is_listed(phase, record.place(t).state) && random.below(3) < left_alone {
@@ -455,7 +470,9 @@ fn damage(random: &mut Random, record: &mut Record) {
             let state = random.pick(&STATES);
             record.places[at] = Place { state, party: party as u32 };
         }
-        12 => record.places[at] = random.pick(&record.places),
+        12 if random.one_in(2) => record.places[at] = random.pick(&record.places),
+        // no damage: a mark more, or a mark less
+        12 => record.phases.iter_mut().for_each(|party| party.marked ^= random.one_in(2)),
         13 => record.has_radios = !record.has_radios,
         15 => record.opening[party] = damaged_radio(random, record),
         16 | 17 => {
@@ -486,13 +503,17 @@ fn damage(random: &mut Random, record: &mut Record) {
     tidy_fields(record);
 }
 
-/// A party that no place carries and a number that no phase has are 0.
+/// A party that no place carries and a number that no phase has are 0, and no phase has a mark
+/// that takes none.
 fn tidy_fields(record: &mut Record) {
     for place in record.places.iter_mut().filter(|place| place.state != State::Waiting) {
         place.party = 0;
     }
     for party in record.phases.iter_mut().filter(|party| !party.phase.has_number()) {
         party.number = 0;
+    }
+    for party in record.phases.iter_mut() {
+        party.marked &= party.phase.takes_mark();
     }
     record.clear_radios();
 }
@@ -536,7 +557,8 @@ fn near_bounds(random: &mut Random) -> Record {
     for _ in 0..random.below(5) {
         let party = random.below(32) as usize;
         let number = damaged_figure(random, &record, record.oldest);
-        record.phases[party] = Party::at(random.pick(&PHASES), number);
+        let phase = random.pick(&PHASES);
+        record.phases[party] = somebody(random, phase, number);
     }
     tidy_fields(&mut record);
     if !random.one_in(4) {
@@ -666,7 +688,7 @@ fn acted_on_alone(random: &mut Random, records: &mut Vec<Record>) {
             let party = party_of(random, &record);
             let waiter = (party + 1) % usize::from(record.parties);
             let t = shared(random, &record);
-            record.phases[party] = Party::at(phase, t);
+            record.phases[party] = somebody(random, phase, t);
             *record.place_mut(t) = Place::of(state);
             if state == State::Waiting {
                 record.phases[waiter] = Party::at(Phase::Waiting, t);
@@ -772,7 +794,7 @@ fn taking_alone(random: &mut Random, records: &mut Vec<Record>) {
             set_next(&mut record, phase, end);
             fill(random, &mut record);
             let party = party_of(random, &record);
-            record.phases[party] = Party::at(phase, 0);
+            record.phases[party] = somebody(random, phase, 0);
             mend(random, &mut record, &[party], &[]);
             records.push(record);
         }
@@ -969,7 +991,7 @@ fn lay(record: &mut Record, from: u32, count: u32, state: State) {
 fn to_unfit(random: &mut Random) -> Case {
     let mut record = if random.one_in(2) { bare(random) } else { roomy(random) };
     let near = MOST - random.below(255) as u32;
-    let kind = random.below(8);
+    let kind = random.below(9);
     match kind {
         0 | 1 => record.counter = 32,
         2 => record.counter = -32,
@@ -986,6 +1008,7 @@ fn to_unfit(random: &mut Random) -> Case {
         3 => Phase::Unnumbered,
         4 => Phase::Carrying,
         7 => Phase::Waiting,
+        8 => random.pick(&[Phase::Asked, Phase::Unnumbered, Phase::Numbered]),
         _ => Phase::Holding,
     };
     let oldest = record.oldest;
@@ -994,13 +1017,36 @@ fn to_unfit(random: &mut Random) -> Case {
     match kind {
         5 => lay(&mut record, MOST, 1, State::Cancelled),
         // past numbered, past handed, or past both
-        6 => lay(&mut record, oldest, 1 + random.below(256) as u32, State::Done),
+        6 | 8 => lay(&mut record, oldest, 1 + random.below(256) as u32, State::Done),
         7 => lay(&mut record, oldest, 1, State::Done),
         _ => {}
     }
     mend(random, &mut record, &[], &[]);
-    let code = usual(record.phases[party].phase);
+    let usual = usual(record.phases[party].phase);
+    let code = if kind == 8 { GIVE_UP } else { usual };
     Case::new(Family::ToUnfit, &record, [code, party as u8])
+}
+
+/// A record that fits, and a party that is not yet waiting: in each phase, any and one of kind 3,
+/// marked and not, gives up or makes its step.
+fn early(random: &mut Random, cases: &mut Vec<Case>) {
+    for phase in PHASES.into_iter().filter(|phase| phase.takes_mark()) {
+        for (at, code) in [GIVE_UP, STEP, GIVE_UP, STEP].into_iter().enumerate() {
+            for marked in [false, true] {
+                let mut record = if random.one_in(2) { untidy(random) } else { fitting(random) };
+                let kind_3 = at < 2;
+                if kind_3 {
+                    record.parties = 32;
+                }
+                let party = if kind_3 { random.pick(&[30, 31]) } else { party_of(random, &record) };
+                let t = given(random, &record, phase);
+                settle(random, &mut record, party, phase, t);
+                record.phases[party].marked = marked;
+                mend(random, &mut record, &[], &[]);
+                cases.push(Case::new(Family::Early, &record, [code, party as u8]));
+            }
+        }
+    }
 }
 
 /// Bytes that name no state, phase or call, and numbers that nothing has; or bytes of any kind.
@@ -1016,6 +1062,7 @@ fn odd_bytes(random: &mut Random) -> Case {
     let (record, call) = case.bytes.split_at_mut(RECORD);
     record[RADIOS_AT] += 2 * random.below(127) as u8;
     record[STORED_AT] += 33 * random.below(6) as u8;
+    record[MARKS_AT..].iter_mut().for_each(|mark| *mark += 2 * random.below(127) as u8);
     for (at, cell) in record[22..RADIOS_AT].chunks_mut(5).enumerate() {
         let (count, carries): (u8, &[u8]) =
             if at < PLACES { (6, &[1]) } else { (14, &[2, 5, 6, 7, 8, 11]) };
@@ -1028,9 +1075,14 @@ fn odd_bytes(random: &mut Random) -> Case {
     case
 }
 
-/// The store turned; and, in every other case, radios where they count for nothing.
+/// The store turned; and, in every other case, radios and marks where they count for nothing.
 fn litter(random: &mut Random, bytes: &mut [u8]) {
     let record = Record::read(bytes);
+    if random.one_in(2) {
+        for party in (0..PARTIES).filter(|&party| !record.phases[party].phase.takes_mark()) {
+            bytes[MARKS_AT + party] = random.byte();
+        }
+    }
     if record.has_radios {
         bytes[TURNED_AT] = random.byte();
     }
@@ -1042,7 +1094,7 @@ fn litter(random: &mut Random, bytes: &mut [u8]) {
         *byte = if opening { random.pick(&record.opening) } else { random.byte() };
     };
     if !record.has_radios {
-        bytes[OPENING_AT..RECORD].iter_mut().for_each(any);
+        bytes[OPENING_AT..MARKS_AT].iter_mut().for_each(any);
         return;
     }
     for party in (0..PARTIES).filter(|&party| !record.phases[party].phase.has_radio()) {
@@ -1051,7 +1103,7 @@ fn litter(random: &mut Random, bytes: &mut [u8]) {
     for at in (0..PLACES).filter(|&at| record.places[at].state != State::Link) {
         any(&mut bytes[AT_PLACE_AT + at]);
     }
-    bytes[STORE_AT + record.store.len()..RECORD].iter_mut().for_each(any);
+    bytes[STORE_AT + record.store.len()..MARKS_AT].iter_mut().for_each(any);
 }
 
 /// The few cases of crates/probe/stdin.
@@ -1098,7 +1150,66 @@ pub fn sample() -> Vec<u8> {
     bytes[odd + RADIOS_AT] = 0xFE;
     bytes[odd + OPENING_AT..odd + RECORD].fill(0xA7);
     sample_with_radios(&mut bytes);
+    sample_marked(&mut bytes);
     bytes
+}
+
+/// Those of early give-ups.
+fn sample_marked(bytes: &mut Vec<u8>) {
+    let mut add = |record: &Record, call: [u8; 2]| {
+        bytes.extend(record.bytes());
+        bytes.extend(call);
+    };
+    let marked = |phase, number| Party { marked: true, ..Party::at(phase, number) };
+    // in each of the three phases and of each kind, not yet marked and marked; a place done at
+    // oldest and one cancelled at handed
+    let mut early = Record::opened(2, 32);
+    (early.oldest, early.numbered, early.handed) = (1000, 1010, 1004);
+    lay(&mut early, 1000, 1, State::Done);
+    lay(&mut early, 1004, 1, State::Cancelled);
+    lay(&mut early, 1006, 1, State::Link);
+    early.counter = 0;
+    let phases = [(Phase::Asked, 0), (Phase::Unnumbered, 0), (Phase::Numbered, 1005)];
+    for (phase, number) in phases {
+        for party in [0, 29, 30] {
+            let mut record = early.clone();
+            record.phases[party] = Party::at(phase, number);
+            add(&record, [GIVE_UP, party as u8]);
+            record.phases[party].marked = true;
+            add(&record, [GIVE_UP, party as u8]);
+        }
+        // 22, 23 and 24
+        let mut record = early.clone();
+        record.phases[31] = marked(phase, number);
+        add(&record, [STEP, 31]);
+    }
+    // 25, and 21 with radios and without
+    let mut record = early.clone();
+    record.phases[5] = marked(Phase::Numbered, 1006);
+    add(&record, [STEP, 5]);
+    for mut record in [Record::opened(1, 3), Record::opened_with(3, &[0xA7])] {
+        record.phases[2] = marked(Phase::Asked, 0);
+        add(&record, [STEP, 2]);
+        // somebody else's mark stays
+        add(&record, [ASK, 1]);
+    }
+    // a link comes to one that left early
+    let mut record = early.clone();
+    record.phases[0] = Party::at(Phase::Handing, 1003);
+    record.phases[1] = marked(Phase::Numbered, 1003);
+    add(&record, [STEP, 0]);
+    // marks where there are none, and any odd byte where there are
+    let mut odd = early.clone();
+    let phases = [3, 4, 5].map(|phase| PHASES[phase]);
+    for (party, phase) in PHASES.into_iter().chain(phases).enumerate() {
+        odd.phases[party] = Party::at(phase, if phase.has_number() { 1005 } else { 0 });
+    }
+    let start = bytes.len();
+    bytes.extend(odd.bytes());
+    bytes.extend([GIVE_UP, 3]);
+    for (mark, byte) in bytes[start + MARKS_AT..start + RECORD].iter_mut().zip(1..) {
+        *mark = byte * 3;
+    }
 }
 
 /// Those of a hub with radios. Its store is turned, in most of them so far that it goes over the

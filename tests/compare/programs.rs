@@ -1,9 +1,11 @@
 //! Two programs, side by side: the same lines to both, and what they print must be equal byte
 //! for byte. Usage: programs PROVED SECOND SCHEDULES.
 
+mod early;
 mod process;
 mod schedules;
 
+use early::{Early, Follower};
 use schedules::{hex, opening, radios, schedule, Habits, House, Random, Seen};
 use std::process::ExitCode;
 use std::{env, thread};
@@ -197,6 +199,30 @@ fn show(programs: [&str; 2], seed: u64, input: &[u8], piece: usize) {
     }
 }
 
+/// Counts what early give-ups met, from the lines and their answers.
+fn follow(early: &mut Early, input: &[u8], output: &[u8]) {
+    let byte = |line: &[u8]| {
+        let digits = line.get(..2).and_then(|digits| std::str::from_utf8(digits).ok());
+        digits.and_then(|digits| u8::from_str_radix(digits, 16).ok())
+    };
+    let lines = input.split(|&byte| byte == b'\n');
+    let mut hub = None;
+    for (line, answer) in lines.zip(output.split(|&byte| byte == b'\n')) {
+        let (Some(call), Some(code)) = (byte(line), byte(answer)) else {
+            continue;
+        };
+        match (code, &mut hub) {
+            (0x1F, _) => hub = Some(Follower::opened(call == 2)),
+            // malformed, out of order, the closing line
+            (12 | 13 | 0x7E, _) | (_, None) => {}
+            (_, Some(hub)) => {
+                let party = byte(&answer[2..]).expect("a party");
+                hub.enter(early, [call, party], code);
+            }
+        }
+    }
+}
+
 fn main() -> ExitCode {
     let arguments: Vec<String> = env::args().collect();
     let [_, proved, second, schedules] = &arguments[..] else {
@@ -206,6 +232,7 @@ fn main() -> ExitCode {
     let programs = [proved.as_str(), second.as_str()];
     let schedules: u64 = schedules.parse().expect("SCHEDULES is a number");
     let mut seen = Seen::nothing();
+    let mut early = Early::nothing();
     for seed in (1..=schedules).chain(LAST) {
         let input = input(seed);
         let piece = [input.len(), 4096, 7][(seed % 3) as usize];
@@ -218,11 +245,13 @@ fn main() -> ExitCode {
             let code = std::str::from_utf8(&line[..2]).ok();
             seen.count(u8::from_str_radix(code.expect("two digits"), 16).expect("a code"));
         }
+        follow(&mut early, &input, &ours);
     }
     println!("proved and second program: {schedules} inputs and two long ones, equal");
     // 1 no opening reaches, 6 takes a million asks
     let refusals = (2..=14).filter(|&refusal| refusal != 6);
-    if seen.shows(refusals.chain(0x1F..=0x33).chain(0x36..=0x39).chain([0x7E])) {
+    let answers = seen.shows(refusals.chain(0x1F..=0x33).chain(0x36..=0x39).chain([0x7E]));
+    if early.shows(true) && answers {
         ExitCode::SUCCESS
     } else {
         ExitCode::FAILURE

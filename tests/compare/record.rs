@@ -7,7 +7,7 @@ pub const PARTIES: usize = 32;
 /// Most radios of a hub.
 pub const RADIOS: usize = 32;
 /// Bytes of a record, of a case (a record and a call) and of a reply (an answer and a record).
-pub const RECORD: usize = 1817;
+pub const RECORD: usize = 1849;
 pub const CASE: usize = RECORD + 2;
 pub const REPLY: usize = 7 + RECORD;
 
@@ -24,6 +24,8 @@ pub const AT_PLACE_AT: usize = WITH_PARTY_AT + PARTIES;
 pub const TURNED_AT: usize = AT_PLACE_AT + PLACES;
 pub const STORED_AT: usize = TURNED_AT + 1;
 pub const STORE_AT: usize = STORED_AT + 1;
+/// Where the marks of the parties begin, which end the record.
+pub const MARKS_AT: usize = STORE_AT + RADIOS;
 
 #[derive(Clone, Copy, PartialEq)]
 pub enum State {
@@ -102,6 +104,11 @@ impl Phase {
         matches!(self, Holding | GivingBack | PuttingBack | Carrying | Handing)
     }
 
+    /// Whether a party in this phase can have given up early.
+    pub fn takes_mark(self) -> bool {
+        matches!(self, Phase::Asked | Phase::Unnumbered | Phase::Numbered)
+    }
+
     /// Whether there is this phase on a hub with radios alone.
     pub fn needs_radios(self) -> bool {
         matches!(self, Phase::Fetching | Phase::PuttingBack)
@@ -150,18 +157,22 @@ pub struct Party {
     pub phase: Phase,
     /// 0 unless the phase has a number.
     pub number: u32,
+    /// Whether it gave up early; false unless the phase takes a mark.
+    pub marked: bool,
 }
 
 impl Party {
     pub const FREE: Party = Party::at(Phase::Free, 0);
 
+    /// A party without a mark.
     pub const fn at(phase: Phase, number: u32) -> Self {
-        Party { phase, number }
+        Party { phase, number, marked: false }
     }
 
-    fn read(bytes: &[u8]) -> Self {
+    fn read(bytes: &[u8], mark: u8) -> Self {
         let phase = PHASES[usize::from(bytes[0] % 14)];
-        Party::at(phase, if phase.has_number() { number(&bytes[1..]) } else { 0 })
+        let number = if phase.has_number() { number(&bytes[1..]) } else { 0 };
+        Party { phase, number, marked: phase.takes_mark() && mark % 2 == 1 }
     }
 }
 
@@ -170,6 +181,9 @@ impl fmt::Display for Party {
         write!(f, "{}", PHASE_NAMES[self.phase as usize])?;
         if self.phase.has_number() {
             write!(f, " {}", self.number)?;
+        }
+        if self.marked {
+            write!(f, " marked")?;
         }
         Ok(())
     }
@@ -267,8 +281,10 @@ impl Record {
             *place = Place::read(bytes);
         }
         let mut phases = [Party::FREE; PARTIES];
-        for (party, bytes) in phases.iter_mut().zip(bytes[PHASES_AT..RADIOS_AT].chunks(5)) {
-            *party = Party::read(bytes);
+        let marks = &bytes[MARKS_AT..RECORD];
+        let cells = bytes[PHASES_AT..RADIOS_AT].chunks(5).zip(marks);
+        for (party, (bytes, mark)) in phases.iter_mut().zip(cells) {
+            *party = Party::read(bytes, *mark);
         }
         let stored = usize::from(bytes[STORED_AT]) % (RADIOS + 1);
         let mut record = Record {
@@ -331,7 +347,8 @@ impl Record {
         bytes.extend(self.at_place);
         bytes.extend([0, self.store.len() as u8]);
         bytes.extend(&self.store);
-        bytes.resize(RECORD, 0);
+        bytes.resize(MARKS_AT, 0);
+        bytes.extend(self.phases.iter().map(|party| u8::from(party.marked)));
         bytes
     }
 

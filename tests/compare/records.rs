@@ -3,6 +3,9 @@
 //! PROVED SECOND RECORDS. `records --sample` writes the few cases of crates/probe/stdin.
 
 mod clauses;
+// the comparisons of schedules use the rest of it
+#[allow(dead_code)]
+mod early;
 mod made;
 mod process;
 mod record;
@@ -11,8 +14,9 @@ mod record;
 mod schedules;
 
 use clauses::{Decided, Judgement};
+use early::{Before, Early};
 use made::{sample, Case, Maker, FAMILIES};
-use record::{Record, RECORD, REPLY};
+use record::{Phase, Record, RECORD, REPLY};
 use schedules::{hex, Random, Seen};
 use std::io::{self, Write};
 use std::process::ExitCode;
@@ -32,6 +36,7 @@ struct Counts {
     families: [u64; FAMILIES.len()],
     answers: Seen,
     decided: Decided,
+    early: Early,
     left: [u64; LEFT.len()],
 }
 
@@ -41,6 +46,7 @@ impl Counts {
             families: [0; FAMILIES.len()],
             answers: Seen::nothing(),
             decided: Decided::nothing(),
+            early: Early::nothing(),
             left: [0; LEFT.len()],
         }
     }
@@ -53,11 +59,29 @@ impl Counts {
         self.families[case.family as usize] += 1;
         self.answers.count(code);
         self.decided.count(judgement);
+        self.count_early(case, code);
         if code >= 0x20 {
             for (count, (_, is_so)) in self.left.iter_mut().zip(LEFT) {
                 *count += u64::from(is_so(left));
             }
         }
+    }
+
+    fn count_early(&mut self, case: &Case, code: u8) {
+        let record = Record::read(&case.bytes);
+        let [call, party] = [case.bytes[RECORD], case.bytes[RECORD + 1]];
+        // the call as the programs read it
+        let call = if call % 5 == 0 { 0x14 } else { 0x0F + call % 5 };
+        let Some(caller) = record.phases.get(usize::from(party)) else {
+            return;
+        };
+        let phase = match caller.phase {
+            Phase::Asked => Before::Asked,
+            Phase::Unnumbered => Before::Unnumbered,
+            Phase::Numbered => Before::Numbered,
+            _ => return,
+        };
+        self.early.count(phase, caller.marked, [call, party], code, record.has_radios);
     }
 
     /// Prints the counts; false if something that must occur did not.
@@ -68,11 +92,12 @@ impl Counts {
         println!("  {}", families.join(", "));
         let expected = (4..=11).chain([1]).chain(0x20..=0x33).chain(0x36..=0x39);
         let answers = self.answers.shows(expected);
+        let early = self.early.shows(false);
         let decided = self.decided.shows();
         let left: Vec<String> =
             LEFT.iter().zip(self.left).map(|((name, _), n)| format!("{name} {n}")).collect();
         println!("left unfit by a success: {}", left.join(", "));
-        answers && decided && self.left.iter().all(|&n| n > 0)
+        answers && early && decided && self.left.iter().all(|&n| n > 0)
     }
 }
 

@@ -68,6 +68,11 @@ enum Phase {
     PuttingBack,
 }
 
+/// Whether a give-up in this phase is an early one.
+fn is_early(phase: Phase) -> bool {
+    matches!(phase, Phase::Asked | Phase::Unnumbered | Phase::Numbered(_))
+}
+
 #[derive(Clone, Copy, PartialEq)]
 enum Place {
     Empty,
@@ -106,6 +111,8 @@ impl Habits {
 /// wrong, more calls are refused.
 pub struct House {
     phases: Vec<Phase>,
+    /// Who gave up early.
+    marked: Vec<bool>,
     counter: i64,
     places: Vec<Place>,
     numbered: Number,
@@ -125,6 +132,7 @@ impl House {
     pub fn new(permits: u8, parties: u8) -> Self {
         House {
             phases: vec![Phase::Free; usize::from(parties)],
+            marked: vec![false; usize::from(parties)],
             counter: i64::from(permits),
             places: vec![Place::Empty],
             numbered: 0,
@@ -170,6 +178,9 @@ impl House {
                 Phase::Free => (ASK, habits.ask),
                 Phase::Waiting(_) => (GIVE_UP, habits.give_up),
                 Phase::Holding => (GIVE_BACK, habits.give_back),
+                phase if is_early(phase) && self.gives_up_early(random, habits, party) => {
+                    (GIVE_UP, 8)
+                }
                 _ => (STEP, 8),
             };
             if random.below(8) < eager {
@@ -180,15 +191,31 @@ impl House {
         self.any_call(random)
     }
 
+    /// Whoever likes to give up does so early too, and some a second time. Those of kind 3 are
+    /// few, and lose nothing by trying.
+    fn gives_up_early(&self, random: &mut Random, habits: &Habits, party: usize) -> bool {
+        let odds = match self.marked[party] {
+            _ if party >= 30 => 12,
+            true => 120,
+            false => 40,
+        };
+        random.below(odds) < habits.give_up
+    }
+
     fn follow(&mut self, code: u8, party: usize) {
         let phase = match (code, self.phases[party]) {
             (ASK, Phase::Free) if self.has_room() => Phase::Asked,
             (GIVE_UP, Phase::Waiting(t)) if party < 30 => Phase::GivingUp(t),
+            (GIVE_UP, phase) if party < 30 && is_early(phase) => {
+                self.marked[party] = true;
+                phase
+            }
             (GIVE_BACK, Phase::Holding) => Phase::GivingBack,
             (STEP, phase) => self.stepped(phase, party),
             (_, phase) => phase,
         };
         self.phases[party] = phase;
+        self.marked[party] &= is_early(phase);
         self.places.resize(self.numbered.max(self.handed) + 1, Place::Empty);
         while self.places[self.handed] == Place::Cancelled {
             self.places[self.handed] = Place::Done;
@@ -243,6 +270,7 @@ impl House {
             }
             Phase::Numbered(t) => match self.places[t] {
                 Place::Link => (t, Place::Done, Phase::Holding),
+                _ if self.marked[party] => (t, Place::Waiting(party), Phase::GivingUp(t)),
                 _ => (t, Place::Waiting(party), Phase::Waiting(t)),
             },
             Phase::Handing(t) => match self.places[t] {

@@ -13,10 +13,10 @@ use lib.ListN.{length, getD, take, drop, set, replicate, length-append}
 use lib.Seq.{take-all, take-take, take-suc, take-append-le, take-set-lt, set-at, length-take-le}
 use Rattle.hub.specs.declared.moves.Call.{Call}
 use Rattle.hub.specs.declared.opening.Opening.{Opening}
-use Rattle.hub.specs.Opening.{sized}
+use Rattle.hub.specs.Opening.{sized, withRadios}
 use Rattle.hub.specs.Radios.{STORE, padded}
 use Rattle.line.specs.Frame.{isCall}
-use Rattle.line.specs.Requests.{malformed, toOpen, toCall, withRadios, openingIn}
+use Rattle.line.specs.Requests.{malformed, toOpen, toCall, openingIn}
 use Rattle.line.specs.Requests.{requested, frameSize, isOpening}
 
 -- Fewer than three bytes are no opening.
