@@ -31,6 +31,15 @@ phase-cell-requires c κs = search needs
 put-cell-requires : tie.Need-put-cell-requires Inv-loop μ-loop
 put-cell-requires c κs = search needs
 
+mark-of-requires : tie.Need-mark-of-requires Inv-loop μ-loop
+mark-of-requires c κs = search needs
+
+add-out : tie.Need-add-out Inv-loop μ-loop
+add-out c = search needs
+
+element-write-out : tie.Need-element-write-out Inv-loop μ-loop
+element-write-out c = search needs
+
 add-p : tie.Need-add-p Inv-loop μ-loop
 add-p c = search needs
 
@@ -56,6 +65,9 @@ put-slots-spec =
     add-put-cell
     phase-cell-requires
     put-cell-requires
+    mark-of-requires
+    add-out
+    element-write-out
     add-p
     loop-less
     loop-again

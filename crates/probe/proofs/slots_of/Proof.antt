@@ -28,6 +28,15 @@ cell-at-requires c κs = search needs
 phase-of-requires : tie.Need-phase-of-requires Inv-loop μ-loop
 phase-of-requires c κs = search needs
 
+add-marked : tie.Need-add-marked Inv-loop μ-loop
+add-marked c = search needs
+
+element-copy-out-marked : tie.Need-element-copy-out-marked Inv-loop μ-loop
+element-copy-out-marked c = search needs
+
+marked-requires : tie.Need-marked-requires Inv-loop μ-loop
+marked-requires c κs = search needs
+
 with-phase-requires : tie.Need-with-phase-requires Inv-loop μ-loop
 with-phase-requires c κs = search needs
 
@@ -61,6 +70,9 @@ slots-of-spec =
     add-cell-at
     cell-at-requires
     phase-of-requires
+    add-marked
+    element-copy-out-marked
+    marked-requires
     with-phase-requires
     mul-slots
     array-set-from-slots
