@@ -36,20 +36,17 @@ rows c ks js e x y =
 enum-told : tie.Need-enum-told
 enum-told c = search needs
 
-enum-told-2 : tie.Need-enum-told-2
-enum-told-2 c = search needs
-
 returns : tie.Need-returns
 unfolding placeListed allOf isOneOf isPlaceOf
 returns c =
-    rows (c .before .before .before) (5 ∷ []) (0 ∷ 2 ∷ []) refl (c .before .before .match .keys1)
+    rows (c .before .before) (5 ∷ 16 ∷ []) (0 ∷ 2 ∷ []) refl (c .before .match .keys1)
     (c .match2 .keys1)
 
 returns-2 : tie.Need-returns-2
 unfolding placeListed allOf isOneOf isPlaceOf
 returns-2 c =
-    rows (c .before .before .before) (5 ∷ []) (1 ∷ 3 ∷ 4 ∷ 5 ∷ []) refl
-    (c .before .before .match .keys1) (c .match2 .keys2)
+    rows (c .before .before) (5 ∷ 16 ∷ []) (1 ∷ 3 ∷ 4 ∷ 5 ∷ []) refl
+    (c .before .match .keys1) (c .match2 .keys2)
 
 returns-3 : tie.Need-returns-3
 unfolding placeListed allOf isOneOf isPlaceOf
@@ -78,7 +75,7 @@ returns-6 c =
 returns-7 : tie.Need-returns-7
 unfolding placeListed allOf isOneOf
 returns-7 c =
-    phase-arm (allBut (5 ∷ 7 ∷ 8 ∷ 11 ∷ [])) (λ f. placeListed f (c .before .args .place))
+    phase-arm (allBut (5 ∷ 7 ∷ 8 ∷ 11 ∷ 16 ∷ [])) (λ f. placeListed f (c .before .args .place))
     (c .before .args .phase) refl (c .match .keys4)
 
 pub listed-spec : {M : Type 1} → statement M
@@ -86,7 +83,6 @@ listed-spec =
     tie.close
     (tie.spec
     enum-told
-    enum-told-2
     returns
     returns-2
     returns-3

@@ -25,14 +25,11 @@ ticket-requires-2 c κs = search needs
 in-window-requires-2 : tie.Need-in-window-requires-2
 in-window-requires-2 c κs = search needs
 
-enum-told-2 : tie.Need-enum-told-2
-enum-told-2 c = search needs
-
 add-result : tie.Need-add-result
 add-result c = search needs
 
-enum-told-3 : tie.Need-enum-told-3
-enum-told-3 c = search needs
+enum-told-2 : tie.Need-enum-told-2
+enum-told-2 c = search needs
 
 add-result-2 : tie.Need-add-result-2
 add-result-2 c = search needs
@@ -44,7 +41,7 @@ returns c =
     let s = c .before .before .before .args in
     rw (c .in-window .ensures, c .before .ticket .ensures)
     (sym (and-true _)
-    ∙ phase-arm (2 ∷ 5 ∷ 6 ∷ 7 ∷ 8 ∷ []) (ticketFits (s .figures) (s .oldest)) (s .phase) refl
+    ∙ phase-arm (2 ∷ 5 ∷ 6 ∷ 7 ∷ 8 ∷ 16 ∷ []) (ticketFits (s .figures) (s .oldest)) (s .phase) refl
     (c .before .before .match .keys1))
 
 returns-2 : tie.Need-returns-2
@@ -59,10 +56,10 @@ returns-2 c =
 returns-3 : tie.Need-returns-3
 unfolding ticketFits allOf isOneOf
 returns-3 c =
-    let s = c .before .before .before .args in
+    let s = c .before .before .args in
     sym (and-true _)
-    ∙ phase-arm (4 ∷ []) (ticketFits (s .figures) (s .oldest)) (s .phase) refl
-    (c .before .before .match .keys3)
+    ∙ phase-arm (4 ∷ 15 ∷ []) (ticketFits (s .figures) (s .oldest)) (s .phase) refl
+    (c .before .match .keys3)
 
 returns-4 : tie.Need-returns-4
 unfolding ticketFits allOf isOneOf
@@ -76,8 +73,8 @@ returns-5 : tie.Need-returns-5
 unfolding ticketFits allOf isOneOf
 returns-5 c =
     let s = c .before .args in
-    phase-arm (allBut (2 ∷ 4 ∷ 5 ∷ 6 ∷ 7 ∷ 8 ∷ 10 ∷ 11 ∷ [])) (ticketFits (s .figures) (s .oldest)) (s .phase) refl
-    (c .match .keys5)
+    phase-arm (allBut (2 ∷ 4 ∷ 5 ∷ 6 ∷ 7 ∷ 8 ∷ 10 ∷ 11 ∷ 15 ∷ 16 ∷ [])) (ticketFits (s .figures) (s .oldest))
+    (s .phase) refl (c .match .keys5)
 
 pub ticket-fits-spec : {M : Type 1} → statement M
 ticket-fits-spec =
@@ -88,9 +85,8 @@ ticket-fits-spec =
     enum-told
     ticket-requires-2
     in-window-requires-2
-    enum-told-2
     add-result
-    enum-told-3
+    enum-told-2
     add-result-2
     returns
     returns-2

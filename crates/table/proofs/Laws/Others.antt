@@ -1,7 +1,7 @@
 -- What ask, give up and which radio decide, from their tests.
-use Prim.Native.Nat.{ℕ}
-use mathlib.Core.Path.{_≡_, refl}
+use mathlib.Core.Path.{_≡_, refl, sym, ap, _∙_}
 use mathlib.Core.Bool.{Bool, true, false}
+use lib.Dec.{eqb}
 use Rattle.hub.specs.declared.answers.Answer.{Answer}
 use Rattle.hub.specs.declared.answers.Refusal.{Refusal}
 use Rattle.hub.specs.declared.moves.Op.{Op}
@@ -9,7 +9,9 @@ use Rattle.hub.specs.declared.moves.Sight.{Sight}
 use Rattle.hub.specs.declared.record.Phase.{Phase}
 use Rattle.hub.specs.Moves.{Move, Refuse, Tell}
 use Rattle.hub.specs.Phases.{hasRadio}
-use Rattle.hub.specs.Table.{acquire, cancel, decide, tellRadio, turn}
+use Rattle.hub.specs.Table.{acquire, canCancel, cancel, decide, givenUp, tellRadio}
+use Rattle.table.specs.declared.effect.Effect.{Effect}
+use Rattle.table.specs.Effect.{effectOf}
 
 module _ (a b full : Bool) (s : Sight) where
   pub exhausted : a ≡ true → b ≡ true → acquire a b full s ≡ Refuse Refusal.Exhausted
@@ -20,10 +22,19 @@ module _ (a b full : Bool) (s : Sight) where
   unfolding acquire
   full-up e f g = rw (e, f, g)
 
-module _ (a b : Bool) (t : ℕ) (s : Sight) where
-  pub not-cancellable : a ≡ true → b ≡ true → cancel a b t s ≡ Refuse Refusal.NotCancellable
-  unfolding cancel
-  not-cancellable e f = rw (e, f)
+-- Give up: what a phase that is known leads to; a phase in which nobody can give up.
+module _ (s : Sight) where
+  pub gives-up : {f : Phase} {e : Effect} → s .slot .phase ≡ f
+      → e ≡ effectOf (cancel (canCancel f) (eqb (s .kind) 3) (givenUp f) s) s
+      → e ≡ effectOf (decide Op.Cancel false s) s
+  unfolding decide
+  gives-up i h =
+      h ∙ ap (λ (x : Phase). effectOf (cancel (canCancel x) (eqb (s .kind) 3) (givenUp x) s) s) (sym i)
+
+  pub not-waiting : canCancel (s .slot .phase) ≡ false
+      → decide Op.Cancel false s ≡ Refuse Refusal.NotWaiting
+  unfolding decide cancel
+  not-waiting e = rw e
 
 -- Which radio: none on a hub without radios, nor in a phase without one.
 module _ (s : Sight) where

@@ -82,10 +82,29 @@ enum-told-6 c = search needs
 step-storing-requires : tie.Need-step-storing-requires
 step-storing-requires c κs = search needs
 
+enum-told-7 : tie.Need-enum-told-7
+enum-told-7 c = search needs
+
+step-acquiring-requires-2 : tie.Need-step-acquiring-requires-2
+step-acquiring-requires-2 c κs = search needs
+
+enum-told-8 : tie.Need-enum-told-8
+enum-told-8 c = search needs
+
+step-suspending-marked-requires : tie.Need-step-suspending-marked-requires
+step-suspending-marked-requires c κs = search needs
+
+enum-known-phase-6 : tie.Need-enum-known-phase-6
+enum-known-phase-6 c = search needs
+
+step-ticketed-requires-2 : tie.Need-step-ticketed-requires-2
+step-ticketed-requires-2 c κs = search needs
+
 refused-requires : tie.Need-refused-requires
 refused-requires c κs = search needs
 
 returns : tie.Need-returns
+unfolding stepIn
 returns c =
     let b = c .before in
     in-phase (b .before .before .before .args .s) (b .enum-told .given .1) (c .step-acquiring .ensures)
@@ -96,6 +115,7 @@ returns-2 c =
     in-phase (b .before .before .before .args .s) (b .enum-told2 .given .1) (c .step-suspending .ensures)
 
 returns-3 : tie.Need-returns-3
+unfolding stepIn
 returns-3 c =
     let b = c .before .before in
     in-phase (b .before .before .before .args .s) (b .phase .given .1) (c .step-ticketed .ensures)
@@ -143,10 +163,28 @@ returns-11 c =
 returns-12 : tie.Need-returns-12
 unfolding stepIn
 returns-12 c =
+    let b = c .before in
+    in-phase (b .before .before .before .args .s) (b .enum-told7 .given .1) (c .step-acquiring2 .ensures)
+
+returns-13 : tie.Need-returns-13
+returns-13 c =
+    let b = c .before in
+    in-phase (b .before .before .before .args .s) (b .enum-told8 .given .1)
+    (c .step-suspending-marked .ensures)
+
+returns-14 : tie.Need-returns-14
+unfolding stepIn
+returns-14 c =
+    let b = c .before .before in
+    in-phase (b .before .before .before .args .s) (b .phase6 .given .1) (c .step-ticketed2 .ensures)
+
+returns-15 : tie.Need-returns-15
+unfolding stepIn
+returns-15 c =
     let s = c .before .before .before .args .s in
     c .refused .ensures
     ∙ ap (λ (m : Move). effectOf m s)
-    (phase-arm (0 ∷ 1 ∷ 2 ∷ []) (λ f. stepIn f s) (s .slot .phase) refl (c .before .match .keys12))
+    (phase-arm (0 ∷ 1 ∷ 2 ∷ []) (λ f. stepIn f s) (s .slot .phase) refl (c .before .match .keys15))
 
 pub decide-step-spec : {M : Type 1} → statement M
 decide-step-spec =
@@ -174,6 +212,12 @@ decide-step-spec =
     step-fetching-requires
     enum-told-6
     step-storing-requires
+    enum-told-7
+    step-acquiring-requires-2
+    enum-told-8
+    step-suspending-marked-requires
+    enum-known-phase-6
+    step-ticketed-requires-2
     refused-requires
     returns
     returns-2
@@ -186,4 +230,7 @@ decide-step-spec =
     returns-9
     returns-10
     returns-11
-    returns-12)
+    returns-12
+    returns-13
+    returns-14
+    returns-15)

@@ -3,7 +3,7 @@ use borrow.Author.Needs.{needs}
 use mathlib.Core.Path.{ap, _∙_}
 use Rattle.hub.specs.declared.answers.Answer.{Answer}
 use Rattle.hub.specs.declared.record.Phase.{Phase}
-use Rattle.hub.specs.Table.{aboveZero, stepIn, stepAcquiring, take}
+use Rattle.hub.specs.Table.{aboveZero, stepAcquiring, take}
 use Rattle.table.specs.Effect.{effectOf}
 use Rattle.table.proofs.Laws.Counter.{sign}
 use Rattle.table.proofs.rows.step_acquiring.Statement.{statement}
@@ -19,7 +19,7 @@ taken-requires : tie.Need-taken-requires
 taken-requires c κs = search needs
 
 returns : tie.Need-returns
-unfolding stepIn stepAcquiring
+unfolding stepAcquiring
 returns c =
     let b = c .before .before .before in
     let s = b .before .before .args .s in
@@ -32,7 +32,7 @@ taken-requires-2 : tie.Need-taken-requires-2
 taken-requires-2 c κs = search needs
 
 returns-2 : tie.Need-returns-2
-unfolding stepIn stepAcquiring
+unfolding stepAcquiring
 returns-2 c =
     let b = c .before .before in
     let e = sign aboveZero _ (b .before .before .pre) (b .above-zero .ensures) in

@@ -4,7 +4,7 @@ use mathlib.Core.Path.{refl, ap, _∙_}
 use mathlib.Core.List.{[], _∷_}
 use Rattle.hub.proofs.Laws.Phases.{place-arm}
 use Rattle.hub.specs.Moves.{Move}
-use Rattle.hub.specs.Table.{stepIn, stepTicketed}
+use Rattle.hub.specs.Table.{stepTicketed}
 use Rattle.table.specs.Effect.{effectOf}
 use Rattle.table.proofs.rows.step_ticketed.Statement.{statement}
 use Rattle.table.proofs.rows.step_ticketed.Tie as tie
@@ -28,21 +28,22 @@ refused-requires : tie.Need-refused-requires
 refused-requires c κs = search needs
 
 returns : tie.Need-returns
-unfolding stepIn stepTicketed
+unfolding stepTicketed
 returns c = let e = c .before .before .enum-told .given .1 in rw e (c .placed .ensures)
 
 returns-2 : tie.Need-returns-2
-unfolding stepIn stepTicketed
+unfolding stepTicketed
 returns-2 c = let e = c .before .enum-told2 .given .1 in rw e (c .placed2 .ensures)
 
 returns-3 : tie.Need-returns-3
-unfolding stepIn stepTicketed
+unfolding stepTicketed
 returns-3 c =
     let a = c .before .before .before .args in
     let s = a .s in
     c .refused .ensures
     ∙ ap (λ (m : Move). effectOf m s)
-    (place-arm (1 ∷ 3 ∷ 4 ∷ 5 ∷ []) (λ x. stepTicketed (a .t) x s) (s .seat .place) refl (c .before .match .keys3))
+    (place-arm (1 ∷ 3 ∷ 4 ∷ 5 ∷ []) (λ x. stepTicketed (a .next) (a .t) x s) (s .seat .place) refl
+    (c .before .match .keys3))
 
 pub step-ticketed-spec : {M : Type 1} → statement M
 step-ticketed-spec =

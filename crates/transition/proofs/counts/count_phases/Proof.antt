@@ -15,11 +15,11 @@ use Rattle.transition.proofs.counts.count_phases.Statement.{statement}
 use Rattle.transition.proofs.counts.count_phases.Tie as tie
 
 abbrev Inv-loop : tie.InvT-loop
-Inv-loop slots first second third n₀ p₀ n p =
-    Counting (λ (s : PartySlot). among (first ∷ second ∷ third ∷ []) (rank (s .phase))) slots 32 p n
+Inv-loop slots first second third fourth n₀ p₀ n p =
+    Counting (λ (s : PartySlot). among (first ∷ second ∷ third ∷ fourth ∷ []) (rank (s .phase))) slots 32 p n
 
 abbrev μ-loop : tie.MeasureT-loop
-μ-loop slots first second third n₀ p₀ n p = 32 - p
+μ-loop slots first second third fourth n₀ p₀ n p = 32 - p
 
 phase-rank-requires : tie.Need-phase-rank-requires Inv-loop μ-loop
 phase-rank-requires c κs = search needs
@@ -29,6 +29,9 @@ phase-rank-requires-2 c κs = search needs
 
 phase-rank-requires-3 : tie.Need-phase-rank-requires-3 Inv-loop μ-loop
 phase-rank-requires-3 c κs = search needs
+
+phase-rank-requires-4 : tie.Need-phase-rank-requires-4 Inv-loop μ-loop
+phase-rank-requires-4 c κs = search needs
 
 loop-holds : tie.Need-loop-holds Inv-loop μ-loop
 loop-holds c =
@@ -40,8 +43,8 @@ mul-slot c = search needs
 array-copy-out-slot : tie.Need-array-copy-out-slot Inv-loop μ-loop
 array-copy-out-slot c = search needs
 
-phase-rank-requires-4 : tie.Need-phase-rank-requires-4 Inv-loop μ-loop
-phase-rank-requires-4 c κs = search needs
+phase-rank-requires-5 : tie.Need-phase-rank-requires-5 Inv-loop μ-loop
+phase-rank-requires-5 c κs = search needs
 
 one-if-requires : tie.Need-one-if-requires Inv-loop μ-loop
 one-if-requires c κs = search needs
@@ -50,16 +53,17 @@ add-n : tie.Need-add-n Inv-loop μ-loop
 add-n c =
     let l = c .before .before .before .before in
     let keys =
-    l .before .before .before .phase-rank .result
-    ∷ l .before .before .phase-rank2 .result
-    ∷ l .before .phase-rank3 .result
+    l .before .before .before .before .phase-rank .result
+    ∷ l .before .before .before .phase-rank2 .result
+    ∷ l .before .before .phase-rank3 .result
+    ∷ l .before .phase-rank4 .result
     ∷ [] in
     omega (
       arith,
       c .one-if .ensures,
       l .loop .inv .few,
       l .loop .inv .within,
-      bit-most (among keys (c .before .phase-rank4 .result)),
+      bit-most (among keys (c .before .phase-rank5 .result)),
     )
 
 add-p : tie.Need-add-p Inv-loop μ-loop
@@ -72,31 +76,34 @@ loop-again : tie.Need-loop-again Inv-loop μ-loop
 loop-again c =
     let l = c .before .before .before .before in
     let keys =
-    l .before .before .before .phase-rank .result
-    ∷ l .before .before .phase-rank2 .result
-    ∷ l .before .phase-rank3 .result
+    l .before .before .before .before .phase-rank .result
+    ∷ l .before .before .before .phase-rank2 .result
+    ∷ l .before .before .phase-rank3 .result
+    ∷ l .before .phase-rank4 .result
     ∷ [] in
     counting-on _ _ _ _ _ (l .loop .inv) freeSlot _ (c .before .before .before .loop-test .taken)
     (c .one-if .ensures
-    ∙ ap (λ (x : ℕ). bit (among keys x)) (c .before .phase-rank4 .ensures))
+    ∙ ap (λ (x : ℕ). bit (among keys x)) (c .before .phase-rank5 .ensures))
 
 returns : tie.Need-returns Inv-loop μ-loop
 unfolding isOneOf
 returns c =
     let i = c .before .loop .inv in
     let b = c .before .before in
-    let a = b .before .before .before .args in
-    let passing : ℕ → ℕ → ℕ → Phase → ℕ = λ x y z f. bit (among (x ∷ y ∷ z ∷ []) (rank f)) in
-    let first = b .before .before .phase-rank in
-    let second = b .before .phase-rank2 in
-    let third = b .phase-rank3 in (
+    let a = b .before .before .before .before .args in
+    let passing : ℕ → ℕ → ℕ → ℕ → Phase → ℕ = λ w x y z f.
+    bit (among (w ∷ x ∷ y ∷ z ∷ []) (rank f)) in
+    let first = b .before .before .before .phase-rank in
+    let second = b .before .before .phase-rank2 in
+    let third = b .before .phase-rank3 in
+    let fourth = b .phase-rank4 in (
       counting-all _ _ _ _ _ i (c .loop-test .left)
-          ∙ sym (weight-map (passing (first .result) (second .result) (third .result))
+          ∙ sym (weight-map (passing (first .result) (second .result) (third .result) (fourth .result))
           (λ (s : PartySlot). s .phase) (a .t1))
-          ∙ ap₂ (λ (x y : ℕ). weight (passing x y (third .result)) (phasesOf (a .t1))) (first .ensures)
-          (second .ensures)
-          ∙ ap (λ (z : ℕ). weight (passing (rank (a .a)) (rank (a .b)) z) (phasesOf (a .t1)))
-          (third .ensures),
+          ∙ ap₂ (λ (w x : ℕ). weight (passing w x (third .result) (fourth .result)) (phasesOf (a .t1)))
+          (first .ensures) (second .ensures)
+          ∙ ap₂ (λ (y z : ℕ). weight (passing (rank (a .a)) (rank (a .b)) y z) (phasesOf (a .t1)))
+          (third .ensures) (fourth .ensures),
       omega (arith, i .few, i .within),
     )
 
@@ -109,10 +116,11 @@ count-phases-spec =
     phase-rank-requires
     phase-rank-requires-2
     phase-rank-requires-3
+    phase-rank-requires-4
     loop-holds
     mul-slot
     array-copy-out-slot
-    phase-rank-requires-4
+    phase-rank-requires-5
     one-if-requires
     add-n
     add-p

@@ -16,7 +16,7 @@ use Rattle.transition.proofs.counts.count_places.Tie as tie
 
 abbrev Inv-loop : tie.InvT-loop
 Inv-loop places state n₀ i₀ n i =
-    Counting (λ (s : PlaceSlot). among (state ∷ state ∷ state ∷ []) (placeRank (s .place))) places 256 i n
+    Counting (λ (s : PlaceSlot). among (state ∷ state ∷ state ∷ state ∷ []) (placeRank (s .place))) places 256 i n
 
 abbrev μ-loop : tie.MeasureT-loop
 μ-loop places state n₀ i₀ n i = 256 - i
@@ -49,7 +49,7 @@ add-n c =
       c .one-if .ensures,
       l .loop .inv .few,
       l .loop .inv .within,
-      bit-most (among (s ∷ s ∷ s ∷ []) (c .before .place-rank2 .result)),
+      bit-most (among (s ∷ s ∷ s ∷ s ∷ []) (c .before .place-rank2 .result)),
     )
 
 add-i : tie.Need-add-i Inv-loop μ-loop
@@ -64,7 +64,7 @@ loop-again c =
     let s = l .before .place-rank .result in
     counting-on _ _ _ _ _ (l .loop .inv) emptySeat _ (c .before .before .before .loop-test .taken)
     (c .one-if .ensures
-    ∙ ap (λ (x : ℕ). bit (among (s ∷ s ∷ s ∷ []) x)) (c .before .place-rank2 .ensures))
+    ∙ ap (λ (x : ℕ). bit (among (s ∷ s ∷ s ∷ s ∷ []) x)) (c .before .place-rank2 .ensures))
 
 returns : tie.Need-returns Inv-loop μ-loop
 unfolding isPlaceOf
@@ -72,7 +72,7 @@ returns c =
     let i = c .before .loop .inv in
     let b = c .before .before in
     let a = b .before .args in
-    let passing : ℕ → Place → ℕ = λ x f. bit (among (x ∷ x ∷ x ∷ []) (placeRank f)) in (
+    let passing : ℕ → Place → ℕ = λ x f. bit (among (x ∷ x ∷ x ∷ x ∷ []) (placeRank f)) in (
       counting-all _ _ _ _ _ i (c .loop-test .left)
           ∙ sym (weight-map (passing (b .place-rank .result)) (λ (s : PlaceSlot). s .place) (a .t1))
           ∙ ap (λ (x : ℕ). weight (passing x) (placesOf (a .t1))) (b .place-rank .ensures),

@@ -16,8 +16,23 @@ returns-3 c =
 
 returns-4 : tie.Need-returns-4
 returns-4 c =
-    let b = c .before in
-    simp (ne-eqb _ _ (b .before .if1 .left), ne-eqb _ _ (b .if2 .left), ne-eqb _ _ (c .if3 .left))
+    let b = c .before .before in
+    simp (
+      ne-eqb _ _ (b .before .if1 .left),
+      ne-eqb _ _ (b .if2 .left),
+      ne-eqb _ _ (c .before .if3 .left),
+      eq-eqb _ _ (c .if4 .taken),
+    )
+
+returns-5 : tie.Need-returns-5
+returns-5 c =
+    let b = c .before .before in
+    simp (
+      ne-eqb _ _ (b .before .if1 .left),
+      ne-eqb _ _ (b .if2 .left),
+      ne-eqb _ _ (c .before .if3 .left),
+      ne-eqb _ _ (c .if4 .left),
+    )
 
 pub one-if-spec : {M : Type 1} → statement M
-one-if-spec = tie.close (tie.spec returns returns-2 returns-3 returns-4)
+one-if-spec = tie.close (tie.spec returns returns-2 returns-3 returns-4 returns-5)

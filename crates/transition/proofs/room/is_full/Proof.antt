@@ -1,11 +1,8 @@
 -- `is_full` meets its contract: the sums of the test are those of the definition.
 use Prim.Native.Nat.{ℕ, _+_}
-use mathlib.Core.Path.{ap, _∙_}
+use mathlib.Core.Path.{ap}
 use borrow.Author.Needs.{needs}
 use lib.Dec.{leb}
-use Rattle.hub.specs.declared.record.Phase.{Phase}
-use Rattle.hub.specs.Record.{phasesOf}
-use Rattle.transition.proofs.Laws.Shown.{two-phases}
 use Rattle.transition.proofs.room.is_full.Statement.{statement}
 use Rattle.transition.proofs.room.is_full.Tie as tie
 
@@ -21,8 +18,7 @@ add-result-2 c = search needs
 returns : tie.Need-returns
 returns c =
     let a = c .before .args in
-    ap (λ (n : ℕ). leb (a .oldest + 256) (a .issued + n))
-    (c .count-phases .ensures .0 ∙ two-phases Phase.Acquiring Phase.Suspending (phasesOf (a .slots)))
+    ap (λ (n : ℕ). leb (a .oldest + 256) (a .issued + n)) (c .count-phases .ensures .0)
 
 pub is-full-spec : {M : Type 1} → statement M
 is-full-spec = tie.close (tie.spec count-phases-requires add-result add-result-2 returns)
