@@ -6,3 +6,4 @@ pub mod Radios  -- why no radio is lost or doubled
 pub mod Window  -- the record beside the unbounded queue
 pub mod Demand3  -- the third demand
 pub mod RadiosKept  -- what is claimed of radios
+pub mod Calm  -- how long until calm

@@ -9,7 +9,6 @@ use native.Mathlib.Decide.{ℕ-discrete}
 use native.Mathlib.Omega.{arith}
 use borrow.Author.Tests.{le-leb, lt-ltb}
 use Rattle.hub.specs.declared.answers.Answer.{Answer}
-use Rattle.hub.specs.declared.moves.Call.{Call}
 use Rattle.hub.specs.declared.moves.Op.{Op}
 use Rattle.hub.specs.declared.opening.Opening.{Opening}
 use Rattle.hub.specs.declared.record.Hub.{Hub}
@@ -29,7 +28,7 @@ use Rattle.hub.specs.Record.{phasesOf, readSlot}
 use Rattle.hub.specs.Schedule.{run}
 use Rattle.hub.specs.Table.{decide, stepIn, stepFetching}
 use Rattle.hub.proofs.Laws.Lists.{weight-add, weight-le}
-use Rattle.hub.proofs.Laws.Opening.{kept-opening}
+use Rattle.hub.proofs.Laws.Opening.{run-opening}
 use Rattle.hub.proofs.Laws.Phases.{every-phase}
 use Rattle.hub.proofs.Invariant.Weights.{one, pick, holding, permitCell, radioed, sum}
 use Rattle.hub.proofs.Invariant.Tickets.{one-in, party-in}
@@ -39,12 +38,6 @@ use Rattle.hub.proofs.Radios.Kept.{Kept}
 use Rattle.hub.proofs.Window.Shown.{Reached, read-same}
 use Rattle.hub.proofs.Window.Reached.{reached-fits, with-radios}
 use Rattle.hub.proofs.Demand3.{ring-count, schedule, start}
-
--- A schedule leaves what the hub was opened with.
-run-opening : (h : Hub) (cs : List Call) → run h cs .opening ≡ h .opening
-unfolding run
-run-opening h [] = refl
-run-opening h (c ∷ cs) = run-opening (called h c .hub) cs ∙ kept-opening h _ _
 
 pub radios-kept : RadiosKept
 unfolding RadiosKept fresh

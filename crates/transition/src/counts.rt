@@ -14,7 +14,7 @@ ghost use Prim.Native.Nat.{_≤_};
 ghost use Rattle.hub.specs.Basics.{among, bit, count};
 ghost use Rattle.hub.specs.Counts.{countsOf};
 ghost use Rattle.hub.specs.Ledger.{atCounter};
-ghost use Rattle.hub.specs.Phases.{isOneOf, isPlaceOf};
+ghost use Rattle.hub.specs.Phases.{drawsTicket, isOneOf, isPlaceOf};
 ghost use Rattle.hub.specs.Record.{phasesOf, placesOf};
 
 // 1 if x is a, b, c or d.
@@ -53,6 +53,19 @@ pub fn count_phases(slots: [PartySlot; 32], a: Phase, b: Phase, c: Phase, d: Pha
         p += 1;
     }
     n
+}
+
+// The parties asked or unnumbered, with a mark or without: they may yet draw a ticket.
+pub fn count_drawing(slots: [PartySlot; 32]) -> u32
+    ensures { λ r. ⌜ (r ≡ count drawsTicket (phasesOf slots)) × (r ≤ 32) ⌝ }
+{
+    count_phases(
+        slots,
+        Phase::Acquiring,
+        Phase::Suspending,
+        Phase::AcquiringMarked,
+        Phase::SuspendingMarked,
+    )
 }
 
 // The places in one state, whoever waits there.

@@ -1,10 +1,9 @@
 // Refusal 7: is there a place for one more ticket?
 
-use crate::counts::count_phases;
+use crate::counts::count_drawing;
 use hub::moves::Op;
 use hub::record::Hub;
 use hub::record::PartySlot;
-use hub::record::Phase;
 ghost use mathlib.Core.Path.{_≡_};
 ghost use Prim.Native.Nat.{_≤_};
 ghost use Rattle.hub.specs.Calls.{isFull};
@@ -15,13 +14,7 @@ fn is_full(oldest: u32, issued: u32, slots: [PartySlot; 32]) -> bool
     requires { ⌜ (oldest ≤ 1000000) × (issued ≤ 1000000) ⌝ }
     ensures { λ r. ⌜ r ≡ isFull oldest issued slots ⌝ }
 {
-    let drawing = count_phases(
-        slots,
-        Phase::Acquiring,
-        Phase::Suspending,
-        Phase::AcquiringMarked,
-        Phase::SuspendingMarked,
-    );
+    let drawing = count_drawing(slots);
     oldest + Hub::PLACES <= issued + drawing
 }
 

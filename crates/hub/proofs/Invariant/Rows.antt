@@ -1,7 +1,7 @@
 -- What a row of the table has to show.
 use Prim.Native.Nat.{ℕ, _+_, _≤_, _<_}
 use mathlib.Core.Path.{_≡_, refl, sym, ap, subst, fun-ext, _∙_}
-use mathlib.Core.Bool.{true, false}
+use mathlib.Core.Bool.{true, false, _&&_}
 use mathlib.Core.List.{List, [], _∷_}
 use mathlib.Core.Logic.{_≢_}
 use native.Mathlib.Decide.{ℕ-discrete}
@@ -36,6 +36,7 @@ use Rattle.hub.proofs.Invariant.Weights.{holding, drawing, stand, stand
 use Rattle.hub.proofs.Invariant.Weights.{refusedCell, sum, cellSum, TICKETS}
 use Rattle.hub.proofs.Invariant.Tickets.{Names, inside}
 use Rattle.hub.proofs.Invariant.Keep.{Inv, ShiftIn, LocalIn, BesideIn, keep}
+use Rattle.hub.proofs.Invariant.Potential.{Nearer, toCalm, allowed, restsIf}
 
 -- A cell read after one was written.
 pub write-same : (g : ℕ → PlaceSlot) (t : ℕ) (a : PlaceSlot) → write g t a t ≡ a
@@ -80,6 +81,8 @@ pub record Reports (o : Op) (p : ℕ) (r : Answer) (m m′ : Queue) : Type 0 whe
   pub begins : m′ .figures .begun ≡ m .figures .begun + isAcquire o
   pub room : m′ .figures .issued + sum drawing m′ + m .figures .begun
       ≤ m .figures .issued + sum drawing m + m′ .figures .begun
+  pub nearer : Nearer o (phaseIn (phases m) p) (sum toCalm m) (sum toCalm m′) (sum drawing m)
+      (sum drawing m′) (m .figures) (m′ .figures)
   pub serves : (xs : List ℕ) → AllBelow (m .figures .resumed) xs
       → AllBelow (m′ .figures .resumed) (servedAfter p (printed r) (phases m) xs)
 
@@ -88,18 +91,19 @@ pub record Next (k : ℕ) (o : Op) (p : ℕ) (r : Answer) (m m′ : Queue) : Typ
   pub opening : m′ .opening ≡ m .opening
   pub reports : Reports o p r m m′
 
--- A good move, before the tidying: no refusal by 1, and otherwise the above.
+-- A good move, before the tidying: no refusal by 1, nor of a busy party's step, and otherwise the above.
 abbrev pub Good : ℕ → Op → ℕ → Queue → Phase → Move → Type 0
-Good k o p m f (Refuse r) = isListed (Refuse r) ≡ true
+Good k o p m f (Refuse r) = isListed (Refuse r) && restsIf o f ≡ true
 Good k o p m f (Tell y) = Next k o p y m m
 Good k o p m f (Act c) = Next k o p (c .answer) m (acted m p c)
 Good k o p m f (Put a c) = Next k o p (c .answer) m (acted (placed m f a) p c)
 Good k o p m f (Wake q s a c) =
     Next k o p (c .answer) m (acted (placed (woken m q s) f a) p c)
 
--- What a row's answer owes to the ledger: phase f to x, cell b to a, begun g to g′.
-pub record Says (o : Op) (f x : Phase) (b a : Place) (r : Answer) (g g′ : ℕ) : Type 0 where
-  pub begins : g′ ≡ g + isAcquire o
+-- What a row's answer owes to the ledger and to calm: phase f to x, cell b to a, the figures e to h.
+pub record Says (o : Op) (f x : Phase) (b a : Place) (r : Answer) (e h : Figures) : Type 0 where
+  pub begins : h .begun ≡ e .begun + isAcquire o
+  pub nearer : Nearer o f (toCalm f) (toCalm x) (drawing f) (drawing x) e h
   pub held : holding x + takes (printed r .code) ≡ holding f + gives (printed r .code)
   pub permits : permitCell a + clears (printed r .code) ≡ permitCell b + leaves (printed r .code)
   pub refusals : refusedCell a + meetsRefused (printed r .code)
@@ -202,7 +206,7 @@ module _ (k : ℕ) (m : Queue) (p : ℕ) (l : p < m .opening .parties) (inv : In
   row : {o : Op} {f x : Phase} {t : ℕ} {b a : Place} (m′ : Queue) (r : Answer)
       → ShiftIn m m′ p f x t b a → phases m′ ≡ set (phases m) p x → m′ .opening ≡ m .opening
       → LocalIn m (m′ .figures) f x t b a → BesideIn m (m′ .figures) f x t → Names p t x b a
-      → Says o f x b a r (m .figures .begun) (m′ .figures .begun)
+      → Says o f x b a r (m .figures) (m′ .figures)
       → Tells o f x r (m′ .figures .counter)
       → Serves (m′ .figures .resumed) r → Next k o p r m m′
   row {o} {f} {x} {t} {b} {a} m′ r sh ps st lo be nm sa te sv =
@@ -220,6 +224,14 @@ module _ (k : ℕ) (m : Queue) (p : ℕ) (l : p < m .opening .parties) (inv : In
               resumed = lo .later;
               begins = sa .begins;
               room = omega (arith, sh .sums drawing, lo .drawn);
+              nearer =
+                  omega (
+                    arith,
+                    sh .sums toCalm,
+                    sh .sums drawing,
+                    ap (allowed o) (sh .was),
+                    sa .nearer,
+                  );
               serves = sv;
             };
       }
@@ -229,7 +241,7 @@ module _ (k : ℕ) (m : Queue) (p : ℕ) (l : p < m .opening .parties) (inv : In
       → phaseIn (phases m) p ≡ f → places m t ≡ b → t < TICKETS
       → LocalIn m (m .figures) f (s .phase) t b (a .place)
       → BesideIn m (m .figures) f (s .phase) t → Names p t (s .phase) b (a .place)
-      → Says o f (s .phase) b (a .place) r (m .figures .begun) (m .figures .begun)
+      → Says o f (s .phase) b (a .place) r (m .figures) (m .figures)
       → Tells o f (s .phase) r (m .figures .counter) → Serves (m .figures .resumed) r
       → Next k o p r m (set-in m p s (write (m .cells) t a) (m .figures))
   place-row {o} {f} {b} {r} s a t e e′ j lo be nm sa te sv =
@@ -241,7 +253,7 @@ module _ (k : ℕ) (m : Queue) (p : ℕ) (l : p < m .opening .parties) (inv : In
       → phaseIn (phases m) p ≡ f
       → LocalIn m h f (s .phase) t (places m t) (places m t) → BesideIn m h f (s .phase) t
       → Names p t (s .phase) (places m t) (places m t)
-      → Says o f (s .phase) (places m t) (places m t) r (m .figures .begun) (h .begun)
+      → Says o f (s .phase) (places m t) (places m t) r (m .figures) h
       → Tells o f (s .phase) r (h .counter) → Serves (h .resumed) r
       → Next k o p r m (set-in m p s (m .cells) h)
   phase-row {o} {f} {h} {r} s t e lo be nm sa te sv =
@@ -250,7 +262,7 @@ module _ (k : ℕ) (m : Queue) (p : ℕ) (l : p < m .opening .parties) (inv : In
 
   -- An answer that moves nothing.
   pub tell-row : {o : Op} {f : Phase} {r : Answer} → phaseIn (phases m) p ≡ f
-      → Says o f f Place.Empty Place.Empty r (m .figures .begun) (m .figures .begun)
+      → Says o f f Place.Empty Place.Empty r (m .figures) (m .figures)
       → Tells o f f r (m .figures .counter) → Serves (m .figures .resumed) r
       → Next k o p r m m
   tell-row {o} {f} {r} e sa te sv =
@@ -270,6 +282,7 @@ module _ (k : ℕ) (m : Queue) (p : ℕ) (l : p < m .opening .parties) (inv : In
               resumed = omega arith;
               begins = sa .begins;
               room = omega arith;
+              nearer = omega (arith, ap (allowed o) e, sa .nearer);
               serves = sv;
             };
       }

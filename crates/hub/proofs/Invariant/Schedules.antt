@@ -4,7 +4,7 @@ use mathlib.Core.Path.{_≡_, refl, sym, ap, ap₂, subst, _∙_}
 use mathlib.Core.Bool.{Bool, true, false, cond}
 use mathlib.Core.List.{List, [], _∷_}
 use native.Mathlib.Omega.{arith}
-use borrow.Author.Tests.{ltb-true}
+use borrow.Author.Tests.{ltb-true, ltb-false}
 use lib.Dec.{ltb}
 use lib.ListN.{replicate}
 use Rattle.hub.specs.declared.answers.Answer.{Answer}
@@ -36,6 +36,7 @@ use Rattle.hub.proofs.Laws.Bools.{if-true, if-false}
 use Rattle.hub.proofs.Laws.Lists.{weight-replicate}
 use Rattle.hub.proofs.Laws.Phases.{place-of}
 use Rattle.hub.proofs.Laws.Ranges.{sumFrom, sum-set, sum-zero}
+use Rattle.hub.proofs.Laws.Slots.{read-phase}
 use Rattle.hub.proofs.Invariant.Weights.{same-self, lt-no, lt-suc, pick, most}
 use Rattle.hub.proofs.Invariant.Weights.{holding, resuming, refusing, drawing, suspending}
 use Rattle.hub.proofs.Invariant.Weights.{live, handing, cancelling, radioed, own, hand, refuse, stage}
@@ -43,6 +44,7 @@ use Rattle.hub.proofs.Invariant.Weights.{sum, permitCell, cancelledCell
 use Rattle.hub.proofs.Invariant.Weights.{TICKETS}
 use Rattle.hub.proofs.Invariant.Tickets.{near}
 use Rattle.hub.proofs.Invariant.Keep.{Inv, ShiftIn, keep}
+use Rattle.hub.proofs.Invariant.Potential.{absent-rests}
 use Rattle.hub.proofs.Invariant.Rows.{Good, Next, write-same, write-other}
 use Rattle.hub.proofs.Invariant.Walk.{decide-good, all-more}
 
@@ -56,6 +58,7 @@ pub record Quiet (m m′ : Queue) : Type 0 where
   pub counter : m′ .figures .counter ≡ m .figures .counter
   pub permits : cellSum permitCell m′ ≡ cellSum permitCell m
   pub refusals : cellSum refusedCell m′ ≡ cellSum refusedCell m
+  pub issued : m′ .figures .issued ≡ m .figures .issued
   pub resumed : m .figures .resumed ≤ m′ .figures .resumed
 
 -- One cancelled cell skipped: no party moves, and its cell is done.
@@ -119,6 +122,7 @@ module _ (k : ℕ) (m : Queue) (inv : Inv k m) (e : places m (m .figures .resume
         counter = refl;
         permits = omega (arith, skipped-shift .cellSums permitCell);
         refusals = omega (arith, skipped-shift .cellSums refusedCell);
+        issued = refl;
         resumed = omega arith;
       }
 
@@ -130,6 +134,7 @@ quiet-self m =
       counter = refl;
       permits = refl;
       refusals = refl;
+      issued = refl;
       resumed = omega arith;
     }
 
@@ -141,6 +146,7 @@ quiet-then m m₁ m₂ a b =
       counter = b .counter ∙ a .counter;
       permits = b .permits ∙ a .permits;
       refusals = b .refusals ∙ a .refusals;
+      issued = b .issued ∙ a .issued;
       resumed = omega (arith, a .resumed, b .resumed);
     }
 
@@ -280,8 +286,10 @@ module _ (k : ℕ) (m : Queue) (inv : Inv k m) (c : Call) where
   pub move-good : (b : Bool) → ltb (c .party) (m .opening .parties) ≡ b
       → Good k (c .op) (c .party) m (look m (c .party) .slot .phase)
       (checked true b (decide (c .op) false (look m (c .party))))
-  unfolding checked
-  move-good false i = refl
+  unfolding checked seenBy
+  move-good false i =
+      absent-rests (c .op) _
+      (read-phase (m .slots) (c .party) ∙ inv .tickets .beyond (c .party) (ltb-false _ _ i))
   move-good true i = decide-good k m (c .party) (ltb-true _ _ i) inv (c .op)
 
   pub next-good : (e : Ledger) → Agrees e m

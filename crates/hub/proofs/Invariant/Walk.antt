@@ -49,6 +49,7 @@ use Rattle.hub.proofs.Invariant.Weights.{most, sum, cellSum, TICKETS, s
 use Rattle.hub.proofs.Invariant.Tickets.{AtIn, Names, one-in, exact, hand-below, permit-below}
 use Rattle.hub.proofs.Invariant.Tickets.{near, party-in, inside, mine, here}
 use Rattle.hub.proofs.Invariant.Keep.{Inv, ShiftIn, keep}
+use Rattle.hub.proofs.Invariant.Potential.{toCalm}
 use Rattle.hub.proofs.Invariant.Rows.{Good, set-in, write-twice, shift-place, shift-phase}
 use Rattle.hub.proofs.Invariant.Rows.{place-row, phase-row, tell-row, names-kept}
 
@@ -572,6 +573,18 @@ module _ (k : ℕ) (m : Queue) (p : ℕ) (l : p < m .opening .parties) (inv : In
                         s₂ .sums drawing,
                         s₃ .sums drawing,
                       );
+                  nearer =
+                      omega (
+                        arith,
+                        ap (sum toCalm) at-once,
+                        s₁ .sums toCalm,
+                        s₂ .sums toCalm,
+                        s₃ .sums toCalm,
+                        ap (sum drawing) at-once,
+                        s₁ .sums drawing,
+                        s₂ .sums drawing,
+                        s₃ .sums drawing,
+                      );
                   serves = λ xs a. (omega (arith, below, ap ticketOf g), a);
                 };
           }
@@ -621,7 +634,7 @@ module _ (k : ℕ) (m : Queue) (p : ℕ) (l : p < m .opening .parties) (inv : In
       ap (λ (g : Phase). byTicket emptySeat (m .cells) g .place) (read-phase (m .slots) p ∙ e)
 
   step-good : (f : Phase) → phaseIn (phases m) p ≡ f → Good k Step p m f (stepIn f (look m p))
-  unfolding stepIn seenBy
+  unfolding stepIn seenBy isOneOf
   step-good Free e = refl
   step-good Holding e = refl
   step-good (Waiting t) e = refl

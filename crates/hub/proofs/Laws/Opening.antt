@@ -1,6 +1,7 @@
 -- What an opening answers, from its three tests.
-use mathlib.Core.Path.{_≡_, refl, ap}
+use mathlib.Core.Path.{_≡_, refl, ap, _∙_}
 use mathlib.Core.Bool.{Bool, true, false}
+use mathlib.Core.List.{List, [], _∷_}
 use Rattle.hub.specs.declared.answers.Answer.{Answer}
 use Rattle.hub.specs.declared.answers.Refusal.{Refusal}
 use Rattle.hub.specs.declared.moves.Call.{Call}
@@ -13,6 +14,7 @@ use Rattle.hub.specs.Fits.{fits, figuresFit}
 use Rattle.hub.specs.Moves.{Move, Refuse, Tell, Act, Put, Wake}
 use Rattle.hub.specs.Opening.{fresh, notOpened, openingIf, radiosDiffer}
 use Rattle.hub.specs.Radios.{differ, poolAfter, radiosOf}
+use Rattle.hub.specs.Schedule.{run}
 
 module _ (a b d : Bool) (o : Opening) where
   pub refused-2 : a ≡ false → openingIf a b d o ≡ notOpened Refusal.BadPermits
@@ -49,7 +51,7 @@ pub never-opened : (r : Refusal) (c : Call)
 unfolding fresh fits figuresFit allOf checked apply poolAfter
 never-opened r c = refl
 
--- No call changes what the hub was opened with.
+-- No call changes what the hub was opened with, and no schedule.
 pub kept-opening : (h : Hub) (s : Sight) (m : Move) → apply h s m .opening ≡ h .opening
 unfolding apply tidied
 kept-opening h s (Refuse r) = refl
@@ -57,3 +59,8 @@ kept-opening h s (Tell y) = refl
 kept-opening h s (Act c) = refl
 kept-opening h s (Put a c) = refl
 kept-opening h s (Wake q x a c) = refl
+
+pub run-opening : (h : Hub) (cs : List Call) → run h cs .opening ≡ h .opening
+unfolding run
+run-opening h [] = refl
+run-opening h (c ∷ cs) = run-opening (called h c .hub) cs ∙ kept-opening h _ _

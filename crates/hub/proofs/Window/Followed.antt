@@ -59,7 +59,7 @@ pub record Follows (k : ℕ) (h : Hub) (m : Queue) (c : Call) (s : Sight) (v : M
   pub seven : isSeven (answerOf v) ≡ true → left h (c .party) s v ≡ h
 
 -- A success is no 7.
-not-seven : (a : Answer) → ltb (printed a .code) 0x20 ≡ false → isSeven a ≡ true → ⊥
+pub not-seven : (a : Answer) → ltb (printed a .code) 0x20 ≡ false → isSeven a ≡ true → ⊥
 not-seven a i j =
     omega (arith, ltb-false (printed a .code) 0x20 i, eqb-true (printed a .code) 7 j)
 

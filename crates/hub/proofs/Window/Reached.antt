@@ -33,7 +33,7 @@ use Rattle.hub.specs.Radios.{rearranged}
 use Rattle.hub.specs.Record.{PARTIES, MAX-BEGUN, readSlot}
 use Rattle.hub.specs.Ring.{PLACES, readPlace}
 use Rattle.hub.specs.Table.{decide, step, stepIn}
-use Rattle.hub.proofs.Laws.Bools.{both, passed, none}
+use Rattle.hub.proofs.Laws.Bools.{both, first, passed, none}
 use Rattle.hub.proofs.Laws.Lists.{weight-length, weight-add}
 use Rattle.hub.proofs.Laws.Phases.{every-phase, one-of}
 use Rattle.hub.proofs.Laws.Ranges.{all-true}
@@ -44,6 +44,7 @@ use Rattle.hub.proofs.Invariant.Weights.{suspending, live, carrying, ra
 use Rattle.hub.proofs.Invariant.Weights.{sum, has-ticket}
 use Rattle.hub.proofs.Invariant.Tickets.{one-in, owner-below, hand-below, near, drawing-most}
 use Rattle.hub.proofs.Invariant.Tickets.{carried-most}
+use Rattle.hub.proofs.Invariant.Potential.{restsIf}
 use Rattle.hub.proofs.Invariant.Rows.{Good}
 use Rattle.hub.proofs.Invariant.Walk.{decide-good}
 use Rattle.hub.proofs.Invariant.Held.{short}
@@ -54,7 +55,7 @@ use Rattle.hub.proofs.Window.Shown.{Reached, Tracks, low, high, has-pla
 -- A good move is one that the table lists.
 good-listed : (k : ℕ) (o : Op) (p : ℕ) (m : Queue) (f : Phase) (v : Move)
     → Good k o p m f v → isListed v ≡ true
-good-listed k o p m f (Refuse r) g = g
+good-listed k o p m f (Refuse r) g = first (isListed (Refuse r)) (restsIf o f) g
 good-listed k o p m f (Tell y) g = refl
 good-listed k o p m f (Act c) g = refl
 good-listed k o p m f (Put a c) g = refl

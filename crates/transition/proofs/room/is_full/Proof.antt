@@ -6,8 +6,8 @@ use lib.Dec.{leb}
 use Rattle.transition.proofs.room.is_full.Statement.{statement}
 use Rattle.transition.proofs.room.is_full.Tie as tie
 
-count-phases-requires : tie.Need-count-phases-requires
-count-phases-requires c κs = search needs
+count-drawing-requires : tie.Need-count-drawing-requires
+count-drawing-requires c κs = search needs
 
 add-result : tie.Need-add-result
 add-result c = search needs
@@ -18,7 +18,7 @@ add-result-2 c = search needs
 returns : tie.Need-returns
 returns c =
     let a = c .before .args in
-    ap (λ (n : ℕ). leb (a .oldest + 256) (a .issued + n)) (c .count-phases .ensures .0)
+    ap (λ (n : ℕ). leb (a .oldest + 256) (a .issued + n)) (c .count-drawing .ensures .0)
 
 pub is-full-spec : {M : Type 1} → statement M
-is-full-spec = tie.close (tie.spec count-phases-requires add-result add-result-2 returns)
+is-full-spec = tie.close (tie.spec count-drawing-requires add-result add-result-2 returns)
