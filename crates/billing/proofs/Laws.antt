@@ -5,3 +5,5 @@ pub mod Ranks
 pub mod Shares
 pub mod Bytes
 pub mod Answers
+pub mod Lines
+pub mod Holders

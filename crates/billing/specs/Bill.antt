@@ -1,7 +1,7 @@
 -- "Refusal 3 is read for n here, and 22 when the fee is above 1,000,000 cents or the lines exceed
 -- 100,000,000 comes after it": by value, and for C and Rust in bytes.
 use Prim.Native.Nat.{ℕ, zero, suc, _+_, _*_, _/_, _%_}
-use mathlib.Core.Bool.{Bool, true, false, cond, not, _&&_, _||_}
+use mathlib.Core.Bool.{Bool, true, false, cond, not, _||_}
 use mathlib.Core.List.{List, [], _∷_, _++_}
 use lib.Dec.{eqb, ltb}
 use lib.ListN.{length, replicate, take, drop}

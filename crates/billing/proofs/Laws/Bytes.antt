@@ -1,9 +1,9 @@
 -- Shares in bytes, four bytes each.
-use Prim.Native.Nat.{ℕ, zero, suc, _+_, _*_, _/_, _%_, _≤_, _<_}
+use Prim.Native.Nat.{ℕ, zero, suc, _+_, _*_, _≤_, _<_}
 use mathlib.Core.Path.{_≡_, refl, sym, ap, _∙_}
 use mathlib.Core.List.{List, [], _∷_, _++_, append-nil}
 use native.Mathlib.Omega.{arith}
-use lib.ListN.{length, getD, set, take, drop, length-append, length-drop, drop-of-length-le}
+use lib.ListN.{length, set, take, drop, length-append, length-drop, drop-of-length-le}
 use lib.Seq.{sets-eq, take-at, drop-append-add, drop-drop}
 use native.Mathlib.Numerals.{add-one}
 use Rattle.billing.specs.Bill.{fourBytes, writtenAt, inBytes}
@@ -38,48 +38,55 @@ pub written-none : (f : ℕ → ℕ) (n : ℕ) (old : List ℕ) → Written f n 
 unfolding inBytes
 written-none f n old = record { within = omega arith; bytes = refl }
 
-module _ {f : ℕ → ℕ} {n : ℕ} {old out : List ℕ} {p : ℕ} (size : length old ≡ 4 * n) (w : Written f n old out p) where
-  pub written-all : n ≤ p → out ≡ inBytes f n
-  written-all h =
-      let e : p ≡ n = omega (arith, w .within) in
-      w .bytes
-      ∙ ap (λ (k : ℕ). inBytes f k ++ drop (4 * k) old) e
-      ∙ ap (λ (l : List ℕ). inBytes f n ++ l) (drop-of-length-le old {i = 4 * n} (omega arith))
-      ∙ append-nil (inBytes f n)
+module _
+    {f : ℕ → ℕ}
+    {n : ℕ}
+    {old out : List ℕ}
+    {p : ℕ}
+    (size : length old ≡ 4 * n)
+    (w : Written f n old out p)
+  where
+    pub written-all : n ≤ p → out ≡ inBytes f n
+    written-all h =
+        let e : p ≡ n = omega (arith, w .within) in
+        w .bytes
+        ∙ ap (λ (k : ℕ). inBytes f k ++ drop (4 * k) old) e
+        ∙ ap (λ (l : List ℕ). inBytes f n ++ l) (drop-of-length-le old {i = 4 * n} (omega arith))
+        ∙ append-nil (inBytes f n)
 
-  pub written-size : length out ≡ 4 * n
-  written-size =
-      omega (
-        arith,
-        ap length (w .bytes),
-        length-append (inBytes f p) (drop (4 * p) old),
-        length-bytes f p,
-        length-drop (4 * p) old,
-        w .within,
-      )
+    pub written-size : length out ≡ 4 * n
+    written-size =
+        omega (
+          arith,
+          ap length (w .bytes),
+          length-append (inBytes f p) (drop (4 * p) old),
+          length-bytes f p,
+          length-drop (4 * p) old,
+          w .within,
+        )
 
-  pub written-next : p < n → {new : List ℕ} → new ≡ writtenAt (4 * p) out (f p)
-      → Written f n old new (p + 1)
-  unfolding inBytes
-  written-next h {new} e =
-      record {
-        within = omega arith;
-        bytes =
-            e
-            ∙ (λ i. take (4 * p) (w .bytes i) ++ fourBytes (f p) ++ drop (4 * p + 4) (w .bytes i))
-            ∙ (λ i. front i ++ fourBytes (f p) ++ back i)
-            ∙ ap (λ (q : ℕ). inBytes f q ++ drop (4 * (p + 1)) old) (sym (add-one p));
-      }
-    where
-      next : 4 * p + 4 ≡ 4 * (p + 1)
-      next = omega arith
+    pub written-next : p < n → {new : List ℕ} → new ≡ writtenAt (4 * p) out (f p)
+        → Written f n old new (p + 1)
+    unfolding inBytes
+    written-next h {new} e =
+        record {
+          within = omega arith;
+          bytes =
+              e
+              ∙ (λ i. take (4 * p) (w .bytes i) ++ fourBytes (f p) ++ drop (4 * p + 4) (w .bytes i))
+              ∙ (λ i. front i ++ fourBytes (f p) ++ back i)
+              ∙ ap (λ (q : ℕ). inBytes f q ++ drop (4 * (p + 1)) old) (sym (add-one p));
+        }
+      where
+        next : 4 * p + 4 ≡ 4 * (p + 1)
+        next = omega arith
 
-      front : take (4 * p) (inBytes f p ++ drop (4 * p) old) ≡ inBytes f p
-      front = take-at (inBytes f p) (drop (4 * p) old) (4 * p) (length-bytes f p)
+        front : take (4 * p) (inBytes f p ++ drop (4 * p) old) ≡ inBytes f p
+        front = take-at (inBytes f p) (drop (4 * p) old) (4 * p) (length-bytes f p)
 
-      back : drop (4 * p + 4) (inBytes f p ++ drop (4 * p) old) ≡ drop (4 * (p + 1)) old
-      back =
-          ap (λ (k : ℕ). drop (k + 4) (inBytes f p ++ drop (4 * p) old)) (sym (length-bytes f p))
-          ∙ drop-append-add (inBytes f p) (drop (4 * p) old) 4
-          ∙ drop-drop 4 (4 * p) old
-          ∙ ap (λ (k : ℕ). drop k old) next
+        back : drop (4 * p + 4) (inBytes f p ++ drop (4 * p) old) ≡ drop (4 * (p + 1)) old
+        back =
+            ap (λ (k : ℕ). drop (k + 4) (inBytes f p ++ drop (4 * p) old)) (sym (length-bytes f p))
+            ∙ drop-append-add (inBytes f p) (drop (4 * p) old) 4
+            ∙ drop-drop 4 (4 * p) old
+            ∙ ap (λ (k : ℕ). drop k old) next

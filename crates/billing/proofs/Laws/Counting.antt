@@ -1,10 +1,9 @@
 -- The lines counted one by one: after i of them the table has what these gave.
 use Prim.Native.Nat.{ℕ, _+_, _≤_, _<_}
-use mathlib.Core.Path.{_≡_, refl, sym, ap, _∙_}
+use mathlib.Core.Path.{_≡_, sym, ap, _∙_}
 use mathlib.Core.List.{List}
 use native.Mathlib.Omega.{arith}
 use borrow.Author.Tests.{eq-eqb, ne-eqb}
-use lib.Dec.{eqb}
 use lib.ListN.{getD, set, replicate}
 use Rattle.hub.specs.Basics.{bit}
 use Rattle.billing.specs.Counting.{sum, countBelow, table, linesIn, codeAt, partyAt, wokenAt}

@@ -1,24 +1,24 @@
 -- Why every bill is fair. The exact portions add up to the fee, so that what remains of them, taken
 -- together, is the cents left over times the whole: these are no more than the parties that have a
 -- remainder, so that each goes to one of those, and all of them go.
-use Prim.Native.Nat.{ℕ, zero, suc, _+_, _*_, _-_, _/_, _%_, _≤_, _<_}
-use mathlib.Core.Path.{_≡_, refl, sym, ap, _∙_}
+use Prim.Native.Nat.{ℕ, _+_, _*_, _-_, _≤_, _<_}
+use mathlib.Core.Path.{_≡_, ap, _∙_}
 use mathlib.Core.Bool.{Bool, true, false}
 use mathlib.Core.List.{List}
 use native.Mathlib.Decide.{ℕ-discrete, decLe}
 use native.Mathlib.Nat.{div-add-mod', mod-lt, le-of-mul-le-mul-left, mul-le-mul}
 use native.Mathlib.Omega.{arith}
-use borrow.Author.Tests.{lt-ltb, le-ltb, eq-eqb, ne-eqb, ltb-true}
-use lib.Dec.{ltb, eqb}
+use borrow.Author.Tests.{lt-ltb, le-ltb, eq-eqb, ne-eqb}
+use lib.Dec.{ltb}
 use lib.ListN.{getD, set, replicate}
 use Rattle.hub.specs.Basics.{bit}
 use Rattle.billing.specs.declared.Terms.{Terms}
-use Rattle.billing.specs.Counting.{sum, countBelow}
-use Rattle.billing.specs.Promises.{Fair, EveryBill}
+use Rattle.billing.specs.Counting.{sum}
+use Rattle.billing.specs.Promises.{EveryBill}
 use Rattle.billing.specs.Sharing.{granted, weighed, weight, whole, roundedDown, remainder}
 use Rattle.billing.specs.Sharing.{leftOver, precedes, rank, share, upTo, Billable}
 use Rattle.billing.proofs.Laws.Ranks.{places, remains, rank-none}
-use Rattle.billing.proofs.Laws.Sums.{bit-most, bit-true, bit-false, sum-le, sum-same, sum-add}
+use Rattle.billing.proofs.Laws.Sums.{bit-false, sum-le, sum-same, sum-add}
 use Rattle.billing.proofs.Laws.Sums.{sum-mul, sum-const, sum-part, sum-next, count-most}
 use Rattle.billing.proofs.Laws.Tables.{up-to-none, up-to-more, up-to-get, up-to-same}
 

@@ -1,7 +1,6 @@
 -- `put_shares` meets its contract: from any turn on the shares passed are written.
 use borrow.Author.Needs.{needs}
-use Prim.Native.Nat.{ℕ, _-_}
-use mathlib.Core.Path.{_≡_, refl, sym, ap, _∙_}
+use Prim.Native.Nat.{_-_}
 use native.Mathlib.Omega.{arith}
 use lib.ListN.{getD}
 use Rattle.billing.proofs.Laws.Bytes.{Written, written-none, written-size, written-next, written-all}

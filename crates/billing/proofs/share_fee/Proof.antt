@@ -2,7 +2,7 @@
 use borrow.Author.Needs.{needs}
 use Prim.Native.Nat.{ℕ}
 use mathlib.Core.List.{List}
-use mathlib.Core.Path.{_≡_, refl, sym, ap, _∙_, subst}
+use mathlib.Core.Path.{refl, sym, ap, _∙_, subst}
 use Rattle.billing.specs.Sharing.{Billable, share, upTo}
 use Rattle.billing.proofs.Laws.Answers.{refuses, bad-parties, fee-too-much, lines-too-much}
 use Rattle.billing.proofs.Laws.Answers.{billed, billable, shared}

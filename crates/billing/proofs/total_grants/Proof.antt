@@ -1,6 +1,6 @@
 -- `total_grants` meets its contract: a sum of at most 32 numbers, none above 100,000,000.
 use borrow.Author.Needs.{needs}
-use Prim.Native.Nat.{_+_, _*_, _-_, _≤_}
+use Prim.Native.Nat.{_*_, _-_, _≤_}
 use native.Mathlib.Omega.{arith}
 use mathlib.Core.Path.{_≡_, refl, ap, _∙_}
 use Rattle.billing.specs.Counting.{sum}

@@ -19,7 +19,7 @@ use Rattle.line.proofs.Laws.Codes.{is-call, op-back}
 use Rattle.line.proofs.Laws.Lines.{four, six, byte-both}
 
 -- What holds of all the numbers in a row holds of each.
-one-of : (f : ℕ → Bool) (n i j : ℕ) → allFrom f i n ≡ true → i ≤ j → j < i + n → f j ≡ true
+pub one-of : (f : ℕ → Bool) (n i j : ℕ) → allFrom f i n ≡ true → i ≤ j → j < i + n → f j ≡ true
 unfolding allFrom
 one-of f zero i j e a b = absurd (omega arith)
 one-of f (suc n) i j e a b =
