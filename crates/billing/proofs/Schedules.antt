@@ -5,7 +5,7 @@ use mathlib.Core.Path.{_≡_, refl, ap, _∙_}
 use mathlib.Core.Bool.{Bool, true, false, cond, _&&_, _||_}
 use mathlib.Core.List.{List, [], _∷_, map}
 use native.Mathlib.Omega.{arith}
-use borrow.Author.Tests.{le-ltb, ne-eqb, eqb-true, ltb-true}
+use borrow.Author.Tests.{le-ltb, eqb-true, ltb-true}
 use lib.Dec.{eqb, ltb}
 use Rattle.hub.specs.declared.answers.Answer.{Answer}
 use Rattle.hub.specs.declared.moves.Call.{Call}
@@ -29,7 +29,7 @@ use Rattle.frame.specs.Schedule.{leftOut, kept, EveryInput}
 use Rattle.frame.proofs.Laws.Every.{every-input}
 use Rattle.billing.specs.Counting.{receiverOf}
 use Rattle.billing.specs.Promises.{partiesOf, Balanced, EverySchedule, EveryOutput}
-use Rattle.billing.proofs.Laws.Holders.{start, all-given, all-returned, to-nobody}
+use Rattle.billing.proofs.Laws.Holders.{start, all-given, all-returned, to-nobody, takes-low}
 use Rattle.billing.proofs.Laws.Lines.{worthOf, tally-replies, granting, returning, grants-tally}
 use Rattle.billing.proofs.Laws.Lines.{returns-tally}
 use Rattle.billing.proofs.Laws.Sums.{bit-false}
@@ -112,11 +112,7 @@ no-grant n m r e =
     ∙ bit-false (le-ltb 0xFF n (omega arith))
 
 no-return : (r : Reply) → r .answer .code < 0x20 → worthOf returning r ≡ 0
-no-return r e =
-    rw (
-      ne-eqb (r .answer .code) 0x26 (λ i. omega arith),
-      ne-eqb (r .answer .code) 0x27 (λ i. omega arith),
-    )
+no-return r e = takes-low (r .answer .code) e
 
 few : (s : Schedule) → Holds s → partiesOf s ≤ 32
 few unstarted d = omega arith

@@ -61,7 +61,12 @@ module _ {l : List ℕ} {i : ℕ} {a : List ℕ} (c : Counted l i a) where
                 w
                 ∙ ap (λ (b : List ℕ). set b q (getD a q 0 + 1)) (c .counts)
                 ∙ table-set 32 (soFar l i) (soFar l (i + 1)) q _ k
-                (omega (arith, counted-at q k, sum-next (λ j. bit (grants l q j)) i, bit-true (eq-eqb _ q (sym e))))
+                (omega (
+                  arith,
+                  counted-at q k,
+                  sum-next (λ j. bit (grants l q j)) i,
+                  bit-true (eq-eqb _ q (sym e)),
+                ))
                 (λ p j n. other p (λ z. n (sym z)));
           }
 

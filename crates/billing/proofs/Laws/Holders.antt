@@ -1,6 +1,6 @@
 -- Whoever is given a link is a party below n. From what the hub promises alone: an answer that gives
--- a link adds a holder to the ledger's, whose phases are the record's, and in a record that fits the
--- parties from n up are free, before the answer and after it.
+-- a link adds a holder to the ledger's phases, which are the record's, and in a record that fits the
+-- parties from n up are free, so that none of them is the one added.
 use Prim.Native.Nat.{ℕ, _+_, _%_, _≤_, _<_}
 use mathlib.Core.Path.{_≡_, refl, sym, ap, _∙_}
 use mathlib.Core.Bool.{Bool, true, false, cond, _&&_, _||_}
@@ -125,7 +125,9 @@ module _ (e : Ledger) (x : Entry) (s : 0x20 ≤ x .answer .code) where
       unmoved b u l p y i = rw i
 
   two-moved : x .answer .code ≡ 0x2A
-      → (y : Phase) × (enter e x .phases ≡ set (set (e .phases) (x .answer .woken) Phase.Holding) (x .call .party) y)
+      → (y : Phase)
+      × (enter e x .phases
+      ≡ set (set (e .phases) (x .answer .woken) Phase.Holding) (x .call .party) y)
       × (holds y ≡ false)
   unfolding phasesAfter phaseAfter isOneOf
   two-moved i =
@@ -355,16 +357,18 @@ module _ (o : Opening) (a : opening o .answer ≡ Answer.Opened) where
   all-given s [] = omega arith
   all-given s (c ∷ cs) = omega (arith, line-worth s c, all-given (onward s c) cs)
 
--- And what the ledger has taken is what the 26 and 27 are worth.
+-- And what the ledger has taken is what the 26 and 27 are worth; no refusal is.
+pub takes-low : (c : ℕ) → c < 0x20 → takes c ≡ 0
+takes-low c h = rw (ne-eqb c 0x26 (λ i. omega arith), ne-eqb c 0x27 (λ i. omega arith))
+
 line-returned : (e : Ledger) (x : Entry) → takes (x .answer .code) + e .took ≡ enter e x .took
 line-returned e x = go (decLe 0x20 (x .answer .code))
   where
     go : Dec (0x20 ≤ x .answer .code) → takes (x .answer .code) + e .took ≡ enter e x .took
     go (yes k) = omega (arith, took-more e x k)
     go (no k) =
-        let z : takes (x .answer .code) ≡ 0 =
-        rw (ne-eqb (x .answer .code) 0x26 (λ i. omega arith), ne-eqb (x .answer .code) 0x27 (λ i. omega arith)) in
-        omega (arith, ap (λ (d : Ledger). d .took) (refused-same e x (omega arith)))
+        let h : x .answer .code < 0x20 = omega arith in
+        omega (arith, takes-low (x .answer .code) h, ap (λ (d : Ledger). d .took) (refused-same e x h))
 
 pub all-returned : (e : Ledger) (xs : List Entry)
     → weight (λ (x : Entry). takes (x .answer .code)) xs + e .took ≡ ledger e xs .took

@@ -262,6 +262,10 @@ module _
     unfolding share
     handed-shares =
         up-to-same (t .parties) (handed cents remainders left (t .parties)) (share t)
-        (λ p h. (λ i. at cents (roundedDown t) (d .0) p h i + bit (ltb
-        (rank-same (λ q. getD remainders q 0) (remainder t) (t .parties) p (at remainders (remainder t) (d .1)) h
-        i) (d .2 i))))
+        (λ p h. (λ i. at cents (roundedDown t) (d .0) p h i + bit (ltb (ranked p h i) (d .2 i))))
+      where
+        ranked : (p : ℕ) → p < t .parties
+            → rank (λ q. getD remainders q 0) (t .parties) p ≡ rank (remainder t) (t .parties) p
+        ranked p =
+            rank-same (λ q. getD remainders q 0) (remainder t) (t .parties) p
+            (at remainders (remainder t) (d .1))

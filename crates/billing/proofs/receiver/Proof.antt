@@ -15,12 +15,22 @@ returns-2 c = rw (ne-eqb _ _ (c .before .if1 .left), eq-eqb _ _ (c .if2 .taken))
 returns-3 : tie.Need-returns-3
 unfolding receiverOf
 returns-3 c =
-    rw (ne-eqb _ _ (c .before .before .if1 .left), ne-eqb _ _ (c .before .if2 .left), eq-eqb _ _ (c .if3 .taken))
+    let d = c .before in
+    rw (
+      ne-eqb _ _ (d .before .if1 .left),
+      ne-eqb _ _ (d .if2 .left),
+      eq-eqb _ _ (c .if3 .taken),
+    )
 
 returns-4 : tie.Need-returns-4
 unfolding receiverOf
 returns-4 c =
-    rw (ne-eqb _ _ (c .before .before .if1 .left), ne-eqb _ _ (c .before .if2 .left), ne-eqb _ _ (c .if3 .left))
+    let d = c .before in
+    rw (
+      ne-eqb _ _ (d .before .if1 .left),
+      ne-eqb _ _ (d .if2 .left),
+      ne-eqb _ _ (c .if3 .left),
+    )
 
 pub receiver-spec : {M : Type 1} → statement M
 receiver-spec = tie.close (tie.spec returns returns-2 returns-3 returns-4)
