@@ -29,7 +29,8 @@ use Rattle.frame.specs.Schedule.{leftOut, kept, EveryInput}
 use Rattle.frame.proofs.Laws.Every.{every-input}
 use Rattle.billing.specs.Counting.{receiverOf}
 use Rattle.billing.specs.Promises.{partiesOf, Balanced, EverySchedule, EveryOutput}
-use Rattle.billing.proofs.Laws.Holders.{start, all-given, all-returned, to-nobody, takes-low}
+use Rattle.billing.proofs.Laws.Counting.{to-nobody}
+use Rattle.billing.proofs.Laws.Holders.{start, all-given, all-returned, takes-low}
 use Rattle.billing.proofs.Laws.Lines.{worthOf, tally-replies, granting, returning, grants-tally}
 use Rattle.billing.proofs.Laws.Lines.{returns-tally}
 use Rattle.billing.proofs.Laws.Sums.{bit-false}

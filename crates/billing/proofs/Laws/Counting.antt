@@ -1,15 +1,30 @@
 -- The lines counted one by one: after i of them the table has what these gave.
 use Prim.Native.Nat.{ℕ, _+_, _≤_, _<_}
 use mathlib.Core.Path.{_≡_, sym, ap, _∙_}
-use mathlib.Core.List.{List}
+use mathlib.Core.Bool.{true}
+use mathlib.Core.List.{List, [], _∷_}
 use native.Mathlib.Omega.{arith}
 use borrow.Author.Tests.{eq-eqb, ne-eqb}
 use lib.ListN.{getD, set, replicate}
-use Rattle.hub.specs.Basics.{bit}
+use Rattle.hub.specs.Basics.{among, bit}
 use Rattle.billing.specs.Counting.{sum, countBelow, table, linesIn, codeAt, partyAt, wokenAt}
 use Rattle.billing.specs.Counting.{receiverOf, grants, grantsOf}
 use Rattle.billing.proofs.Laws.Sums.{bit-true, bit-false, sum-next, count-most}
 use Rattle.billing.proofs.Laws.Tables.{table-get, table-same, table-set, table-zeros}
+
+-- To whom a line gives a link.
+module _ (c p w : ℕ) where
+  pub to-party : among (0x21 ∷ 0x25 ∷ []) c ≡ true → receiverOf c p w ≡ p
+  unfolding receiverOf
+  to-party e = rw e
+
+  pub to-woken : c ≡ 0x2A → receiverOf c p w ≡ w
+  unfolding receiverOf
+  to-woken e = rw e
+
+  pub to-nobody : (c ≡ 0x21 → ⊥) → (c ≡ 0x25 → ⊥) → (c ≡ 0x2A → ⊥) → receiverOf c p w ≡ 0xFF
+  unfolding receiverOf
+  to-nobody i j k = rw (ne-eqb c 0x21 i, ne-eqb c 0x25 j, ne-eqb c 0x2A k)
 
 -- Whoever got a link, by i lines.
 abbrev soFar : List ℕ → ℕ → ℕ → ℕ

@@ -35,6 +35,7 @@ use Rattle.hub.proofs.Laws.Phases.{one-of}
 use Rattle.hub.proofs.Laws.Slots.{read-phase}
 use Rattle.frame.proofs.Laws.Written.{one-of as each-one}
 use Rattle.billing.specs.Counting.{receiverOf}
+use Rattle.billing.proofs.Laws.Counting.{to-party, to-woken, to-nobody}
 use Rattle.billing.proofs.Laws.Lines.{granting}
 use Rattle.billing.proofs.Laws.Sums.{bit-true, bit-false}
 
@@ -141,20 +142,6 @@ module _ (e : Ledger) (x : Entry) (s : 0x20 ≤ x .answer .code) where
 refused-same : (e : Ledger) (x : Entry) → x .answer .code < 0x20 → enter e x ≡ e
 unfolding enter
 refused-same e x k = if-true (ltb (x .answer .code) 0x20) e _ (lt-ltb (x .answer .code) 0x20 k)
-
--- To whom a line gives a link.
-module _ (c p w : ℕ) where
-  to-party : among (0x21 ∷ 0x25 ∷ []) c ≡ true → receiverOf c p w ≡ p
-  unfolding receiverOf
-  to-party e = rw e
-
-  to-woken : c ≡ 0x2A → receiverOf c p w ≡ w
-  unfolding receiverOf
-  to-woken e = rw e
-
-  pub to-nobody : (c ≡ 0x21 → ⊥) → (c ≡ 0x25 → ⊥) → (c ≡ 0x2A → ⊥) → receiverOf c p w ≡ 0xFF
-  unfolding receiverOf
-  to-nobody i j k = rw (ne-eqb c 0x21 i, ne-eqb c 0x25 j, ne-eqb c 0x2A k)
 
 size-kept : (e : Ledger) (x : Entry) → length (enter e x .phases) ≡ length (e .phases)
 unfolding enter phasesAfter

@@ -2,13 +2,13 @@
 -- once. By induction on n: the last party is put among the others, whose order stays, and moves
 -- those behind it down by one.
 use Prim.Native.Nat.{ℕ, zero, suc, _+_, _≤_, _<_}
-use mathlib.Core.Path.{_≡_, refl, ap}
-use mathlib.Core.Bool.{true, false, _&&_, _||_}
+use mathlib.Core.Path.{_≡_, refl, ap, _∙_}
+use mathlib.Core.Bool.{true, false}
 use mathlib.Core.Logic.{_⊎_, inl, inr}
 use native.Mathlib.Decide.{ℕ-discrete, decLe}
 use native.Mathlib.Omega.{arith}
 use borrow.Author.Tests.{lt-ltb, le-ltb, eq-eqb, ne-eqb}
-use lib.Dec.{ltb, eqb}
+use lib.Dec.{ltb}
 use Rattle.hub.specs.Basics.{bit}
 use Rattle.billing.specs.Counting.{sum, countBelow}
 use Rattle.billing.specs.Sharing.{precedes, rank}
@@ -16,22 +16,29 @@ use Rattle.billing.proofs.Laws.Sums.{bit-most, bit-true, bit-false, sum
 use Rattle.billing.proofs.Laws.Sums.{count-most}
 
 -- The order, as a fact.
-abbrev Ahead : ℕ → ℕ → ℕ → ℕ → Type 0
+abbrev pub Ahead : ℕ → ℕ → ℕ → ℕ → Type 0
 Ahead r q s p = (s < r) ⊎ ((r ≡ s) × (q < p))
 
-ahead : (r q s p : ℕ) → Ahead r q s p → precedes r q s p ≡ true
+pub tied : (r q s p : ℕ) → r ≡ s → precedes r q s p ≡ ltb q p
+unfolding precedes
+tied r q s p e = rw (le-ltb s r (omega arith), eq-eqb r s e)
+
+pub smaller : (r q s p : ℕ) → r ≤ s → (r ≡ s → ⊥) → precedes r q s p ≡ false
+unfolding precedes
+smaller r q s p h e = rw (le-ltb s r h, ne-eqb r s e)
+
+pub ahead : (r q s p : ℕ) → Ahead r q s p → precedes r q s p ≡ true
 unfolding precedes
 ahead r q s p (inl h) = rw (lt-ltb s r h)
-ahead r q s p (inr h) = rw (le-ltb s r (omega arith), eq-eqb r s (h .0), lt-ltb q p (h .1))
+ahead r q s p (inr h) = tied r q s p (h .0) ∙ lt-ltb q p (h .1)
 
 not-ahead : (r q s p : ℕ) → (Ahead r q s p → ⊥) → precedes r q s p ≡ false
-unfolding precedes
 not-ahead r q s p n = go (decLe r s) (ℕ-discrete r s) (decLe p q)
   where
-    go : Dec (r ≤ s) → Dec (r ≡ s) → Dec (p ≤ q) → ltb s r || (eqb r s && ltb q p) ≡ false
+    go : Dec (r ≤ s) → Dec (r ≡ s) → Dec (p ≤ q) → precedes r q s p ≡ false
     go (no h) e d = absurd (n (inl (omega arith)))
-    go (yes h) (no e) d = rw (le-ltb s r h, ne-eqb r s e)
-    go (yes h) (yes e) (yes d) = rw (le-ltb s r h, eq-eqb r s e, le-ltb q p d)
+    go (yes h) (no e) d = smaller r q s p h e
+    go (yes h) (yes e) (yes d) = tied r q s p e ∙ le-ltb q p d
     go (yes h) (yes e) (no d) = absurd (n (inr (e, omega arith)))
 
 -- A test of numbers that another one amounts to.
