@@ -1,6 +1,7 @@
 -- What holds of every bill, and of the lines of every schedule.
 use Prim.Native.Nat.{ℕ, _+_, _*_, _≤_, _<_}
 use mathlib.Core.Path.{_≡_}
+use mathlib.Core.Bool.{Bool}
 use mathlib.Core.List.{List, [], _∷_, map}
 use Rattle.hub.specs.declared.answers.Answer.{Answer}
 use Rattle.hub.specs.declared.moves.Call.{Call}
@@ -29,8 +30,11 @@ EveryBill = (t : Terms) → 1 ≤ t .parties → Fair t
 
 -- "The links counted are its 26 and 27 lines plus the holders at its end": so much of a schedule
 -- and its replies, in bytes.
+abbrev pub isReturn : ℕ → Bool
+isReturn code = among (0x26 ∷ 0x27 ∷ []) code
+
 unfoldable pub returns : List ℕ → ℕ
-returns l = countBelow (λ i. among (0x26 ∷ 0x27 ∷ []) (codeAt l i)) (linesIn l)
+returns l = countBelow (λ i. isReturn (codeAt l i)) (linesIn l)
 
 abbrev pub partiesOf : Schedule → ℕ
 partiesOf unstarted = 0

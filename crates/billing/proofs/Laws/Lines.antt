@@ -5,12 +5,12 @@ use mathlib.Core.List.{List, [], _∷_}
 use native.Mathlib.Omega.{arith}
 use lib.Dec.{eqb, ltb}
 use lib.ListN.{getD}
-use Rattle.hub.specs.Basics.{among, bit, weight}
+use Rattle.hub.specs.Basics.{bit, weight}
 use Rattle.line.specs.Form.{asBytes}
 use Rattle.line.specs.Program.{Reply, rendered}
 use Rattle.billing.specs.Counting.{sum, linesIn, codeAt, partyAt, wokenAt, receiverOf, grants}
 use Rattle.billing.specs.Counting.{grantsOf}
-use Rattle.billing.specs.Promises.{returns}
+use Rattle.billing.specs.Promises.{isReturn, returns}
 use Rattle.billing.proofs.Laws.Sums.{sum-same, sum-add, sum-const, sum-front, count-one}
 
 -- Two sums in either order.
@@ -65,7 +65,7 @@ abbrev pub granting : ℕ → ℕ → ℕ → ℕ → ℕ
 granting n c p w = bit (ltb (receiverOf c p w) n)
 
 abbrev pub returning : ℕ → ℕ → ℕ → ℕ
-returning c p w = bit (among (0x26 ∷ 0x27 ∷ []) c)
+returning c p w = bit (isReturn c)
 
 pub grants-tally : (n : ℕ) (l : List ℕ) → sum (grantsOf l) n ≡ tally (granting n) l
 unfolding grantsOf grants
