@@ -34,10 +34,10 @@ pub struct Terms {
 }
 
 // The exact portions, rounded down and what remains of each, and the cents left over.
-pub struct Portions {
-    pub cents: [u32; 32],
-    pub remainders: [u64; 32],
-    pub left: u32,
+struct Portions {
+    cents: [u32; 32],
+    remainders: [u64; 32],
+    left: u32,
 }
 
 // An answer, and the parties' shares in cents: 0 from n up, and of a refused bill.
