@@ -27,7 +27,7 @@ use Rattle.line.proofs.Laws.Lines.{byte-both, spells, byte-is, one-more, none, 
 use Rattle.frame.specs.Schedule.{openingFrame, Spelled}
 
 -- What holds of all the numbers in a row holds of each.
-one-of : (f : ℕ → Bool) (n i j : ℕ) → allFrom f i n ≡ true → i ≤ j → j < i + n → f j ≡ true
+pub one-of : (f : ℕ → Bool) (n i j : ℕ) → allFrom f i n ≡ true → i ≤ j → j < i + n → f j ≡ true
 unfolding allFrom
 one-of f zero i j e a b = absurd (omega arith)
 one-of f (suc n) i j e a b =

@@ -1,0 +1,9 @@
+pub mod Sums
+pub mod Tables
+pub mod Counting
+pub mod Ranks
+pub mod Shares
+pub mod Bytes
+pub mod Answers
+pub mod Lines
+pub mod Holders
