@@ -46,10 +46,15 @@ Own m = isLeftOut m ≡ false
 
 -- The rows of the table.
 module _ (s : Sight) where
-  acquiring : (b : Bool) → Own (stepAcquiring b s)
+  acquiring : (x : Phase) (b : Bool) → Own (stepAcquiring x b s)
   unfolding stepAcquiring
-  acquiring true = refl
-  acquiring false = refl
+  acquiring x true = refl
+  acquiring x false = refl
+
+  ticketed : (x : Phase) (t : ℕ) → Own (stepTicketed x t (s .seat .place) s)
+  unfolding stepTicketed
+  ticketed x t =
+      places-alike (λ a. isLeftOut (stepTicketed x t a s)) (λ a. false) (λ q. refl) (s .seat .place)
 
   releasing : (b : Bool) → Own (stepReleasing b s)
   unfolding stepReleasing
@@ -81,14 +86,13 @@ module _ (s : Sight) where
   fetching false = refl
 
   own-in : (x : Phase) → Own (stepIn x s)
-  unfolding stepIn stepSuspending stepTicketed stepResuming stepCancelling stepRefusing stepStoring
+  unfolding stepIn stepSuspending stepResuming stepCancelling stepRefusing stepStoring
   own-in Phase.Free = refl
   own-in Phase.Holding = refl
   own-in (Phase.Waiting t) = refl
-  own-in Phase.Acquiring = acquiring _
+  own-in Phase.Acquiring = acquiring _ _
   own-in Phase.Suspending = refl
-  own-in (Phase.Ticketed t) =
-      places-alike (λ a. isLeftOut (stepTicketed t a s)) (λ a. false) (λ q. refl) (s .seat .place)
+  own-in (Phase.Ticketed t) = ticketed _ t
   own-in (Phase.Aborting t) = aborting t _
   own-in (Phase.Cancelling t) =
       places-alike (λ a. isLeftOut (stepCancelling t a s)) (λ a. false) (λ q. refl) (s .seat .place)
@@ -99,6 +103,9 @@ module _ (s : Sight) where
   own-in (Phase.ResumingAt t) = resuming t _
   own-in Phase.Fetching = fetching _
   own-in Phase.Storing = refl
+  own-in Phase.AcquiringMarked = acquiring _ _
+  own-in Phase.SuspendingMarked = refl
+  own-in (Phase.TicketedMarked t) = ticketed _ t
 
 own-acquire : (a b full : Bool) (s : Sight) → Own (acquire a b full s)
 unfolding acquire
@@ -107,11 +114,11 @@ own-acquire true true full s = refl
 own-acquire true false true s = refl
 own-acquire true false false s = refl
 
-own-cancel : (a k : Bool) (t : ℕ) (s : Sight) → Own (cancel a k t s)
+own-cancel : (a k : Bool) (x : Phase) (s : Sight) → Own (cancel a k x s)
 unfolding cancel
-own-cancel false k t s = refl
-own-cancel true true t s = refl
-own-cancel true false t s = refl
+own-cancel false k x s = refl
+own-cancel true true x s = refl
+own-cancel true false x s = refl
 
 own-release : (a : Bool) (s : Sight) → Own (release a s)
 unfolding release
