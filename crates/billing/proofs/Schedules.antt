@@ -93,7 +93,7 @@ low (x ∷ l) c e i = go (eqb c x) refl (low l c (second (ltb x 0x20) _ e)) i
     go false z later j = later j
 
 left-out-low : (c : ℕ) → leftOut c ≡ true → c < 0x20
-left-out-low c e = low (2 ∷ 3 ∷ 12 ∷ 13 ∷ []) c refl e
+left-out-low c e = low (2 ∷ 3 ∷ 12 ∷ 13 ∷ 14 ∷ []) c refl e
 
 module _ (worth : Reply → ℕ) (none : (r : Reply) → r .answer .code < 0x20 → worth r ≡ 0) where
   kept-worth : (rs : List Reply) → weight worth rs ≡ weight worth (kept rs)

@@ -20,20 +20,22 @@ use Rattle.hub.specs.Answers.{printed}
 use Rattle.hub.specs.Basics.{among, bit, count, weight, allFrom}
 use Rattle.hub.specs.Calls.{called}
 use Rattle.hub.specs.Demand3.{Accounts, Demand3, ReachedFits}
-use Rattle.hub.specs.Fits.{fits, figuresFit, partyFits, ticketFits}
+use Rattle.hub.specs.Fits.{fits, figuresFit, partyFits, placeFits, placeListed, ticketFits}
 use Rattle.hub.specs.Ledger.{Ledger, opened, ledger, enter, succeeded, phaseIn, phaseAfter, phasesAfter}
 use Rattle.hub.specs.Ledger.{gives, takes}
+use Rattle.hub.specs.Look.{look}
 use Rattle.hub.specs.Opening.{fresh, opening}
 use Rattle.hub.specs.Phases.{isFree, isOneOf, holds}
 use Rattle.hub.specs.Record.{PARTIES, readSlot}
+use Rattle.hub.specs.Ring.{PLACES}
 use Rattle.hub.specs.Schedule.{Entry, run, entries}
 use Rattle.hub.proofs.Demand3.{in-range, demand3, every-record-fits}
 use Rattle.hub.proofs.Laws.Bools.{first, second, if-true, if-false}
 use Rattle.hub.proofs.Laws.Lists.{weight-set}
 use Rattle.hub.proofs.Laws.Opening.{kept-opening}
 use Rattle.hub.proofs.Laws.Phases.{one-of}
+use Rattle.hub.proofs.Laws.Ranges.{one-true}
 use Rattle.hub.proofs.Laws.Slots.{read-phase}
-use Rattle.frame.proofs.Laws.Written.{one-of as each-one}
 use Rattle.billing.specs.Counting.{receiverOf}
 use Rattle.billing.proofs.Laws.Counting.{to-party, to-woken, to-nobody}
 use Rattle.billing.proofs.Laws.Lines.{granting}
@@ -73,12 +75,18 @@ unfolding fits partyFits
 free-beyond h e p n b =
     let figures = figuresFit (h .opening) (h .figures) (h .oldest) in
     let parties = allFrom (partyFits h) 0 PARTIES in
-    let all = second figures parties (first (figures && parties) _ e) in
+    let places = allFrom (placeFits h) (h .oldest) PLACES in
+    let all =
+    second figures parties (first (figures && parties) places (first (figures && parties && places) _ e)) in
     let f = readSlot (h .slots) p .phase in
     let there = ltb p (h .opening .parties) || isFree f in
     let tickets = ticketFits (h .figures) (h .oldest) f in
+    let listed = placeListed f (look h p .seat .place) in
     absent (ltb p (h .opening .parties)) (le-ltb p _ n)
-    (first there tickets (first (there && tickets) _ (each-one (partyFits h) PARTIES 0 p all (omega arith) b)))
+    (first there tickets
+    (first (there && tickets) listed
+    (first (there && tickets && listed) _
+    (one-true (partyFits h) 0 PARTIES p all (omega arith) (omega arith)))))
   where
     absent : (a : Bool) {b : Bool} → a ≡ false → a || b ≡ true → b ≡ true
     absent true e i = let z : _≡_ {A = ℕ} 0 1 = cc in absurd (omega arith)

@@ -17,6 +17,7 @@ use Rattle.hub.specs.Opening.{opening, sized, withRadios}
 use Rattle.hub.specs.Radios.{radiosOf}
 use Rattle.hub.proofs.Demand3.{InRange, in-range}
 use Rattle.hub.proofs.Laws.Bools.{first, second, if-true, if-false}
+use Rattle.hub.proofs.Laws.Ranges.{one-true}
 use Rattle.hub.proofs.Radios.Length.{radios-length}
 use Rattle.line.specs.Frame.{isCall, codeOf}
 use Rattle.line.specs.Hex.{digitOf, byteOf, charOf, hexOf, textOf}
@@ -25,22 +26,6 @@ use Rattle.line.specs.Requests.{malformed, toOpen, toCall, allDigits, bytesOf, 
 use Rattle.line.proofs.Laws.Codes.{is-call, op-back}
 use Rattle.line.proofs.Laws.Lines.{byte-both, spells, byte-is, one-more, none, readable}
 use Rattle.frame.specs.Schedule.{openingFrame, Spelled}
-
--- What holds of all the numbers in a row holds of each.
-pub one-of : (f : ℕ → Bool) (n i j : ℕ) → allFrom f i n ≡ true → i ≤ j → j < i + n → f j ≡ true
-unfolding allFrom
-one-of f zero i j e a b = absurd (omega arith)
-one-of f (suc n) i j e a b =
-    go (eqb i j) refl
-    (λ m. one-of f n (suc i) j (second (f i) (allFrom f (suc i) n) e) m (omega arith))
-  where
-    go : (t : Bool) → eqb i j ≡ t → (suc i ≤ j → f j ≡ true) → f j ≡ true
-    go true t later =
-        subst (λ (x : ℕ). f x ≡ true) (eqb-true i j t) (first (f i) (allFrom f (suc i) n) e)
-    go false t later = later (above (eqb-false i j t))
-      where
-        above : (i ≡ j → ⊥) → suc i ≤ j
-        above m = omega arith
 
 -- The character of a digit is read as that digit, and ends no line.
 good : ℕ → Bool
@@ -52,7 +37,7 @@ all-good = refl
 
 module _ (d : ℕ) (l : d < 16) where
   it-is : good d ≡ true
-  it-is = one-of good 16 0 d all-good (omega arith) (omega arith)
+  it-is = one-true good 0 16 d all-good (omega arith) (omega arith)
 
   pub digit-back : digitOf (charOf d) ≡ d
   unfolding good
