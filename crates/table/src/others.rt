@@ -41,11 +41,14 @@ pub fn decide_acquire(full: bool, s: Sight) -> Effect
     acted(Phase::Acquiring, counted, Answer::Accepted, s)
 }
 
-// A give-up that the phase allows: kind 3 may not.
-fn cancel_to(next: Phase, s: Sight) -> Effect
-    ensures { λ r. ⌜ r ≡ effectOf (cancel true (eqb (s .kind) 3) next s) s ⌝ }
+// Can a party of this phase give up? 9, before kind 3 is looked at, 10.
+fn cancel_to(can: bool, next: Phase, s: Sight) -> Effect
+    ensures { λ r. ⌜ r ≡ effectOf (cancel can (eqb (s .kind) 3) next s) s ⌝ }
 {
     let kind = s.kind;
+    if !can {
+        return refused(Refusal::NotWaiting, s);
+    }
     if kind == 3 {
         return refused(Refusal::NotCancellable, s);
     }
@@ -60,10 +63,10 @@ fn cancel_early(s: Sight) -> Effect
     let slot = s.slot;
     let phase = slot.phase;
     match phase {
-        Phase::Acquiring => cancel_to(Phase::AcquiringMarked, s),
-        Phase::Suspending => cancel_to(Phase::SuspendingMarked, s),
-        Phase::Ticketed(t) => cancel_to(Phase::TicketedMarked(t), s),
-        _ => refused(Refusal::NotWaiting, s),
+        Phase::Acquiring => cancel_to(true, Phase::AcquiringMarked, s),
+        Phase::Suspending => cancel_to(true, Phase::SuspendingMarked, s),
+        Phase::Ticketed(t) => cancel_to(true, Phase::TicketedMarked(t), s),
+        _ => cancel_to(false, phase, s),
     }
 }
 
@@ -75,7 +78,7 @@ pub fn decide_cancel(s: Sight) -> Effect
     let Phase::Waiting(t) = phase else {
         return cancel_early(s);
     };
-    cancel_to(Phase::Aborting(t), s)
+    cancel_to(true, Phase::Aborting(t), s)
 }
 
 pub fn decide_release(s: Sight) -> Effect

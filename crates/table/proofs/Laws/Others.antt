@@ -9,7 +9,7 @@ use Rattle.hub.specs.declared.moves.Sight.{Sight}
 use Rattle.hub.specs.declared.record.Phase.{Phase}
 use Rattle.hub.specs.Moves.{Move, Refuse, Tell}
 use Rattle.hub.specs.Phases.{hasRadio}
-use Rattle.hub.specs.Table.{acquire, canCancel, cancel, decide, givenUp, tellRadio}
+use Rattle.hub.specs.Table.{acquire, canCancel, cancel, decide, givenUp, tellRadio, turn}
 use Rattle.table.specs.declared.effect.Effect.{Effect}
 use Rattle.table.specs.Effect.{effectOf}
 
@@ -22,7 +22,21 @@ module _ (a b full : Bool) (s : Sight) where
   unfolding acquire
   full-up e f g = rw (e, f, g)
 
--- Give up: what a phase that is known leads to; a phase in which nobody can give up.
+-- Give up: a phase in which nobody can; kind 3; any other kind.
+module _ (can three : Bool) (x : Phase) (s : Sight) where
+  pub cannot : can ≡ false → cancel can three x s ≡ Refuse Refusal.NotWaiting
+  unfolding cancel
+  cannot e = rw e
+
+  pub may-not : can ≡ true → three ≡ true → cancel can three x s ≡ Refuse Refusal.NotCancellable
+  unfolding cancel
+  may-not e f = rw (e, f)
+
+  pub may : can ≡ true → three ≡ false → cancel can three x s ≡ turn x Answer.Accepted s
+  unfolding cancel
+  may e f = rw (e, f)
+
+-- What a phase that is known leads to; a phase in which nobody can give up.
 module _ (s : Sight) where
   pub gives-up : {f : Phase} {e : Effect} → s .slot .phase ≡ f
       → e ≡ effectOf (cancel (canCancel f) (eqb (s .kind) 3) (givenUp f) s) s
@@ -31,10 +45,10 @@ module _ (s : Sight) where
   gives-up i h =
       h ∙ ap (λ (x : Phase). effectOf (cancel (canCancel x) (eqb (s .kind) 3) (givenUp x) s) s) (sym i)
 
-  pub not-waiting : canCancel (s .slot .phase) ≡ false
-      → decide Op.Cancel false s ≡ Refuse Refusal.NotWaiting
+  pub not-waiting : (x : Phase) → canCancel (s .slot .phase) ≡ false
+      → decide Op.Cancel false s ≡ cancel false (eqb (s .kind) 3) x s
   unfolding decide cancel
-  not-waiting e = rw e
+  not-waiting x e = rw e
 
 -- Which radio: none on a hub without radios, nor in a phase without one.
 module _ (s : Sight) where
