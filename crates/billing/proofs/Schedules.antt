@@ -24,9 +24,9 @@ use Rattle.hub.proofs.Laws.Lists.{weight-map, weight-replicate}
 use Rattle.line.specs.Form.{asBytes}
 use Rattle.line.specs.Program.{unopened, Reply, replyOf, replies, rendered, linesOf}
 use Rattle.line.specs.Requests.{requestOf}
-use Rattle.frame.specs.Schedule.{Schedule, unstarted, started, repliesOf, leftBy, Holds, scheduleOf}
-use Rattle.frame.specs.Schedule.{leftOut, kept, EveryInput}
-use Rattle.frame.proofs.Laws.Every.{every-input}
+use Rattle.outputs.specs.Schedule.{Schedule, unstarted, started, repliesOf, leftBy, Holds, scheduleOf}
+use Rattle.outputs.specs.Schedule.{leftOut, kept, EveryInput}
+use Rattle.outputs.proofs.Laws.Every.{every-input}
 use Rattle.billing.specs.Counting.{receiverOf}
 use Rattle.billing.specs.Promises.{partiesOf, Balanced, EverySchedule, EveryOutput}
 use Rattle.billing.proofs.Laws.Counting.{to-nobody}

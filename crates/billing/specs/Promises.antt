@@ -13,7 +13,7 @@ use Rattle.hub.specs.Record.{phasesOf}
 use Rattle.line.specs.Form.{asBytes}
 use Rattle.line.specs.Program.{unopened, Reply, replies, rendered, linesOf}
 use Rattle.line.specs.Requests.{requestOf}
-use Rattle.frame.specs.Schedule.{Schedule, unstarted, started, repliesOf, leftBy, scheduleOf}
+use Rattle.outputs.specs.Schedule.{Schedule, unstarted, started, repliesOf, leftBy, scheduleOf}
 use Rattle.billing.specs.declared.Terms.{Terms}
 use Rattle.billing.specs.Counting.{sum, countBelow, linesIn, codeAt, grantsOf}
 use Rattle.billing.specs.Sharing.{weight, whole, share}

@@ -12,8 +12,8 @@ use Rattle.line.specs.Program.{unopened, isOpen, Reply, beforeOpen, after}
 use Rattle.line.specs.Requests.{Request, requestOf}
 use Rattle.batch.specs.Batch.{Reachable}
 use Rattle.frame.specs.declared.opening.Begun.{Begun}
-use Rattle.frame.specs.declared.reader.Reader.{Reader}
-use Rattle.frame.specs.Reading.{lineIn, next, past, asked}
+use Rattle.reader.specs.declared.Reader.{Reader}
+use Rattle.reader.specs.Reading.{lineIn, next, past, asked}
 
 -- The record of a session: no hub is open yet, or it is reached from its opening.
 abbrev pub SessionHub : Hub → Type 0

@@ -1,6 +1,5 @@
 // A whole input to a whole output, in pieces of any size.
 
-pub mod reader; // lines out of pieces
 pub mod opening; // lines before a hub is open
 mod closing; // the closing line
 pub mod session; // a run over pieces

@@ -1,7 +1,5 @@
 // Lines before a hub is open. Each is answered by itself, and the one that opens the hub is the last.
 
-use crate::reader::Reader;
-use crate::reader::read_piece;
 use hub::Hub;
 use hub::opening::open_hub;
 use line::answer::plain;
@@ -11,6 +9,8 @@ use line::request::OPENING;
 use line::request::read_opening;
 use line::text::put_line;
 use line::values;
+use reader::Reader;
+use reader::read_piece;
 ghost use mathlib.Core.Path.{_≡_};
 ghost use mathlib.Core.Bool.{true};
 ghost use mathlib.Core.List.{_++_};
@@ -20,7 +20,7 @@ ghost use Rattle.line.specs.Form.{asText};
 ghost use Rattle.line.specs.Program.{beforeOpen, isOpen, repliesIn, replyIn};
 ghost use Rattle.line.specs.Requests.{isOpening, requestOf};
 ghost use Rattle.frame.specs.Opening.{SessionHub, begunBy, early, refusal};
-ghost use Rattle.frame.specs.Reading.{KEPT, asked};
+ghost use Rattle.reader.specs.Reading.{KEPT, asked};
 
 // What the first characters of a piece lead to: those until a hub is open, or all of them.
 pub struct Begun {

@@ -3,21 +3,21 @@
 use crate::closing::put_closing;
 use crate::opening::is_open;
 use crate::opening::until_open;
-use crate::reader::KEPT;
-use crate::reader::Reader;
-use crate::reader::read_piece;
 use batch::answer_requests;
 use hub::Hub;
 use hub::opening::sized;
 use line::form::TEXT;
 use line::values;
+use reader::KEPT;
+use reader::Reader;
+use reader::read_piece;
 ghost use mathlib.Core.Path.{_≡_};
 ghost use mathlib.Core.List.{_++_};
 ghost use Prim.Native.Nat.{suc, _*_, _≤_};
 ghost use lib.ListN.{length, drop};
 ghost use Rattle.batch.specs.Batch.{Reachable};
 ghost use Rattle.frame.specs.Opening.{askedOpen};
-ghost use Rattle.frame.specs.Reading.{KEPT, asked, written};
+ghost use Rattle.reader.specs.Reading.{KEPT, asked, written};
 ghost use Rattle.frame.specs.Session.{Sound, atStart, fed, finished, rest, told};
 
 // The record, and the line that is being read.

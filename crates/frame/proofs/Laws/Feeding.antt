@@ -23,17 +23,17 @@ use Rattle.line.proofs.Laws.Parts.{parts, put-length}
 use Rattle.line.proofs.Laws.Schedules.{respond-open, still-open}
 use Rattle.batch.specs.Batch.{requestFor, requestsIn, replied, Reachable}
 use Rattle.batch.proofs.Laws.Reachable.{reachable-open}
-use Rattle.frame.specs.declared.reader.Read.{Read}
-use Rattle.frame.specs.declared.reader.Reader.{Reader}
+use Rattle.reader.specs.declared.Read.{Read}
+use Rattle.reader.specs.declared.Reader.{Reader}
 use Rattle.frame.specs.declared.session.Fed.{Fed}
 use Rattle.frame.specs.declared.session.Session.{Session}
 use Rattle.frame.specs.declared.opening.Begun.{Begun}
 use Rattle.frame.specs.Opening.{openAt, early, late, begunBy, askedOpen}
-use Rattle.frame.specs.Reading.{KEPT, lineIn, past, asked}
-use Rattle.frame.specs.Reading.{requestBytes, written}
+use Rattle.reader.specs.Reading.{KEPT, lineIn, past, asked}
+use Rattle.reader.specs.Reading.{requestBytes, written}
 use Rattle.frame.specs.Session.{atStart, fed, told, rest, finished, Sound}
 use Rattle.frame.proofs.Laws.Opening.{session-open, after-session, open-few, all-read}
-use Rattle.frame.proofs.Laws.Pieces.{past-kept}
+use Rattle.reader.proofs.Laws.Pieces.{past-kept}
 use Rattle.frame.proofs.Laws.Sessions.{lines, asked-append, fed-append, told-append}
 use Rattle.frame.proofs.Laws.Sizes.{replies-size, asked-few}
 

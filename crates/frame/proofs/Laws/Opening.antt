@@ -29,12 +29,12 @@ use Rattle.line.proofs.Laws.Schedules.{respond-before}
 use Rattle.batch.specs.Batch.{Reachable}
 use Rattle.batch.proofs.Laws.Reachable.{reachable-open, opening-reachable, response-reachable}
 use Rattle.frame.specs.declared.opening.Begun.{Begun}
-use Rattle.frame.specs.declared.reader.Read.{Read}
-use Rattle.frame.specs.declared.reader.Reader.{Reader}
+use Rattle.reader.specs.declared.Read.{Read}
+use Rattle.reader.specs.declared.Reader.{Reader}
 use Rattle.frame.specs.Opening.{SessionHub, refusal, opensHub, untilOpen, openAt, early, begunBy}
-use Rattle.frame.specs.Reading.{lineIn, next, past, asked}
-use Rattle.frame.specs.Reading.{headerBytes, requestBytes, written}
-use Rattle.frame.proofs.Laws.Pieces.{Kept, past-kept}
+use Rattle.reader.specs.Reading.{lineIn, next, past, asked}
+use Rattle.reader.specs.Reading.{headerBytes, requestBytes, written}
+use Rattle.reader.proofs.Laws.Pieces.{Kept, past-kept}
 use Rattle.frame.proofs.Laws.Sessions.{lines, replies-append, after-append}
 use Rattle.frame.proofs.Laws.Sessions.{past-append, asked-append}
 use Rattle.frame.proofs.Laws.Sizes.{replies-size, asked-few}

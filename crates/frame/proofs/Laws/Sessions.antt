@@ -11,9 +11,9 @@ use Rattle.line.specs.Form.{asText}
 use Rattle.line.specs.Program.{respond, replies, after, replyIn, rendered, repliesIn}
 use Rattle.line.specs.Program.{closing, linesOf, outputOf}
 use Rattle.line.specs.Requests.{Request, requestOf}
-use Rattle.frame.specs.declared.reader.Reader.{Reader}
+use Rattle.reader.specs.declared.Reader.{Reader}
 use Rattle.frame.specs.declared.session.Session.{Session}
-use Rattle.frame.specs.Reading.{KEPT, lineIn, next, past, asked}
+use Rattle.reader.specs.Reading.{KEPT, lineIn, next, past, asked}
 use Rattle.frame.specs.Session.{atStart, fed, told, rest, finished, toldAll, joined, InPieces}
 use Rattle.frame.proofs.Laws.Lines.{lines-read}
 

@@ -15,8 +15,8 @@ use Rattle.line.specs.Form.{asText}
 use Rattle.line.specs.Program.{unopened, respond, replies, after, rendered, repliesIn, closing}
 use Rattle.line.specs.Program.{linesFrom, linesOf, outputOf}
 use Rattle.line.specs.Requests.{Request, requestOf}
-use Rattle.frame.specs.declared.reader.Reader.{Reader}
-use Rattle.frame.specs.Reading.{next, asked}
+use Rattle.reader.specs.declared.Reader.{Reader}
+use Rattle.reader.specs.Reading.{next, asked}
 
 pub replies-size : (rs : List Request) (h : Hub) → length (repliesIn asText h rs) ≡ 15 * length rs
 unfolding replies rendered

@@ -13,7 +13,7 @@ use Rattle.line.specs.Program.{after, closing, linesOf, outputOf}
 use Rattle.frame.specs.declared.session.Fed.{Fed}
 use Rattle.frame.specs.declared.session.Session.{Session}
 use Rattle.frame.specs.Opening.{askedOpen}
-use Rattle.frame.specs.Reading.{asked}
+use Rattle.reader.specs.Reading.{asked}
 use Rattle.frame.specs.Session.{atStart, fed, told, rest, finished, Sound}
 use Rattle.frame.specs.Whole.{hasRoom, size, filled}
 use Rattle.hub.proofs.Laws.Bools.{if-true, if-false}

@@ -10,12 +10,12 @@ use Rattle.line.proofs.Laws.Parts.{put-length}
 use Rattle.line.specs.Form.{asText}
 use Rattle.line.specs.Program.{unopened, isOpen, beforeOpen, replyIn}
 use Rattle.line.specs.Requests.{Request, requestOf, isOpening}
-use Rattle.frame.specs.Reading.{lineIn}
+use Rattle.reader.specs.Reading.{lineIn}
 use Rattle.frame.proofs.Laws.Opening.{session-shut, refused-line, opening-header}
 use Rattle.frame.proofs.Laws.Opening.{already-open, Upto, start, ended, at-most-one}
 use Rattle.frame.proofs.Laws.Opening.{within-line, room-for-one, code-is, party-is}
 use Rattle.frame.proofs.Laws.Opening.{onward, opened}
-use Rattle.frame.proofs.Laws.Pieces.{whole}
+use Rattle.reader.proofs.Laws.Pieces.{whole}
 use Rattle.frame.proofs.opening.until_open.Statement.{statement}
 use Rattle.frame.proofs.opening.until_open.Tie as tie
 

@@ -3,16 +3,16 @@ use borrow.Author.Needs.{needs}
 use Prim.Native.Nat.{ℕ, _+_, _-_, _*_, _≤_, _<_}
 use native.Mathlib.Omega.{arith}
 use lib.ListN.{length, getD, length-set}
-use Rattle.frame.proofs.Laws.Pieces.{Upto, start, whole, full, kept, onward}
-use Rattle.frame.proofs.Laws.Pieces.{line-room, line-end, end}
-use Rattle.frame.proofs.Laws.Calls.{Run, none, no-call, calls, run-room, one-more-call}
+use Rattle.reader.proofs.Laws.Pieces.{Upto, start, whole, full, kept, onward}
+use Rattle.reader.proofs.Laws.Pieces.{line-room, line-end, end}
+use Rattle.reader.proofs.Laws.Calls.{Run, none, no-call, calls, run-room, one-more-call}
 use borrow.Rule.Slice.PartMut.{putMid}
 use mathlib.Core.Path.{_≡_, refl, ap, _∙_}
 use mathlib.Core.List.{List, [], _∷_}
 use Rattle.line.specs.declared.request.Header.{Header}
 use Rattle.line.specs.Requests.{requestOf, headerOf}
-use Rattle.frame.proofs.reader.read_piece.Statement.{statement}
-use Rattle.frame.proofs.reader.read_piece.Tie as tie
+use Rattle.reader.proofs.read_piece.Statement.{statement}
+use Rattle.reader.proofs.read_piece.Tie as tie
 
 abbrev Inv-loop2 : tie.InvT-loop2
 Inv-loop2 values piece requests₀ line len count₀ i₀ c at end from requests count i =

@@ -13,10 +13,10 @@ use Rattle.line.specs.declared.request.Header.{Header}
 use Rattle.line.specs.Requests.{Request, requestOf, headerOf}
 use Rattle.line.proofs.Laws.Parts.{put-length, put-take, put-drop}
 use Rattle.hub.proofs.Laws.Bools.{if-true, if-false}
-use Rattle.frame.specs.declared.reader.Read.{Read}
-use Rattle.frame.specs.declared.reader.Reader.{Reader}
-use Rattle.frame.specs.Reading.{KEPT, lineIn, pushed, emptied, next, past, asked}
-use Rattle.frame.specs.Reading.{headerBytes, requestBytes, written}
+use Rattle.reader.specs.declared.Read.{Read}
+use Rattle.reader.specs.declared.Reader.{Reader}
+use Rattle.reader.specs.Reading.{KEPT, lineIn, pushed, emptied, next, past, asked}
+use Rattle.reader.specs.Reading.{headerBytes, requestBytes, written}
 
 -- After i characters, from the reader r₀ and the buffer out₀; n lines have ended.
 pub record Upto (r₀ : Reader) (piece out₀ : List ℕ) (r : Reader) (out : List ℕ) (n i : ℕ)

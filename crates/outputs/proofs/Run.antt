@@ -18,7 +18,7 @@ use Rattle.line.specs.Hex.{digitOf}
 use Rattle.line.specs.Requests.{allDigits, bytesOf, openingIn, requested, spelledBy, requestOf}
 use Rattle.line.specs.Program.{whenOpen, beforeOpen, respond, replies, after, rendered, linesFrom}
 use Rattle.line.specs.Program.{outputOf}
-use Rattle.frame.specs.Run.{inDigits, inputs, outputs, RunHolds}
+use Rattle.outputs.specs.Run.{inDigits, inputs, outputs, RunHolds}
 
 pub run-holds : RunHolds
 unfolding RunHolds inDigits inputs outputs digitOf allDigits bytesOf openingIn requested

@@ -12,9 +12,9 @@ use Rattle.hub.proofs.Laws.Bools.{if-true, if-false}
 use Rattle.line.specs.declared.request.Header.{Header}
 use Rattle.line.specs.Requests.{requestOf, headerOf}
 use Rattle.line.proofs.Laws.Lines.{NoFeed, call-feeds}
-use Rattle.frame.specs.declared.reader.Reader.{Reader}
-use Rattle.frame.specs.Reading.{KEPT, headerBytes}
-use Rattle.frame.proofs.Laws.Pieces.{Upto, kept, onward, line-room, line-end}
+use Rattle.reader.specs.declared.Reader.{Reader}
+use Rattle.reader.specs.Reading.{KEPT, headerBytes}
+use Rattle.reader.proofs.Laws.Pieces.{Upto, kept, onward, line-room, line-end}
 
 -- A reader's buffer with the four characters of a line.
 abbrev pub four : List ℕ → ℕ → ℕ → ℕ → ℕ → List ℕ

@@ -13,9 +13,9 @@ use Rattle.line.specs.Program.{replies, after, rendered, closing, linesFrom, li
 use Rattle.line.specs.Requests.{toOpen, toCall, requestOf}
 use Rattle.line.proofs.Laws.Schedules.{schedule-replies, schedule-after}
 use Rattle.batch.proofs.Laws.Reachable.{reachable-open, opening-reachable}
-use Rattle.frame.specs.Schedule.{callLines, openingFrame, inputOf, PartyBytes}
-use Rattle.frame.specs.Schedule.{PrintsSchedule}
-use Rattle.frame.proofs.Laws.Written.{line-read, call-back, opening-back}
+use Rattle.outputs.specs.Schedule.{callLines, openingFrame, inputOf, PartyBytes}
+use Rattle.outputs.specs.Schedule.{PrintsSchedule}
+use Rattle.outputs.proofs.Laws.Written.{line-read, call-back, opening-back}
 
 calls-asked : (cs : List Call) → PartyBytes cs
     → map requestOf (linesFrom [] (callLines cs)) ≡ map toCall cs

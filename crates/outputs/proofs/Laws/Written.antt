@@ -25,7 +25,7 @@ use Rattle.line.specs.Program.{linesFrom}
 use Rattle.line.specs.Requests.{malformed, toOpen, toCall, allDigits, bytesOf, openingIn, requested, requestOf}
 use Rattle.line.proofs.Laws.Codes.{is-call, op-back}
 use Rattle.line.proofs.Laws.Lines.{byte-both, spells, byte-is, one-more, none, readable}
-use Rattle.frame.specs.Schedule.{openingFrame, Spelled}
+use Rattle.outputs.specs.Schedule.{openingFrame, Spelled}
 
 -- The character of a digit is read as that digit, and ends no line.
 good : ℕ → Bool

@@ -1,8 +1,8 @@
 -- `put_header` meets its contract: what it writes fills its part of the buffer.
 use borrow.Author.Needs.{needs}
 use Rattle.line.proofs.Laws.Filled.{all-set}
-use Rattle.frame.proofs.reader.put_header.Statement.{statement}
-use Rattle.frame.proofs.reader.put_header.Tie as tie
+use Rattle.reader.proofs.put_header.Statement.{statement}
+use Rattle.reader.proofs.put_header.Tie as tie
 
 slice-write-out : tie.Need-slice-write-out
 slice-write-out c = search needs

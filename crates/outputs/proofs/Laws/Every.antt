@@ -33,9 +33,9 @@ use Rattle.line.specs.Program.{unopened, isOpen, Reply, replyOf, whenOpen, befo
 use Rattle.line.specs.Program.{replies, after, rendered, closing, linesOf, outputOf}
 use Rattle.line.specs.Requests.{Request, malformed, toOpen, toCall, requestOf}
 use Rattle.line.proofs.Laws.Schedules.{respond-open, respond-before, still-open}
-use Rattle.frame.specs.Schedule.{Schedule, started, repliesOf, leftBy, Holds}
-use Rattle.frame.specs.Schedule.{callsIn, scheduleOf, leftOut, kept, EveryInput}
+use Rattle.outputs.specs.Schedule.{Schedule, started, repliesOf, leftBy, Holds}
+use Rattle.outputs.specs.Schedule.{callsIn, scheduleOf, leftOut, kept, EveryInput}
 use Rattle.frame.proofs.Laws.Opening.{shut, stays-shut}
 
 -- No call is answered by 2, 3, 12, 13 or 14.
 abbrev isLeftOut : Move → Bool

@@ -8,7 +8,7 @@ ghost use mathlib.Core.Path.{_≡_};
 ghost use Prim.Native.Nat.{_*_, _≤_};
 ghost use lib.ListN.{length};
 ghost use Rattle.line.specs.Tables.{Values};
-ghost use Rattle.frame.specs.Reading.{KEPT, asked, headerBytes, past, written};
+ghost use Rattle.reader.specs.Reading.{KEPT, asked, headerBytes, past, written};
 
 // One character more than a line may have makes it too long, so that no more are kept.
 pub const KEPT: usize = LONGEST + 1;
@@ -36,12 +36,7 @@ fn put_header(out: &mut [u8], h: Header)
 // Reads a piece, and leaves what its lines ask, two bytes each. Behind a line, calls of four
 // characters are read by the table, five characters at a time; of the last one the characters are
 // kept, as they are of any line.
-pub(crate) fn read_piece(
-    values: &[u16; 256],
-    reader: Reader,
-    piece: &[u8],
-    requests: &mut [u8],
-) -> Read
+pub fn read_piece(values: &[u16; 256], reader: Reader, piece: &[u8], requests: &mut [u8]) -> Read
     requires { ⌜ Values (now values) ⌝ }
     requires { ⌜ reader .len ≤ KEPT ⌝ }
     requires { ⌜ 2 * length (asked reader (now piece)) ≤ length (now requests) ⌝ }

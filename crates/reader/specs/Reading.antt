@@ -6,7 +6,7 @@ use lib.Dec.{eqb, ltb}
 use lib.ListN.{length, take, drop, set}
 use Rattle.line.specs.declared.request.Header.{Header}
 use Rattle.line.specs.Requests.{LONGEST, Request, requestOf, headerOf}
-use Rattle.frame.specs.declared.reader.Reader.{Reader}
+use Rattle.reader.specs.declared.Reader.{Reader}
 
 -- One character more than a line may have makes it too long, and no more are kept.
 abbrev pub KEPT : ℕ

@@ -1,0 +1,4 @@
+-- Why it is so.
+pub mod Written
+pub mod Schedules
+pub mod Every
