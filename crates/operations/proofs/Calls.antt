@@ -200,3 +200,17 @@ module _ (h : Hub) (p : ℕ) (inside : p < length (h .slots)) (present : ltb p (
               (withSlots (written-twice (h .slots) p (record { phase = x }) (record { phase = x′ }) i)
               (figuresTo f h))));
         })
+
+  -- Where nothing is drawn to resume the tidying does nothing; and where no radio moves either, that is all.
+  module _ (tidy : Tidy (ringOf h)) (f : Figures) (x : Phase) (same : f .resumed ≡ h .figures .resumed) where
+    pub tidied-now : tidied (now f x) ≡ now f x
+    tidied-now = tidied-same (now f x) (subst (λ (n : ℕ). Tidy (ring n)) (sym same) tidy)
+      where
+        ring : ℕ → Ring
+        ring n = record { resumed = n; oldest = h .oldest; places = h .places }
+
+    pub quiet : (y : Answer) → moved (printed y) p (h .pool) ≡ h .pool
+        → withPool (radios y) (tidied (now f x)) ≡ now f x
+    quiet y e =
+        ap (λ (q : Pool). withPool q (tidied (now f x))) (still (h .opening .named) (printed y) p (h .pool) e)
+        ∙ ap (withPool (h .pool)) tidied-now

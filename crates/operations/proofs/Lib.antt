@@ -4,3 +4,4 @@ pub mod Rest  -- what is known of a hub at rest
 pub mod Reached  -- and why
 pub mod Walk  -- one party until it is at rest
 pub mod Calls  -- single calls
+pub mod Shapes  -- whole operations, one of each kind
