@@ -27,8 +27,8 @@ use Rattle.hub.specs.Look.{look, seenBy}
 use Rattle.hub.specs.Moves.{Change, Move, Refuse, Tell, Act, Put, Wake}
 use Rattle.hub.specs.Phases.{atRest, byTicket}
 use Rattle.hub.specs.Radios.{moved, poolAfter}
-use Rattle.hub.specs.Record.{freeSlot, readSlot, writeSlot}
-use Rattle.hub.specs.Ring.{Ring, reclaimed, writeSeat}
+use Rattle.hub.specs.Record.{emptySeat, freeSlot, readSlot, writeSlot}
+use Rattle.hub.specs.Ring.{Ring, readSeat, reclaimed, writeSeat}
 use Rattle.hub.specs.Schedule.{run}
 use Rattle.hub.specs.Table.{decide, stepIn}
 use Rattle.operations.specs.AtRest.{figuresTo, phaseTo, placeTo, radiosBy}
@@ -159,6 +159,11 @@ module _ (h : Hub) (p : ℕ) (inside : p < length (h .slots)) (present : ltb p (
 
   pub rests-now : (f : Figures) (x : Phase) {b : Bool} → atRest x ≡ b → rests (now f x) p ≡ b
   rests-now f x e = ap atRest (phase-now f x) ∙ e
+
+  pub seat-now : (f : Figures) (x : Phase)
+      → look (now f x) p .seat .place ≡ byTicket emptySeat (readSeat (h .places)) x .place
+  unfolding seenBy
+  seat-now f x = ap (λ (g : Phase). byTicket emptySeat (readSeat (h .places)) g .place) (phase-now f x)
 
   -- The call that begins an operation, before the tidying.
   pub begins : (o : Op) (f : Figures) (x : Phase) (y : Answer)

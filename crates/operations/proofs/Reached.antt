@@ -50,6 +50,7 @@ use Rattle.hub.proofs.Laws.Seats.{written-size}
 use Rattle.hub.proofs.Radios.Kept.{Kept}
 use Rattle.hub.proofs.Window.Shown.{Reached, has-place, high, low, read-same}
 use Rattle.operations.specs.AtRest.{OnRest}
+use Rattle.operations.proofs.Lists.{weight-only, weight-some}
 use Rattle.operations.proofs.Rest.{AtRest}
 use Rattle.operations.proofs.Ring.{Tidy, reclaimed-tidy}
 
@@ -85,29 +86,6 @@ run-more : (h : Hub) (cs ds : List Call) → run (run h cs) ds ≡ run h (cs ++ 
 unfolding run
 run-more h [] ds = refl
 run-more h (c ∷ cs) ds = run-more (called h c .hub) cs ds
-
--- A weight that is there is somewhere; and where it is at most 1, at one place alone.
-module _ {A : Type 0} (f : A → ℕ) (d : A) where
-  weight-some : (l : List A) → 1 ≤ weight f l → (i : ℕ) × (1 ≤ f (getD l i d))
-  unfolding weight
-  weight-some [] e = let z : ⊥ = omega arith in absurd z
-  weight-some (x ∷ l) e = go (decLe 1 (f x)) (weight-some l)
-    where
-      go : Dec (1 ≤ f x) → (1 ≤ weight f l → (i : ℕ) × (1 ≤ f (getD l i d)))
-          → (i : ℕ) × (1 ≤ f (getD (x ∷ l) i d))
-      go (yes z) ih = (0, z)
-      go (no z) ih = let y = ih (omega arith) in (suc (y .0), y .1)
-
-  weight-only : f d ≡ 0 → (l : List A) (i j : ℕ) → weight f l ≤ 1 → 1 ≤ f (getD l i d)
-      → 1 ≤ f (getD l j d) → i ≡ j
-  unfolding weight
-  weight-only z [] i j s a b = let w : ⊥ = omega arith in absurd w
-  weight-only z (x ∷ l) zero zero s a b = refl
-  weight-only z (x ∷ l) zero (suc j) s a b =
-      let w : ⊥ = omega (arith, weight-one f d z l j) in absurd w
-  weight-only z (x ∷ l) (suc i) zero s a b =
-      let w : ⊥ = omega (arith, weight-one f d z l i) in absurd w
-  weight-only z (x ∷ l) (suc i) (suc j) s a b = ap suc (weight-only z l i j (omega arith) a b)
 
 -- The three phases at rest.
 pub rest-cases : (f : Phase) → atRest f ≡ true
