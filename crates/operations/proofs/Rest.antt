@@ -1,12 +1,13 @@
 -- What is known of a record that a schedule reached and on which everybody is at rest.
 use Prim.Native.Nat.{ℕ, zero, suc, _+_, _≤_, _<_}
 use mathlib.Core.Path.{_≡_, refl, sym, ap, _∙_}
-use mathlib.Core.Bool.{true, false}
+use mathlib.Core.Bool.{Bool, true, false, _&&_}
 use mathlib.Core.List.{List}
 use mathlib.Core.Logic.{_⊎_, inl, inr}
 use native.Mathlib.Decide.{decLe}
 use native.Mathlib.Omega.{arith}
 use borrow.Author.Tests.{lt-ltb}
+use lib.Dec.{ltb}
 use lib.IntN.{ℤ, pos, negsuc}
 use lib.ListN.{length}
 use Rattle.hub.specs.declared.moves.Call.{Call}
@@ -23,7 +24,6 @@ use Rattle.hub.specs.Record.{PARTIES, phasesOf, readSlot}
 use Rattle.hub.specs.Ring.{PLACES, canRetire, canSkip, readPlace}
 use Rattle.hub.specs.Schedule.{run}
 use Rattle.hub.specs.Table.{aboveZero, belowZero}
-use Rattle.hub.proofs.Laws.Bools.{both}
 use Rattle.hub.proofs.Laws.Lists.{weight-one}
 use Rattle.hub.proofs.Laws.Phases.{one-of}
 use Rattle.hub.proofs.Laws.Slots.{read-phase}
@@ -81,7 +81,21 @@ pub wait-below : (z : ℤ) → 1 ≤ belowBy z → belowZero z ≡ true
 wait-below (pos n) i = let z : ⊥ = omega arith in absurd z
 wait-below (negsuc n) i = refl
 
+pub and-false : (b d : Bool) → d ≡ false → b && d ≡ false
+and-false true d i = i
+and-false false d i = refl
+
 module _ (h : Hub) (a : AtRest h) where
+  -- The next ticket to resume is not cancelled.
+  pub not-cancelled : isCancelled (readPlace (h .places) (h .figures .resumed)) ≡ false
+  not-cancelled =
+      left (ltb (h .figures .resumed) (h .oldest + PLACES)) _
+      (lt-ltb (h .figures .resumed) (h .oldest + PLACES) (omega (arith, a .oldest))) (a .unskipped)
+    where
+      left : (b d : Bool) → b ≡ true → b && d ≡ false → d ≡ false
+      left true d i j = j
+      left false d i j = let z : _≡_ {A = ℕ} 0 1 = cc in let w : ⊥ = omega arith in absurd w
+
   -- With somebody waiting the counter is below zero.
   pub waiting-below : (p t : ℕ) → readSlot (h .slots) p .phase ≡ Phase.Waiting t
       → belowZero (h .figures .counter) ≡ true
@@ -117,11 +131,8 @@ module _ (h : Hub) (a : AtRest h) where
 
       skips : readPlace (h .places) (h .figures .resumed) ≡ Place.Cancelled → ⊥
       skips z =
-          let i : canSkip (ringOf h) ≡ true =
-          both _ _
-          (lt-ltb (h .figures .resumed) (h .oldest + PLACES) (omega (arith, a .oldest)))
-          (ap isCancelled z) in
-          let y : _≡_ {A = ℕ} 0 1 = cc (a .unskipped) in omega arith
+          let i : true ≡ false = sym (ap isCancelled z) ∙ not-cancelled in
+          let y : _≡_ {A = ℕ} 0 1 = cc in omega arith
 
       go : (readPlace (h .places) (h .figures .resumed) ≡ Place.Cancelled)
           ⊎ ((p : ℕ) × (readSlot (h .slots) p .phase ≡ Phase.Waiting (h .figures .resumed)))

@@ -22,17 +22,21 @@ use Rattle.hub.specs.Calm.{rests, stepBy}
 use Rattle.hub.specs.Fits.{fits}
 use Rattle.hub.specs.Look.{look, seenBy}
 use Rattle.hub.specs.Moves.{Act}
-use Rattle.hub.specs.Phases.{atRest, isOneOf}
+use Rattle.hub.specs.Phases.{atRest, isCancelled, isDone, isOneOf, isPlaceOf, ticketOf}
 use Rattle.hub.specs.Radios.{fetch, moved, poolAfter}
-use Rattle.hub.specs.Table.{aboveZero, belowZero, stepAcquiring, stepFetching, stepIn, withBegun, withCounter}
-use Rattle.hub.specs.Table.{withPermit}
+use Rattle.hub.specs.Record.{readSlot}
+use Rattle.hub.specs.Ring.{PLACES, readPlace}
+use Rattle.hub.specs.Table.{aboveZero, belowZero, stepAborting, stepAcquiring, stepCancelling, stepFetching}
+use Rattle.hub.specs.Table.{stepIn, stepReleasing, stepStoring, stepSuspending, stepTicketed}
+use Rattle.hub.specs.Table.{withBegun, withCounter, withIssued, withPermit, withoutPermit}
+use Rattle.hub.proofs.Laws.Seats.{written-size}
 use Rattle.operations.specs.declared.Operated.{Operated}
-use Rattle.operations.specs.AtRest.{acquired, came, oneStep}
+use Rattle.operations.specs.AtRest.{acquired, came, cancelled, oneStep, placeTo, released}
 use Rattle.operations.specs.Operation.{operated}
-use Rattle.operations.proofs.Calls.{Fit, acts, begins, fits-now, now, onward, quiet, radios}
-use Rattle.operations.proofs.Calls.{rests-now, tidied-now, to, written-rests}
-use Rattle.operations.proofs.Rest.{AtRest, above-left}
-use Rattle.operations.proofs.Ring.{Tidy}
+use Rattle.operations.proofs.Calls.{Fit, acts, begins, fits-now, now, onward, puts, quiet, radios}
+use Rattle.operations.proofs.Calls.{rests-now, seat-now, still, tidied-now, tidied-same, to, written-rests}
+use Rattle.operations.proofs.Rest.{AtRest, above-left, and-false, not-cancelled, waiting-below}
+use Rattle.operations.proofs.Ring.{Tidy, read-not}
 use Rattle.operations.proofs.Walk.{operated-by, stop, walk, wokenBy}
 
 -- An operation comes to r, and everybody is at rest in it.
@@ -176,3 +180,182 @@ module _ (h : Hub) (a : AtRest h) (p : ℕ) (present : ltb p (h .opening .partie
     ask-permit =
         one-or-two Op.Acquire asked got Phase.Acquiring Phase.Fetching Phase.Holding Answer.Acquired Answer.Fetched
         first refl second refl refl third refl refl
+
+  -- Give back, with nobody waiting: 26, and 38.
+  module _ (e : belowZero (figures .counter) ≡ false)
+      (m : moveOf h (record { op = Op.Release; party = p })
+      ≡ Act (to Phase.Releasing figures Answer.Accepted)) where
+    abbrev returned : Figures
+    returned = withCounter (sucℤ (figures .counter)) figures
+
+    give-first : called h (record { op = Op.Release; party = p })
+        ≡ record { answer = Answer.Accepted; hub = here figures Phase.Releasing }
+    give-first = call Op.Release figures Phase.Releasing refl m
+
+    give-second : called (here figures Phase.Releasing) (stepBy p)
+        ≡ record { answer = Answer.Returned; hub = here returned (withoutPermit (h .opening .named)) }
+    unfolding stepIn stepReleasing seenBy moved
+    give-second =
+        step figures Phase.Releasing returned (withoutPermit (h .opening .named)) Answer.Returned
+        (onward h _ _ _ (a .fit) give-first) refl refl
+        (ap (λ (b : Bool). stepReleasing b (look (here figures Phase.Releasing) p)) e)
+
+    give-third : h .opening .named ≡ true
+        → called (here returned Phase.Storing) (stepBy p)
+        ≡ record {
+          answer = Answer.Stored;
+          hub = withPool (radios h p inside present Answer.Stored) (here returned Phase.Free);
+        }
+    unfolding stepIn stepStoring seenBy
+    give-third i =
+        step-radio returned Phase.Storing returned Phase.Free Answer.Stored
+        (onward _ _ _ _ (onward h _ _ _ (a .fit) give-first)
+        (give-second ∙ ap (λ (b : Bool). record { answer = Answer.Returned; hub = here returned (withoutPermit b) }) i))
+        refl refl
+
+    pub give-back : Comes h (record { op = Op.Release; party = p }) (released false h p)
+    unfolding released isOneOf poolAfter moved
+    give-back =
+        one-or-two Op.Release figures returned Phase.Releasing Phase.Storing Phase.Free Answer.Returned Answer.Stored
+        give-first refl give-second refl refl give-third refl refl
+
+  -- A place written and no radio moved.
+  no-radio : (y : Answer) (k : Hub) → k .pool ≡ h .pool → moved (printed y) p (h .pool) ≡ h .pool
+      → withPool (radios h p inside present y) k ≡ k
+  no-radio y k e u =
+      ap (λ (q : Pool). withPool q k)
+      (still (h .opening .named) (printed y) p (h .pool) u ∙ sym e)
+
+  -- Ask, with no permit: 22, 23, 24.
+  module _ (e : aboveZero (figures .counter) ≡ false) (room : figures .issued < h .oldest + PLACES)
+      (m : moveOf h (record { op = Op.Acquire; party = p })
+      ≡ Act (to Phase.Acquiring (withBegun (figures .begun + 1) figures) Answer.Accepted)) where
+    abbrev ticket : ℕ
+    ticket = figures .issued
+
+    abbrev asks : Figures
+    asks = withBegun (figures .begun + 1) figures
+
+    abbrev short : Figures
+    short = withCounter (predℤ (figures .counter)) asks
+
+    abbrev drew : Figures
+    drew = withIssued (ticket + 1) short
+
+    wait-first : called h (record { op = Op.Acquire; party = p })
+        ≡ record { answer = Answer.Accepted; hub = here asks Phase.Acquiring }
+    wait-first = call Op.Acquire asks Phase.Acquiring refl m
+
+    wait-second : called (here asks Phase.Acquiring) (stepBy p)
+        ≡ record { answer = Answer.MustWait; hub = here short Phase.Suspending }
+    unfolding stepIn stepAcquiring seenBy moved
+    wait-second =
+        step asks Phase.Acquiring short Phase.Suspending Answer.MustWait
+        (onward h _ _ _ (a .fit) wait-first) refl refl
+        (ap (λ (b : Bool). stepAcquiring Phase.Suspending b (look (here asks Phase.Acquiring) p)) e)
+
+    wait-third : called (here short Phase.Suspending) (stepBy p)
+        ≡ record { answer = Answer.DrewTicket ticket; hub = here drew (Phase.Ticketed ticket) }
+    unfolding stepIn stepSuspending seenBy moved
+    wait-third =
+        step short Phase.Suspending drew (Phase.Ticketed ticket) (Answer.DrewTicket ticket)
+        (onward _ _ _ _ (onward h _ _ _ (a .fit) wait-first) wait-second) refl refl refl
+
+    -- the record that it leaves, which is tidy
+    abbrev parked : Hub
+    parked = placeTo ticket (Place.Waiting p) (here drew (Phase.Waiting ticket))
+
+    parked-tidy : Tidy (ringOf parked)
+    unfolding isPlaceOf
+    parked-tidy =
+        record {
+          size = written-size (h .places) (a .places) ticket _;
+          unskipped =
+              and-false (ltb (figures .resumed) (h .oldest + PLACES)) _
+              (read-not (h .places) (a .places) ticket (figures .resumed) (record { place = Place.Waiting p })
+              isCancelled refl (not-cancelled h a));
+          unretired =
+              read-not (h .places) (a .places) ticket (h .oldest) (record { place = Place.Waiting p })
+              isDone refl (a .unretired);
+        }
+
+    wait-fourth : called (here drew (Phase.Ticketed ticket)) (stepBy p)
+        ≡ record { answer = Answer.Parked ticket; hub = parked }
+    unfolding stepIn stepTicketed seenBy moved
+    wait-fourth =
+        puts h p inside present drew (Phase.Ticketed ticket)
+        (fits-now (here drew (Phase.Ticketed ticket))
+        (onward _ _ _ _ (onward _ _ _ _ (onward h _ _ _ (a .fit) wait-first) wait-second) wait-third))
+        ticket (Place.Waiting p) (Phase.Waiting ticket) (Answer.Parked ticket) (λ g. refl)
+        (ap
+        (λ (b : Place).
+        stepTicketed (Phase.Waiting ticket) ticket b (look (here drew (Phase.Ticketed ticket)) p))
+        (seat-now h p inside present drew (Phase.Ticketed ticket) ∙ a .spare room))
+        ∙ ap (λ (k : Hub). record { answer = Answer.Parked ticket; hub = k })
+        (ap (withPool (radios h p inside present (Answer.Parked ticket))) (tidied-same parked parked-tidy)
+        ∙ no-radio (Answer.Parked ticket) parked refl refl)
+
+    pub ask-wait : Comes h (record { op = Op.Acquire; party = p }) (acquired false h p)
+    unfolding acquired isOneOf
+    ask-wait =
+        record {
+          same =
+              operated-by h (record { op = Op.Acquire; party = p }) Answer.Accepted wait-first refl
+              (walk (rests-now h p inside present asks Phase.Acquiring refl) wait-second
+              (walk (rests-now h p inside present short Phase.Suspending refl) wait-third
+              (walk (rests-now h p inside present drew (Phase.Ticketed ticket) refl) wait-fourth
+              (stop (rests-now h p inside present drew (Phase.Waiting ticket) refl)))))
+              (omega arith);
+          rest = at-rest-now drew (Phase.Waiting ticket) refl;
+        }
+
+  -- Give up: 2E, 30.
+  module _ (t : ℕ) (waits : readSlot (h .slots) p .phase ≡ Phase.Waiting t)
+      (m : moveOf h (record { op = Op.Cancel; party = p })
+      ≡ Act (to (Phase.Aborting t) figures Answer.Accepted)) where
+    abbrev told : Figures
+    told = withCounter (sucℤ (figures .counter)) figures
+
+    abort-first : called h (record { op = Op.Cancel; party = p })
+        ≡ record { answer = Answer.Accepted; hub = here figures (Phase.Aborting t) }
+    abort-first = call Op.Cancel figures (Phase.Aborting t) refl m
+
+    abort-second : called (here figures (Phase.Aborting t)) (stepBy p)
+        ≡ record { answer = Answer.MustCancel; hub = here told (Phase.Cancelling t) }
+    unfolding stepIn stepAborting seenBy moved
+    abort-second =
+        step figures (Phase.Aborting t) told (Phase.Cancelling t) Answer.MustCancel
+        (onward h _ _ _ (a .fit) abort-first) refl refl
+        (ap (λ (b : Bool). stepAborting t b (look (here figures (Phase.Aborting t)) p))
+        (waiting-below h a p t waits))
+
+    abbrev gone : Hub
+    gone = tidied (placeTo t Place.Cancelled (here told Phase.Free))
+
+    abort-third : called (here told (Phase.Cancelling t)) (stepBy p)
+        ≡ record { answer = Answer.MarkedCancelled t; hub = gone }
+    unfolding stepIn stepCancelling seenBy moved tidied
+    abort-third =
+        puts h p inside present told (Phase.Cancelling t)
+        (fits-now (here told (Phase.Cancelling t))
+        (onward _ _ _ _ (onward h _ _ _ (a .fit) abort-first) abort-second))
+        t Place.Cancelled Phase.Free (Answer.MarkedCancelled t) (λ g. refl)
+        (ap (λ (b : Place). stepCancelling t b (look (here told (Phase.Cancelling t)) p))
+        (seat-now h p inside present told (Phase.Cancelling t) ∙ a .waits p t waits .0))
+        ∙ ap (λ (k : Hub). record { answer = Answer.MarkedCancelled t; hub = k })
+        (no-radio (Answer.MarkedCancelled t) gone refl refl)
+
+    pub give-up : Comes h (record { op = Op.Cancel; party = p }) (cancelled h p)
+    unfolding cancelled isOneOf tidied
+    give-up =
+        record {
+          same =
+              operated-by h (record { op = Op.Cancel; party = p }) Answer.Accepted abort-first refl
+              (walk (rests-now h p inside present figures (Phase.Aborting t) refl) abort-second
+              (walk (rests-now h p inside present told (Phase.Cancelling t) refl) abort-third
+              (stop (rests-now h p inside present told Phase.Free refl))))
+              (omega arith)
+              ∙ ap (λ (f : Phase). came 0xFF 2 (tidied (placeTo (ticketOf f) Place.Cancelled (here told Phase.Free))))
+              (sym waits);
+          rest = at-rest-now told Phase.Free refl;
+        }
