@@ -6,8 +6,8 @@ use mathlib.Core.List.{List, [], _∷_}
 use mathlib.Core.Logic.{_≢_}
 use native.Mathlib.Decide.{ℕ-discrete}
 use lib.Dec.{ltb}
-use lib.ListN.{length}
-use lib.Seq.{getD-set-other, getD-set-same, set-set}
+use lib.ListN.{length, length-set, set}
+use lib.Seq.{getD-set-other, getD-set-same, set-comm, set-set}
 use Rattle.hub.specs.declared.answers.Answer.{Answer}
 use Rattle.hub.specs.declared.moves.Call.{Call}
 use Rattle.hub.specs.declared.moves.Op.{Op}
@@ -47,6 +47,16 @@ module _ (l : List PartySlot) (p : ℕ) (s : PartySlot) where
   pub written-twice : (x : PartySlot) → writeSlot (writeSlot l p s) p x ≡ writeSlot l p x
   unfolding writeSlot
   written-twice x = set-set l p s x
+
+  pub written-length : length (writeSlot l p s) ≡ length l
+  unfolding writeSlot
+  written-length = length-set l p s
+
+  -- With another slot written in between.
+  pub written-around : (q : ℕ) (x y : PartySlot) → p ≢ q
+      → writeSlot (writeSlot (writeSlot l p s) q x) p y ≡ writeSlot (writeSlot l q x) p y
+  unfolding writeSlot
+  written-around q x y d = ap (λ (k : List PartySlot). set k p y) (set-comm l p q s x d) ∙ set-set (set l q x) p s y
 
   -- All at rest, and one more.
   pub written-rests : p < length l → atRest (s .phase) ≡ true

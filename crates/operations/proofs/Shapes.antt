@@ -3,9 +3,10 @@ use Prim.Native.Nat.{ℕ, _+_, _≤_, _<_}
 use mathlib.Core.Path.{_≡_, refl, sym, ap, subst, _∙_}
 use mathlib.Core.Bool.{Bool, true, false, cond}
 use mathlib.Core.List.{List, [], _∷_}
+use mathlib.Core.Logic.{_≢_}
 use native.Mathlib.Omega.{arith}
-use borrow.Author.Tests.{le-leb, ltb-true}
-use lib.Dec.{leb, ltb}
+use borrow.Author.Tests.{eqb-true, le-leb, ltb-true}
+use lib.Dec.{eqb, leb, ltb}
 use lib.IntN.{ℤ, pos, negsuc, predℤ, sucℤ}
 use lib.ListN.{length}
 use Rattle.hub.specs.declared.answers.Answer.{Answer}
@@ -15,28 +16,33 @@ use Rattle.hub.specs.declared.record.Figures.{Figures}
 use Rattle.hub.specs.declared.record.Hub.{Hub}
 use Rattle.hub.specs.declared.record.Phase.{Phase}
 use Rattle.hub.specs.declared.record.Place.{Place}
+use Rattle.hub.specs.declared.record.Outcome.{Outcome}
+use Rattle.hub.specs.declared.record.PartySlot.{PartySlot}
+use Rattle.hub.specs.declared.record.PlaceSlot.{PlaceSlot}
 use Rattle.hub.specs.declared.record.Pool.{Pool}
 use Rattle.hub.specs.Answers.{printed}
-use Rattle.hub.specs.Calls.{called, moveOf, ringOf, tidied, withPool}
+use Rattle.hub.specs.Calls.{apply, called, moveOf, ringOf, tidied, withPool, withRing}
 use Rattle.hub.specs.Calm.{rests, stepBy}
 use Rattle.hub.specs.Fits.{fits}
 use Rattle.hub.specs.Look.{look, seenBy}
-use Rattle.hub.specs.Moves.{Act}
-use Rattle.hub.specs.Phases.{atRest, isCancelled, isDone, isOneOf, isPlaceOf, ticketOf}
-use Rattle.hub.specs.Radios.{fetch, moved, poolAfter}
-use Rattle.hub.specs.Record.{readSlot}
-use Rattle.hub.specs.Ring.{PLACES, readPlace}
+use Rattle.hub.specs.Moves.{Act, Move, Wake}
+use Rattle.hub.specs.Phases.{atRest, byTicket, byWaiter, isCancelled, isDone, isOneOf, isPlaceOf, isWaiting, ticketOf}
+use Rattle.hub.specs.Radios.{handOf, handTo, moved, poolAfter}
+use Rattle.hub.specs.Record.{emptySeat, freeSlot, readSlot, writeSlot}
+use Rattle.hub.specs.Ring.{PLACES, Ring, readPlace, readSeat, writeSeat}
 use Rattle.hub.specs.Table.{aboveZero, belowZero, stepAborting, stepAcquiring, stepCancelling, stepFetching}
-use Rattle.hub.specs.Table.{stepIn, stepReleasing, stepStoring, stepSuspending, stepTicketed}
-use Rattle.hub.specs.Table.{withBegun, withCounter, withIssued, withPermit, withoutPermit}
+use Rattle.hub.specs.Table.{resumeWaiter, stepIn, stepReleasing, stepResuming, stepResumingAt, stepStoring}
+use Rattle.hub.specs.Table.{stepSuspending, stepTicketed, withBegun, withCounter, withIssued, withPermit}
+use Rattle.hub.specs.Table.{withResumed, withoutPermit}
 use Rattle.hub.proofs.Laws.Seats.{written-size}
 use Rattle.operations.specs.declared.Operated.{Operated}
-use Rattle.operations.specs.AtRest.{acquired, came, cancelled, oneStep, placeTo, released}
+use Rattle.operations.specs.AtRest.{acquired, came, cancelled, figuresTo, oneStep, phaseTo, placeTo, radiosBy, released}
 use Rattle.operations.specs.Operation.{operated}
-use Rattle.operations.proofs.Calls.{Fit, acts, begins, fits-now, now, onward, puts, quiet, radios}
-use Rattle.operations.proofs.Calls.{rests-now, seat-now, still, tidied-now, tidied-same, to, written-rests}
-use Rattle.operations.proofs.Rest.{AtRest, above-left, and-false, not-cancelled, waiting-below}
-use Rattle.operations.proofs.Ring.{Tidy, read-not}
+use Rattle.operations.proofs.Calls.{Fit, acts, begins, called-by, fits-now, now, onward, puts, quiet, radios}
+use Rattle.operations.proofs.Calls.{other-slot, phase-now, rests-now, seat-now, step-by, still, tidied-now}
+use Rattle.operations.proofs.Calls.{tidied-same, to, written-around, written-length, written-rests}
+use Rattle.operations.proofs.Rest.{AtRest, above-left, and-false, not-cancelled, waiter-inside, waiting-below}
+use Rattle.operations.proofs.Ring.{Drawn, Tidy, doneAt, done-between, drawn-stays, read-not}
 use Rattle.operations.proofs.Walk.{operated-by, stop, walk, wokenBy}
 
 -- An operation comes to r, and everybody is at rest in it.
@@ -359,3 +365,181 @@ module _ (h : Hub) (a : AtRest h) (p : ℕ) (present : ltb p (h .opening .partie
               (sym waits);
           rest = at-rest-now told Phase.Free refl;
         }
+
+  -- Give back, with somebody waiting: 27, 28, 2A.
+  module _ (e : belowZero (figures .counter) ≡ true) (holds : readSlot (h .slots) p .phase ≡ Phase.Holding)
+      (q : ℕ) (next : readSlot (h .slots) q .phase ≡ Phase.Waiting (figures .resumed))
+      (m : moveOf h (record { op = Op.Release; party = p })
+      ≡ Act (to Phase.Releasing figures Answer.Accepted)) where
+    abbrev first-ticket : ℕ
+    first-ticket = figures .resumed
+
+    abbrev carried : Figures
+    carried = withCounter (sucℤ (figures .counter)) figures
+
+    abbrev taken : Figures
+    taken = withResumed (first-ticket + 1) carried
+
+    hand-first : called h (record { op = Op.Release; party = p })
+        ≡ record { answer = Answer.Accepted; hub = here figures Phase.Releasing }
+    hand-first = call Op.Release figures Phase.Releasing refl m
+
+    hand-second : called (here figures Phase.Releasing) (stepBy p)
+        ≡ record { answer = Answer.MustResume; hub = here carried Phase.Resuming }
+    unfolding stepIn stepReleasing seenBy moved
+    hand-second =
+        step figures Phase.Releasing carried Phase.Resuming Answer.MustResume
+        (onward h _ _ _ (a .fit) hand-first) refl refl
+        (ap (λ (b : Bool). stepReleasing b (look (here figures Phase.Releasing) p)) e)
+
+    -- the tidying passes the cancelled tickets after the one that is handed
+    abbrev handing : Hub
+    handing = tidied (here taken (Phase.ResumingAt first-ticket))
+
+    hand-third : called (here carried Phase.Resuming) (stepBy p)
+        ≡ record { answer = Answer.StartedResume first-ticket; hub = handing }
+    unfolding stepIn stepResuming seenBy moved tidied
+    hand-third =
+        acts h p inside present carried Phase.Resuming
+        (fits-now (here carried Phase.Resuming) (onward _ _ _ _ (onward h _ _ _ (a .fit) hand-first) hand-second))
+        taken (Phase.ResumingAt first-ticket) (Answer.StartedResume first-ticket) refl
+        ∙ ap (λ (k : Hub). record { answer = Answer.StartedResume first-ticket; hub = k })
+        (no-radio (Answer.StartedResume first-ticket) handing refl refl)
+
+    handing-phase : readSlot (handing .slots) p .phase ≡ Phase.ResumingAt first-ticket
+    unfolding tidied
+    handing-phase = phase-now h p inside present taken (Phase.ResumingAt first-ticket)
+
+    -- the ring before that tidying
+    abbrev ring : Ring
+    ring = record { resumed = first-ticket + 1; oldest = h .oldest; places = h .places }
+
+    ring-drawn : Drawn first-ticket ring
+    ring-drawn = record { size = a .places; above = omega (arith, a .oldest); below = omega arith }
+
+    waited : readPlace (h .places) first-ticket ≡ Place.Waiting q
+    waited = a .waits q first-ticket next .0
+
+    undone : isDone (readPlace (h .places) first-ticket) ≡ false
+    unfolding isPlaceOf
+    undone = ap isDone waited
+
+    other : p ≢ q
+    other z =
+        let i : Phase.Holding ≡ Phase.Waiting first-ticket =
+        sym holds ∙ ap (λ (r : ℕ). readSlot (h .slots) r .phase) z ∙ next in
+        let y : _≡_ {A = ℕ} 0 1 = cc in omega arith
+
+    handing-place : look handing p .seat .place ≡ Place.Waiting q
+    unfolding seenBy tidied
+    handing-place =
+        ap (λ (f : Phase). byTicket emptySeat (readSeat (handing .places)) f .place) handing-phase
+        ∙ ap (λ (x : PlaceSlot). x .place) (drawn-stays first-ticket ring ring-drawn (a .oldest) undone)
+        ∙ waited
+
+    handing-waiter : isWaiting (look handing p .waiter .phase) ≡ true
+    unfolding seenBy tidied isOneOf
+    handing-waiter =
+        ap (λ (b : Place). isWaiting (byWaiter freeSlot (readSlot (handing .slots)) b .phase)) handing-place
+        ∙ ap (λ (x : PartySlot). isWaiting (x .phase))
+        (other-slot (h .slots) p (record { phase = Phase.ResumingAt first-ticket }) q (λ z. other (sym z)))
+        ∙ ap isWaiting next
+
+    abbrev wakes : Move
+    wakes =
+        Wake q (record { phase = Phase.Holding }) (record { place = Place.Done })
+        (to Phase.Free (handing .figures) (Answer.Woke q first-ticket))
+
+    handing-row : stepIn (Phase.ResumingAt first-ticket) (look handing p) ≡ wakes
+    unfolding stepIn stepResumingAt resumeWaiter seenBy
+    handing-row =
+        ap (λ (b : Place). stepResumingAt first-ticket b (look handing p)) handing-place
+        ∙ ap (λ (b : Bool). resumeWaiter b q first-ticket (look handing p)) handing-waiter
+
+    -- the record that it leaves
+    abbrev served : Hub
+    served =
+        withPool (radios h p inside present (Answer.Woke q first-ticket))
+        (tidied
+        (placeTo first-ticket Place.Done (phaseTo p Phase.Free (phaseTo q Phase.Holding (figuresTo taken h)))))
+
+    -- the record before the last tidying, with these places and slots
+    abbrev leaving : List PlaceSlot → List PartySlot → Hub
+    leaving l s =
+        record {
+          opening = h .opening;
+          figures = handing .figures;
+          oldest = handing .oldest;
+          places = l;
+          slots = s;
+          pool = h .pool;
+        }
+
+    abbrev woke : Hub → Outcome
+    woke k =
+        record {
+          answer = Answer.Woke q first-ticket;
+          hub = withPool (radios h p inside present (Answer.Woke q first-ticket)) k;
+        }
+
+    hand-fourth : called handing (stepBy p) ≡ record { answer = Answer.Woke q first-ticket; hub = served }
+    unfolding apply seenBy tidied
+    hand-fourth =
+        called-by handing (stepBy p) wakes
+        (step-by handing p (Phase.ResumingAt first-ticket)
+        (fits-now handing (onward _ _ _ _ (onward _ _ _ _ (onward h _ _ _ (a .fit) hand-first) hand-second) hand-third))
+        present handing-phase
+        ∙ handing-row)
+        ∙ (λ i.
+        woke
+        (tidied
+        (leaving
+        (byTicket (handing .places) (λ u. writeSeat (handing .places) u (record { place = Place.Done })) (handing-phase i))
+        (written-around (h .slots) p (record { phase = Phase.ResumingAt first-ticket }) q
+        (record { phase = Phase.Holding }) (record { phase = Phase.Free }) other i))))
+        ∙ ap
+        (λ (r : Ring).
+        woke
+        (withRing
+        (placeTo first-ticket Place.Done (phaseTo p Phase.Free (phaseTo q Phase.Holding (figuresTo taken h))))
+        r))
+        (done-between first-ticket ring ring-drawn (a .oldest) undone)
+
+    served-rests : (r : ℕ) → rests served r ≡ true
+    unfolding tidied isOneOf
+    served-rests =
+        written-rests (writeSlot (h .slots) q (record { phase = Phase.Holding })) p (record { phase = Phase.Free })
+        (omega (arith, inside, written-length (h .slots) q (record { phase = Phase.Holding }))) refl
+        (written-rests (h .slots) q (record { phase = Phase.Holding })
+        (waiter-inside h a q first-ticket next) refl (a .calm))
+
+    woken-shown : cond (eqb q 0xFF) 0xFF q ≡ q
+    woken-shown = go (eqb q 0xFF) refl
+      where
+        go : (b : Bool) → eqb q 0xFF ≡ b → cond b 0xFF q ≡ q
+        go true i = sym (eqb-true q 0xFF i)
+        go false i = refl
+
+    pub hand-over : Comes h (record { op = Op.Release; party = p }) (released true h p)
+    unfolding released isOneOf tidied poolAfter moved
+    hand-over =
+        subst (Comes h (record { op = Op.Release; party = p }))
+        (ap closed (sym (ap (byWaiter 0xFF (λ x. x)) waited)))
+        (record {
+          same =
+              operated-by h (record { op = Op.Release; party = p }) Answer.Accepted hand-first refl
+              (walk (rests-now h p inside present figures Phase.Releasing refl) hand-second
+              (walk (rests-now h p inside present carried Phase.Resuming refl) hand-third
+              (walk (ap atRest handing-phase) hand-fourth (stop (served-rests p)))))
+              (omega arith)
+              ∙ (λ i. came (woken-shown i) 3 served);
+          rest = served-rests;
+        })
+      where
+        closed : ℕ → Operated
+        closed z =
+            came z 3
+            (tidied
+            (radiosBy (λ r. handTo z (handOf r p) r)
+            (placeTo first-ticket Place.Done
+            (phaseTo p Phase.Free (phaseTo z Phase.Holding (figuresTo taken h))))))
