@@ -6,3 +6,4 @@ pub mod Reached  -- and why
 pub mod Walk  -- one party until it is at rest
 pub mod Calls  -- single calls
 pub mod Shapes  -- whole operations, one of each kind
+pub mod Operations  -- every operation

@@ -51,7 +51,7 @@ use Rattle.hub.proofs.Radios.Kept.{Kept}
 use Rattle.hub.proofs.Window.Shown.{Reached, has-place, high, low, read-same}
 use Rattle.operations.specs.AtRest.{OnRest}
 use Rattle.operations.proofs.Lists.{weight-only, weight-some}
-use Rattle.operations.proofs.Rest.{AtRest}
+use Rattle.operations.proofs.Rest.{AtRest, resting}
 use Rattle.operations.proofs.Ring.{Tidy, reclaimed-tidy}
 
 -- Every record reached is tidy: an opening is, and whatever is not left as it was ends with the tidying.
@@ -86,37 +86,6 @@ run-more : (h : Hub) (cs ds : List Call) → run (run h cs) ds ≡ run h (cs ++ 
 unfolding run
 run-more h [] ds = refl
 run-more h (c ∷ cs) ds = run-more (called h c .hub) cs ds
-
--- The three phases at rest.
-pub rest-cases : (f : Phase) → atRest f ≡ true
-    → (f ≡ Free) ⊎ ((f ≡ Holding) ⊎ (f ≡ Waiting (ticketOf f)))
-unfolding isOneOf
-rest-cases f e = free (one-or Free (Holding ∷ Waiting 0 ∷ []) f e)
-  where
-    waiting : (f ≡ Waiting (ticketOf f)) ⊎ (isOneOf [] f ≡ true)
-        → (f ≡ Free) ⊎ ((f ≡ Holding) ⊎ (f ≡ Waiting (ticketOf f)))
-    waiting (inl z) = inr (inr z)
-    waiting (inr z) = let y : _≡_ {A = ℕ} 0 1 = cc in let w : ⊥ = omega arith in absurd w
-
-    holds : (f ≡ Holding) ⊎ (isOneOf (Waiting 0 ∷ []) f ≡ true)
-        → (f ≡ Free) ⊎ ((f ≡ Holding) ⊎ (f ≡ Waiting (ticketOf f)))
-    holds (inl z) = inr (inl z)
-    holds (inr z) = waiting (one-or (Waiting 0) [] f z)
-
-    free : (f ≡ Free) ⊎ (isOneOf (Holding ∷ Waiting 0 ∷ []) f ≡ true)
-        → (f ≡ Free) ⊎ ((f ≡ Holding) ⊎ (f ≡ Waiting (ticketOf f)))
-    free (inl z) = inl z
-    free (inr z) = holds (one-or Holding (Waiting 0 ∷ []) f z)
-
--- What holds of each of them.
-resting : (P : Phase → Type 0) → P Free → P Holding → ((t : ℕ) → P (Waiting t))
-    → (f : Phase) → atRest f ≡ true → P f
-resting P a b c f e = go (rest-cases f e)
-  where
-    go : (f ≡ Free) ⊎ ((f ≡ Holding) ⊎ (f ≡ Waiting (ticketOf f))) → P f
-    go (inl z) = subst P (sym z) a
-    go (inr (inl z)) = subst P (sym z) b
-    go (inr (inr z)) = subst P (sym z) (c (ticketOf f))
 
 -- Whoever owns a ticket and is at rest waits with it.
 owner-waits : (t : ℕ) (f : Phase) → atRest f ≡ true → 1 ≤ own t f → f ≡ Waiting t

@@ -1,8 +1,8 @@
 -- What is known of a record that a schedule reached and on which everybody is at rest.
 use Prim.Native.Nat.{ℕ, zero, suc, _+_, _≤_, _<_}
-use mathlib.Core.Path.{_≡_, refl, sym, ap, _∙_}
+use mathlib.Core.Path.{_≡_, refl, sym, ap, subst, _∙_}
 use mathlib.Core.Bool.{Bool, true, false, _&&_}
-use mathlib.Core.List.{List}
+use mathlib.Core.List.{List, [], _∷_}
 use mathlib.Core.Logic.{_⊎_, inl, inr}
 use native.Mathlib.Decide.{decLe}
 use native.Mathlib.Omega.{arith}
@@ -19,13 +19,13 @@ use Rattle.hub.specs.Calls.{ringOf}
 use Rattle.hub.specs.Calm.{rests}
 use Rattle.hub.specs.Fits.{fits}
 use Rattle.hub.specs.Ledger.{atCounter, belowBy, phaseIn}
-use Rattle.hub.specs.Phases.{isCancelled, isHolding, isOneOf, isPlaceOf, isWaiting}
+use Rattle.hub.specs.Phases.{atRest, isCancelled, isHolding, isOneOf, isPlaceOf, isWaiting, ticketOf}
 use Rattle.hub.specs.Record.{PARTIES, phasesOf, readSlot}
 use Rattle.hub.specs.Ring.{PLACES, canRetire, canSkip, readPlace}
 use Rattle.hub.specs.Schedule.{run}
 use Rattle.hub.specs.Table.{aboveZero, belowZero}
 use Rattle.hub.proofs.Laws.Lists.{weight-one}
-use Rattle.hub.proofs.Laws.Phases.{one-of}
+use Rattle.hub.proofs.Laws.Phases.{one-of, one-or}
 use Rattle.hub.proofs.Laws.Slots.{read-phase}
 use Rattle.operations.proofs.Lists.{true-bit, weight-some}
 
@@ -57,6 +57,37 @@ pub record AtRest (h : Hub) : Type 0 where
       ≡ h .opening .permits
   pub waiters : count isWaiting (phasesOf (h .slots)) ≡ belowBy (h .figures .counter)
   pub stored : h .opening .named ≡ true → h .pool .stored ≡ atCounter (h .figures .counter)
+
+-- The three phases at rest.
+rest-cases : (f : Phase) → atRest f ≡ true
+    → (f ≡ Phase.Free) ⊎ ((f ≡ Phase.Holding) ⊎ (f ≡ Phase.Waiting (ticketOf f)))
+unfolding isOneOf
+rest-cases f e = free (one-or Phase.Free (Phase.Holding ∷ Phase.Waiting 0 ∷ []) f e)
+  where
+    waiting : (f ≡ Phase.Waiting (ticketOf f)) ⊎ (isOneOf [] f ≡ true)
+        → (f ≡ Phase.Free) ⊎ ((f ≡ Phase.Holding) ⊎ (f ≡ Phase.Waiting (ticketOf f)))
+    waiting (inl z) = inr (inr z)
+    waiting (inr z) = let y : _≡_ {A = ℕ} 0 1 = cc in let w : ⊥ = omega arith in absurd w
+
+    holds : (f ≡ Phase.Holding) ⊎ (isOneOf (Phase.Waiting 0 ∷ []) f ≡ true)
+        → (f ≡ Phase.Free) ⊎ ((f ≡ Phase.Holding) ⊎ (f ≡ Phase.Waiting (ticketOf f)))
+    holds (inl z) = inr (inl z)
+    holds (inr z) = waiting (one-or (Phase.Waiting 0) [] f z)
+
+    free : (f ≡ Phase.Free) ⊎ (isOneOf (Phase.Holding ∷ Phase.Waiting 0 ∷ []) f ≡ true)
+        → (f ≡ Phase.Free) ⊎ ((f ≡ Phase.Holding) ⊎ (f ≡ Phase.Waiting (ticketOf f)))
+    free (inl z) = inl z
+    free (inr z) = holds (one-or Phase.Holding (Phase.Waiting 0 ∷ []) f z)
+
+-- What holds of each of them.
+pub resting : (P : Phase → Type 0) → P Phase.Free → P Phase.Holding → ((t : ℕ) → P (Phase.Waiting t))
+    → (f : Phase) → atRest f ≡ true → P f
+resting P a b c f e = go (rest-cases f e)
+  where
+    go : (f ≡ Phase.Free) ⊎ ((f ≡ Phase.Holding) ⊎ (f ≡ Phase.Waiting (ticketOf f))) → P f
+    go (inl z) = subst P (sym z) a
+    go (inr (inl z)) = subst P (sym z) b
+    go (inr (inr z)) = subst P (sym z) (c (ticketOf f))
 
 -- Above zero a permit is left; else none is. Below zero somebody waits; else nobody does.
 pub above-left : (z : ℤ) → aboveZero z ≡ true → 1 ≤ atCounter z
