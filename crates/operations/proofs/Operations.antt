@@ -29,9 +29,10 @@ use Rattle.operations.specs.declared.Operated.{Operated}
 use Rattle.operations.specs.AtRest.{ComesTo, EndsAtRest, acquired, byMove, isOperation, operatedAtRest, released}
 use Rattle.operations.specs.Operation.{operated}
 use Rattle.operations.proofs.Calls.{allowed, called-by, fits-now, still, to}
-use Rattle.operations.proofs.Reached.{at-rest}
-use Rattle.operations.proofs.Rest.{AtRest, next-waits, resting}
+use Rattle.operations.proofs.Reached.{at-rest, resting}
+use Rattle.operations.proofs.Rest.{AtRest}
 use Rattle.operations.proofs.Shapes.{Comes, ask-permit, ask-wait, give-back, give-up, hand-over}
+use Rattle.operations.proofs.Waits.{next-waits}
 use Rattle.operations.proofs.Walk.{operated-by, stop}
 
 -- A refusal moves no radio.

@@ -50,8 +50,7 @@ use Rattle.hub.proofs.Laws.Seats.{written-size}
 use Rattle.hub.proofs.Radios.Kept.{Kept}
 use Rattle.hub.proofs.Window.Shown.{Reached, has-place, high, low, read-same}
 use Rattle.operations.specs.AtRest.{OnRest}
-use Rattle.operations.proofs.Lists.{weight-only, weight-some}
-use Rattle.operations.proofs.Rest.{AtRest, resting}
+use Rattle.operations.proofs.Rest.{AtRest}
 use Rattle.operations.proofs.Ring.{Tidy, reclaimed-tidy}
 
 -- Every record reached is tidy: an opening is, and whatever is not left as it was ends with the tidying.
@@ -82,10 +81,64 @@ unfolding fresh readSeat isPlaceOf
 fresh-tidy o = record { size = refl; unskipped = refl; unretired = refl }
 
 -- Calls after calls.
-run-more : (h : Hub) (cs ds : List Call) → run (run h cs) ds ≡ run h (cs ++ ds)
+pub run-more : (h : Hub) (cs ds : List Call) → run (run h cs) ds ≡ run h (cs ++ ds)
 unfolding run
 run-more h [] ds = refl
 run-more h (c ∷ cs) ds = run-more (called h c .hub) cs ds
+
+-- A weight that is there is somewhere; and where it is at most 1, at one place alone.
+module _ {A : Type 0} (f : A → ℕ) (d : A) where
+  pub weight-some : (l : List A) → 1 ≤ weight f l → (i : ℕ) × (1 ≤ f (getD l i d))
+  unfolding weight
+  weight-some [] e = let z : ⊥ = omega arith in absurd z
+  weight-some (x ∷ l) e = go (decLe 1 (f x)) (weight-some l)
+    where
+      go : Dec (1 ≤ f x) → (1 ≤ weight f l → (i : ℕ) × (1 ≤ f (getD l i d)))
+          → (i : ℕ) × (1 ≤ f (getD (x ∷ l) i d))
+      go (yes z) ih = (0, z)
+      go (no z) ih = let y = ih (omega arith) in (suc (y .0), y .1)
+
+  weight-only : f d ≡ 0 → (l : List A) (i j : ℕ) → weight f l ≤ 1 → 1 ≤ f (getD l i d)
+      → 1 ≤ f (getD l j d) → i ≡ j
+  unfolding weight
+  weight-only z [] i j s a b = let w : ⊥ = omega arith in absurd w
+  weight-only z (x ∷ l) zero zero s a b = refl
+  weight-only z (x ∷ l) zero (suc j) s a b =
+      let w : ⊥ = omega (arith, weight-one f d z l j) in absurd w
+  weight-only z (x ∷ l) (suc i) zero s a b =
+      let w : ⊥ = omega (arith, weight-one f d z l i) in absurd w
+  weight-only z (x ∷ l) (suc i) (suc j) s a b = ap suc (weight-only z l i j (omega arith) a b)
+
+-- The three phases at rest.
+pub rest-cases : (f : Phase) → atRest f ≡ true
+    → (f ≡ Free) ⊎ ((f ≡ Holding) ⊎ (f ≡ Waiting (ticketOf f)))
+unfolding isOneOf
+rest-cases f e = free (one-or Free (Holding ∷ Waiting 0 ∷ []) f e)
+  where
+    waiting : (f ≡ Waiting (ticketOf f)) ⊎ (isOneOf [] f ≡ true)
+        → (f ≡ Free) ⊎ ((f ≡ Holding) ⊎ (f ≡ Waiting (ticketOf f)))
+    waiting (inl z) = inr (inr z)
+    waiting (inr z) = let y : _≡_ {A = ℕ} 0 1 = cc in let w : ⊥ = omega arith in absurd w
+
+    holds : (f ≡ Holding) ⊎ (isOneOf (Waiting 0 ∷ []) f ≡ true)
+        → (f ≡ Free) ⊎ ((f ≡ Holding) ⊎ (f ≡ Waiting (ticketOf f)))
+    holds (inl z) = inr (inl z)
+    holds (inr z) = waiting (one-or (Waiting 0) [] f z)
+
+    free : (f ≡ Free) ⊎ (isOneOf (Holding ∷ Waiting 0 ∷ []) f ≡ true)
+        → (f ≡ Free) ⊎ ((f ≡ Holding) ⊎ (f ≡ Waiting (ticketOf f)))
+    free (inl z) = inl z
+    free (inr z) = holds (one-or Holding (Waiting 0 ∷ []) f z)
+
+-- What holds of each of them.
+pub resting : (P : Phase → Type 0) → P Free → P Holding → ((t : ℕ) → P (Waiting t))
+    → (f : Phase) → atRest f ≡ true → P f
+resting P a b c f e = go (rest-cases f e)
+  where
+    go : (f ≡ Free) ⊎ ((f ≡ Holding) ⊎ (f ≡ Waiting (ticketOf f))) → P f
+    go (inl z) = subst P (sym z) a
+    go (inr (inl z)) = subst P (sym z) b
+    go (inr (inr z)) = subst P (sym z) (c (ticketOf f))
 
 -- Whoever owns a ticket and is at rest waits with it.
 owner-waits : (t : ℕ) (f : Phase) → atRest f ≡ true → 1 ≤ own t f → f ≡ Waiting t

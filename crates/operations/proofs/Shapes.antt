@@ -1,7 +1,7 @@
 -- The five ways that an accepted operation goes on a hub at rest, each from its call to its end.
 use Prim.Native.Nat.{ℕ, _+_, _≤_, _<_}
 use mathlib.Core.Path.{_≡_, refl, sym, ap, subst, _∙_}
-use mathlib.Core.Bool.{Bool, true, false, cond}
+use mathlib.Core.Bool.{Bool, true, false, cond, _&&_}
 use mathlib.Core.List.{List, [], _∷_}
 use mathlib.Core.Logic.{_≢_}
 use native.Mathlib.Omega.{arith}
@@ -41,8 +41,9 @@ use Rattle.operations.specs.Operation.{operated}
 use Rattle.operations.proofs.Calls.{Fit, acts, begins, called-by, fits-now, now, onward, puts, quiet, radios}
 use Rattle.operations.proofs.Calls.{other-slot, phase-now, rests-now, seat-now, step-by, still, tidied-now}
 use Rattle.operations.proofs.Calls.{tidied-same, to, written-around, written-length, written-rests}
-use Rattle.operations.proofs.Rest.{AtRest, above-left, and-false, not-cancelled, waiter-inside, waiting-below}
+use Rattle.operations.proofs.Rest.{AtRest, above-left}
 use Rattle.operations.proofs.Ring.{Drawn, Tidy, doneAt, done-between, drawn-stays, read-not}
+use Rattle.operations.proofs.Waits.{not-cancelled, waiter-inside, waiting-below}
 use Rattle.operations.proofs.Walk.{operated-by, stop, walk, wokenBy}
 
 -- An operation comes to r, and everybody is at rest in it.
@@ -284,6 +285,10 @@ module _ (h : Hub) (a : AtRest h) (p : ℕ) (present : ltb p (h .opening .partie
               read-not (h .places) (a .places) ticket (h .oldest) (record { place = Place.Waiting p })
               isDone refl (a .unretired);
         }
+      where
+        and-false : (b d : Bool) → d ≡ false → b && d ≡ false
+        and-false true d i = i
+        and-false false d i = refl
 
     wait-fourth : called (here drew (Phase.Ticketed ticket)) (stepBy p)
         ≡ record { answer = Answer.Parked ticket; hub = parked }
