@@ -1,11 +1,10 @@
 -- Each operation on a hub at rest comes to its closed form, refused or accepted, and leaves everybody at rest.
-use Prim.Native.Nat.{ℕ, _+_, _<_}
+use Prim.Native.Nat.{ℕ, _+_}
 use mathlib.Core.Path.{_≡_, refl, sym, ap, subst, _∙_}
 use mathlib.Core.Bool.{Bool, true, false}
-use mathlib.Core.List.{List, [], _∷_}
 use native.Mathlib.Omega.{arith}
 use borrow.Author.Tests.{leb-false}
-use lib.Dec.{eqb, leb, ltb}
+use lib.Dec.{ltb}
 use Rattle.hub.specs.declared.answers.Answer.{Answer}
 use Rattle.hub.specs.declared.answers.Refusal.{Refusal}
 use Rattle.hub.specs.declared.moves.Call.{Call}
@@ -15,19 +14,18 @@ use Rattle.hub.specs.declared.record.Phase.{Phase}
 use Rattle.hub.specs.declared.record.Pool.{Pool}
 use Rattle.hub.specs.Answers.{printed}
 use Rattle.hub.specs.Basics.{count}
-use Rattle.hub.specs.Calls.{apply, called, checked, isFull, moveOf, withPool}
+use Rattle.hub.specs.Calls.{apply, checked, isFull, moveOf, withPool}
 use Rattle.hub.specs.Calm.{rests}
 use Rattle.hub.specs.Look.{look, seenBy}
 use Rattle.hub.specs.Moves.{Act, Move, Refuse}
-use Rattle.hub.specs.Phases.{drawsTicket, isFree, isHolding, isOneOf, ticketOf}
+use Rattle.hub.specs.Phases.{drawsTicket, isHolding, isOneOf, ticketOf}
 use Rattle.hub.specs.Radios.{moved}
 use Rattle.hub.specs.Record.{phasesOf, readSlot}
 use Rattle.hub.specs.Ring.{PLACES}
-use Rattle.hub.specs.Table.{aboveZero, acquire, belowZero, canCancel, cancel, decide, givenUp, release, withBegun}
+use Rattle.hub.specs.Table.{aboveZero, acquire, belowZero, canCancel, cancel, decide, givenUp, release}
 use Rattle.hub.proofs.Laws.Phases.{one-of}
 use Rattle.operations.specs.declared.Operated.{Operated}
 use Rattle.operations.specs.AtRest.{ComesTo, EndsAtRest, acquired, byMove, isOperation, operatedAtRest, released}
-use Rattle.operations.specs.Operation.{operated}
 use Rattle.operations.proofs.Calls.{allowed, called-by, fits-now, still, to}
 use Rattle.operations.proofs.Reached.{at-rest, resting}
 use Rattle.operations.proofs.Rest.{AtRest}

@@ -1,13 +1,13 @@
 -- The five ways that an accepted operation goes on a hub at rest, each from its call to its end.
-use Prim.Native.Nat.{ℕ, _+_, _≤_, _<_}
+use Prim.Native.Nat.{ℕ, _+_, _<_}
 use mathlib.Core.Path.{_≡_, refl, sym, ap, subst, _∙_}
 use mathlib.Core.Bool.{Bool, true, false, cond, _&&_}
 use mathlib.Core.List.{List, [], _∷_}
 use mathlib.Core.Logic.{_≢_}
 use native.Mathlib.Omega.{arith}
 use borrow.Author.Tests.{eqb-true, le-leb, ltb-true}
-use lib.Dec.{eqb, leb, ltb}
-use lib.IntN.{ℤ, pos, negsuc, predℤ, sucℤ}
+use lib.Dec.{eqb, ltb}
+use lib.IntN.{predℤ, sucℤ}
 use lib.ListN.{length}
 use Rattle.hub.specs.declared.answers.Answer.{Answer}
 use Rattle.hub.specs.declared.moves.Call.{Call}
@@ -23,7 +23,6 @@ use Rattle.hub.specs.declared.record.Pool.{Pool}
 use Rattle.hub.specs.Answers.{printed}
 use Rattle.hub.specs.Calls.{apply, called, moveOf, ringOf, tidied, withPool, withRing}
 use Rattle.hub.specs.Calm.{rests, stepBy}
-use Rattle.hub.specs.Fits.{fits}
 use Rattle.hub.specs.Look.{look, seenBy}
 use Rattle.hub.specs.Moves.{Act, Move, Wake}
 use Rattle.hub.specs.Phases.{atRest, byTicket, byWaiter, isCancelled, isDone, isOneOf, isPlaceOf, isWaiting, ticketOf}
@@ -42,7 +41,7 @@ use Rattle.operations.proofs.Calls.{Fit, acts, begins, called-by, fits-
 use Rattle.operations.proofs.Calls.{other-slot, phase-now, rests-now, seat-now, step-by, still, tidied-now}
 use Rattle.operations.proofs.Calls.{tidied-same, to, written-around, written-length, written-rests}
 use Rattle.operations.proofs.Rest.{AtRest, above-left}
-use Rattle.operations.proofs.Ring.{Drawn, Tidy, doneAt, done-between, drawn-stays, read-not}
+use Rattle.operations.proofs.Ring.{Drawn, Tidy, done-between, drawn-stays, read-not}
 use Rattle.operations.proofs.Waits.{not-cancelled, waiter-inside, waiting-below}
 use Rattle.operations.proofs.Walk.{operated-by, stop, walk, wokenBy}
 
