@@ -99,15 +99,14 @@ module _ (h : Hub) (a : AtRest h) where
       where
         go : (b : Bool) → aboveZero (h .figures .counter) ≡ b
             → Comes h (record { op = Op.Acquire; party = p }) (acquired b h p)
-        go true i = ask-permit h a p present i e
+        go true i = ask-permit h a p present e i
         go false i =
-            ask-wait h a p present i
+            ask-wait h a p present e i
             (omega (
               arith,
               leb-false (h .oldest + PLACES)
                   (h .figures .issued + count drawsTicket (phasesOf (h .slots))) f,
             ))
-            e
 
     -- Whoever can give up and is at rest waits.
     can-wait : canCancel phase ≡ true → phase ≡ Phase.Waiting (ticketOf phase)
@@ -133,10 +132,10 @@ module _ (h : Hub) (a : AtRest h) where
       where
         go : (b : Bool) → belowZero (h .figures .counter) ≡ b
             → Comes h (record { op = Op.Release; party = p }) (released b h p)
-        go false j = give-back h a p present j e
+        go false j = give-back h a p present e j
         go true j =
             let q = next-waits h a j in
-            hand-over h a p present j (one-of Phase.Holding phase i) (q .0) (q .1) e
+            hand-over h a p present e j (one-of Phase.Holding phase i) (q .0) (q .1)
 
   -- Every operation.
   pub operation : (o : Op) (p : ℕ) → isOperation o ≡ true
