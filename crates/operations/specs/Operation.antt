@@ -1,0 +1,41 @@
+-- A whole operation: a call (ask, give up, give back), then steps until nobody is busy. On a hub at rest only
+-- the calling party can be.
+use Prim.Native.Nat.{ℕ, zero, suc}
+use mathlib.Core.Bool.{cond}
+use mathlib.Core.List.{List, [], _∷_}
+use lib.Dec.{eqb}
+use lib.ListN.{length}
+use Rattle.hub.specs.declared.moves.Call.{Call}
+use Rattle.hub.specs.declared.record.Hub.{Hub}
+use Rattle.hub.specs.Calls.{called}
+use Rattle.hub.specs.Calm.{rests, stepBy}
+use Rattle.hub.specs.Schedule.{Entry, entries, run}
+use Rattle.operations.specs.declared.Operated.{Operated}
+
+-- The steps of party p from h on until it is at rest, at most n.
+unfoldable pub stepsOf : ℕ → Hub → ℕ → List Call
+stepsOf zero h p = []
+stepsOf (suc n) h p = cond (rests h p) [] (stepBy p ∷ stepsOf n (called h (stepBy p) .hub) p)
+
+-- No operation takes more.
+abbrev pub MOST-STEPS : ℕ
+MOST-STEPS = 3
+
+abbrev pub stepsAfter : Hub → Call → List Call
+stepsAfter h c = stepsOf MOST-STEPS (called h c .hub) (c .party)
+
+-- The party that an answer shows as woken, FF if none does.
+unfoldable pub wokenIn : List Entry → ℕ
+wokenIn [] = 0xFF
+wokenIn (e ∷ es) = cond (eqb (e .answer .woken) 0xFF) (wokenIn es) (e .answer .woken)
+
+-- The call and its steps, run on the hub.
+unfoldable pub operated : Hub → Call → Operated
+operated h c =
+    let calls = c ∷ stepsAfter h c in
+    record {
+      answer = called h c .answer;
+      woken = wokenIn (entries h calls);
+      steps = length (stepsAfter h c);
+      hub = run h calls;
+    }
