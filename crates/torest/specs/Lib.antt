@@ -1,0 +1,2 @@
+-- One whole operation by value.
+pub mod Walked
