@@ -35,11 +35,7 @@ impl Line {
         let shape = match (code, self.holders.contains(&party), in_turn) {
             (ASK, false, None) if waits => {
                 self.waiting.push(party);
-                if self.waiting.len() == 1 {
-                    1
-                } else {
-                    2
-                }
+                self.waiting.len().min(2)
             }
             (ASK, false, None) => {
                 self.holders.insert(party);
