@@ -1,9 +1,11 @@
 -- What is known of a record that a schedule reached and on which everybody is at rest.
-use Prim.Native.Nat.{ℕ, _+_, _≤_, _<_}
-use mathlib.Core.Path.{_≡_}
+use Prim.Native.Nat.{ℕ, zero, suc, _+_, _≤_, _<_}
+use mathlib.Core.Path.{_≡_, refl}
 use mathlib.Core.Bool.{true, false}
 use mathlib.Core.List.{List}
 use mathlib.Core.Logic.{_⊎_}
+use native.Mathlib.Omega.{arith}
+use lib.IntN.{ℤ, pos, negsuc}
 use lib.ListN.{length}
 use Rattle.hub.specs.declared.moves.Call.{Call}
 use Rattle.hub.specs.declared.record.Hub.{Hub}
@@ -18,6 +20,7 @@ use Rattle.hub.specs.Phases.{isHolding, isWaiting}
 use Rattle.hub.specs.Record.{PARTIES, phasesOf, readSlot}
 use Rattle.hub.specs.Ring.{PLACES, canRetire, canSkip, readPlace}
 use Rattle.hub.specs.Schedule.{run}
+use Rattle.hub.specs.Table.{aboveZero, belowZero}
 
 pub record AtRest (h : Hub) : Type 0 where
   pub calm : (p : ℕ) → rests h p ≡ true
@@ -47,3 +50,26 @@ pub record AtRest (h : Hub) : Type 0 where
       ≡ h .opening .permits
   pub waiters : count isWaiting (phasesOf (h .slots)) ≡ belowBy (h .figures .counter)
   pub stored : h .opening .named ≡ true → h .pool .stored ≡ atCounter (h .figures .counter)
+
+-- Above zero a permit is left; else none is. Below zero somebody waits; else nobody does.
+pub above-left : (z : ℤ) → aboveZero z ≡ true → 1 ≤ atCounter z
+above-left (pos zero) e = let i : _≡_ {A = ℕ} 0 1 = cc in omega arith
+above-left (pos (suc n)) e = omega arith
+above-left (negsuc n) e = let i : _≡_ {A = ℕ} 0 1 = cc in omega arith
+
+pub not-above : (z : ℤ) → aboveZero z ≡ false → atCounter z ≡ 0
+not-above (pos zero) e = refl
+not-above (pos (suc n)) e = let i : _≡_ {A = ℕ} 0 1 = cc in omega arith
+not-above (negsuc n) e = refl
+
+pub below-wait : (z : ℤ) → belowZero z ≡ true → 1 ≤ belowBy z
+below-wait (pos n) e = let i : _≡_ {A = ℕ} 0 1 = cc in omega arith
+below-wait (negsuc n) e = omega arith
+
+pub not-below : (z : ℤ) → belowZero z ≡ false → belowBy z ≡ 0
+not-below (pos n) e = refl
+not-below (negsuc n) e = let i : _≡_ {A = ℕ} 0 1 = cc in omega arith
+
+pub wait-below : (z : ℤ) → 1 ≤ belowBy z → belowZero z ≡ true
+wait-below (pos n) i = let z : ⊥ = omega arith in absurd z
+wait-below (negsuc n) i = refl
