@@ -1,1 +1,4 @@
 -- What the proofs of this crate share.
+pub mod Codes
+pub mod Rested
+pub mod Comes
