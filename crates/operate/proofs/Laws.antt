@@ -2,3 +2,5 @@
 pub mod Codes
 pub mod Rested
 pub mod Comes
+pub mod Answers
+pub mod Endings

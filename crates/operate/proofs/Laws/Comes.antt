@@ -132,10 +132,15 @@ module _ (h : Hub) (p : ℕ) where
     pub hub : tidiedBy (e .turns) (storedBy c e) ≡ r .hub
 
   module _ (size : length (h .slots) ≡ PARTIES) where
+    abbrev own : PartySlot
+    own = readSlot (h .slots) p
+
     -- Nobody is woken.
-    alone : (x s : PartySlot) → writeSlot (writeSlot (h .slots) 0xFF x) p s ≡ writeSlot (h .slots) p s
-    alone x s =
-        ap (λ (l : List PartySlot). writeSlot l p s) (sym (nobody (h .slots) 0xFF x (omega arith)))
+    alone : (s : PartySlot)
+        → writeSlot (writeSlot (h .slots) 0xFF (withPhase Phase.Holding (readSlot (h .slots) 0xFF))) p s
+        ≡ writeSlot (h .slots) p s
+    alone s =
+        ap (λ (l : List PartySlot). writeSlot l p s) (sym (nobody (h .slots) 0xFF _ (omega arith)))
 
     abbrev turnedDown : Refusal → Operated
     turnedDown r = record { answer = Answer.Refused r; woken = 0xFF; steps = 0; hub = h }
@@ -150,7 +155,7 @@ module _ (h : Hub) (p : ℕ) where
           hub =
               tidied-none _
               ∙ (λ i. made (h .figures) (same-seat (h .places) (ticketAt c) i)
-              ((alone _ _ ∙ same-slot (h .slots) p) i)
+              ((alone own ∙ same-slot (h .slots) p) i)
               ((ap (λ (y : Answer). poolAfter (h .opening .named) (printed y) p (h .pool)) e
               ∙ unmoved p (h .pool) (h .opening .named)) i));
         }
@@ -165,7 +170,7 @@ module _ (h : Hub) (p : ℕ) where
           hub =
               tidied-none _
               ∙ (λ i. made (asked (h .figures .issued) (h .figures)) (same-seat (h .places) (h .figures .issued) i)
-              (alone _ _ i) (fetched p (h .pool) (h .opening .named) i));
+              (alone (withPhase Phase.Holding own) i) (fetched p (h .pool) (h .opening .named) i));
         }
 
     parks : Comes 0x10 (planAcquire true false false false (seenOf 0x10)) (acquired false h p)
@@ -178,7 +183,7 @@ module _ (h : Hub) (p : ℕ) where
           hub =
               tidied-none _
               ∙ (λ i. made (asked (h .figures .issued + 1) (h .figures)) (acquired false h p .hub .places)
-              (alone _ _ i) (unmoved p (h .pool) (h .opening .named) i));
+              (alone (withPhase (Phase.Waiting (h .figures .issued)) own) i) (unmoved p (h .pool) (h .opening .named) i));
         }
 
     asks : (a b f z : Bool) → aboveZero (h .figures .counter) ≡ z
@@ -205,7 +210,7 @@ module _ (h : Hub) (p : ℕ) where
               tidied-all _
               ∙ ap tidied
               (λ i. made (given (h .figures .resumed) (h .figures))
-              (placesBy 0x12 (planCancel true false (seenOf 0x12))) (alone _ _ i)
+              (placesBy 0x12 (planCancel true false (seenOf 0x12))) (alone (withPhase Phase.Free own) i)
               (unmoved p (h .pool) (h .opening .named) i));
         }
 
@@ -226,7 +231,7 @@ module _ (h : Hub) (p : ℕ) where
           hub =
               tidied-none _
               ∙ (λ i. made (given (h .figures .resumed) (h .figures)) (same-seat (h .places) (h .figures .resumed) i)
-              (alone _ _ i) (stored p (h .pool) (h .opening .named) i));
+              (alone (withPhase Phase.Free own) i) (stored p (h .pool) (h .opening .named) i));
         }
 
     hands-over : Comes 0x13 (planRelease true true (seenOf 0x13)) (released true h p)
@@ -268,10 +273,6 @@ module _ (h : Hub) (p : ℕ) where
 
         abbrev AsPlanned : ℕ → Type 0
         AsPlanned c = Comes c (planAt c) (operatedAtRest h (callBy c))
-
-        phase-is : look h p .slot .phase ≡ readSlot (h .slots) p .phase
-        unfolding seenBy
-        phase-is = refl
 
         ask : AsPlanned 0x10
         unfolding decide seenBy
