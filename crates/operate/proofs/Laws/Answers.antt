@@ -48,6 +48,7 @@ pub record Upto (h₀ : Hub) (l out₀ : List ℕ) (h : Hub) (out : List ℕ) (i
   pub within : i ≤ length l / 2
   pub formed : wellFormed isOperationCode (drop (2 * i) l) ≡ true
   pub room : 3 * (length l / 2) ≤ length out
+  pub length : length out ≡ length out₀
   pub rested : Rested h
   pub rest : drop (3 * i) out ≡ drop (3 * i) out₀
   pub same : take (3 * i) out ++ answersTo h (callsOf (drop (2 * i) l)) ≡ answersTo h₀ (callsOf l)
@@ -55,7 +56,7 @@ pub record Upto (h₀ : Hub) (l out₀ : List ℕ) (h : Hub) (out : List ℕ) (i
 pub start : (h : Hub) (l out : List ℕ) → Rested h → wellFormed isOperationCode l ≡ true
     → 3 * (length l / 2) ≤ length out → Upto h l out h out 0
 start h l out r w k =
-    record { within = omega arith; formed = w; room = k; rested = r; rest = refl; same = refl }
+    record { within = omega arith; formed = w; room = k; length = refl; rested = r; rest = refl; same = refl }
 
 module _ (h₀ : Hub) (l out₀ : List ℕ) (h : Hub) (out : List ℕ) (i : ℕ) (u : Upto h₀ l out₀ h out i) where
   module _ (more : i < length l / 2) where
@@ -93,6 +94,7 @@ module _ (h₀ : Hub) (l out₀ : List ℕ) (h : Hub) (out : List ℕ) (i : ℕ)
           within = omega arith;
           formed = formed-on;
           room = omega (arith, u .room, long);
+          length = long ∙ u .length;
           rested =
               subst Rested (sym g)
               (rested-again h (u .rested) (callAt l i) (an-operation (codeAt l i) code-here));
