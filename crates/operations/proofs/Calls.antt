@@ -1,7 +1,7 @@
 -- Single calls, on a record that is as one at rest was but for one party's phase and the figures.
 use Prim.Native.Nat.{ℕ, _<_}
 use mathlib.Core.Path.{_≡_, refl, sym, ap, subst, _∙_}
-use mathlib.Core.Bool.{Bool, true, false, cond}
+use mathlib.Core.Bool.{Bool, true, false}
 use mathlib.Core.List.{List, [], _∷_}
 use mathlib.Core.Logic.{_≢_}
 use native.Mathlib.Decide.{ℕ-discrete}
@@ -24,14 +24,14 @@ use Rattle.hub.specs.Calls.{answerOf, apply, called, checked, isFull, moveOf, r
 use Rattle.hub.specs.Calm.{rests, stepBy}
 use Rattle.hub.specs.Fits.{fits}
 use Rattle.hub.specs.Look.{look, seenBy}
-use Rattle.hub.specs.Moves.{Change, Move, Refuse, Tell, Act, Put, Wake}
+use Rattle.hub.specs.Moves.{Change, Move, Act, Put}
 use Rattle.hub.specs.Phases.{atRest, byTicket}
 use Rattle.hub.specs.Radios.{moved, poolAfter}
 use Rattle.hub.specs.Record.{emptySeat, freeSlot, readSlot, writeSlot}
-use Rattle.hub.specs.Ring.{Ring, readSeat, reclaimed, writeSeat}
+use Rattle.hub.specs.Ring.{Ring, readSeat, writeSeat}
 use Rattle.hub.specs.Schedule.{run}
 use Rattle.hub.specs.Table.{decide, stepIn}
-use Rattle.operations.specs.AtRest.{figuresTo, phaseTo, placeTo, radiosBy}
+use Rattle.operations.specs.AtRest.{figuresTo, phaseTo, placeTo}
 use Rattle.operations.proofs.Ring.{Tidy, tidy-same}
 
 -- Slots read after one was written.

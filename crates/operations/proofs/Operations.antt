@@ -1,11 +1,10 @@
 -- Each operation on a hub at rest comes to its closed form, refused or accepted, and leaves everybody at rest.
-use Prim.Native.Nat.{ℕ, _+_, _<_}
+use Prim.Native.Nat.{ℕ, _+_}
 use mathlib.Core.Path.{_≡_, refl, sym, ap, subst, _∙_}
 use mathlib.Core.Bool.{Bool, true, false}
-use mathlib.Core.List.{List, [], _∷_}
 use native.Mathlib.Omega.{arith}
 use borrow.Author.Tests.{leb-false}
-use lib.Dec.{eqb, leb, ltb}
+use lib.Dec.{ltb}
 use Rattle.hub.specs.declared.answers.Answer.{Answer}
 use Rattle.hub.specs.declared.answers.Refusal.{Refusal}
 use Rattle.hub.specs.declared.moves.Call.{Call}
@@ -15,19 +14,18 @@ use Rattle.hub.specs.declared.record.Phase.{Phase}
 use Rattle.hub.specs.declared.record.Pool.{Pool}
 use Rattle.hub.specs.Answers.{printed}
 use Rattle.hub.specs.Basics.{count}
-use Rattle.hub.specs.Calls.{apply, called, checked, isFull, moveOf, withPool}
+use Rattle.hub.specs.Calls.{apply, checked, isFull, moveOf, withPool}
 use Rattle.hub.specs.Calm.{rests}
 use Rattle.hub.specs.Look.{look, seenBy}
 use Rattle.hub.specs.Moves.{Act, Move, Refuse}
-use Rattle.hub.specs.Phases.{drawsTicket, isFree, isHolding, isOneOf, ticketOf}
+use Rattle.hub.specs.Phases.{drawsTicket, isHolding, isOneOf, ticketOf}
 use Rattle.hub.specs.Radios.{moved}
 use Rattle.hub.specs.Record.{phasesOf, readSlot}
 use Rattle.hub.specs.Ring.{PLACES}
-use Rattle.hub.specs.Table.{aboveZero, acquire, belowZero, canCancel, cancel, decide, givenUp, release, withBegun}
+use Rattle.hub.specs.Table.{aboveZero, acquire, belowZero, canCancel, cancel, decide, givenUp, release}
 use Rattle.hub.proofs.Laws.Phases.{one-of}
 use Rattle.operations.specs.declared.Operated.{Operated}
 use Rattle.operations.specs.AtRest.{ComesTo, EndsAtRest, acquired, byMove, isOperation, operatedAtRest, released}
-use Rattle.operations.specs.Operation.{operated}
 use Rattle.operations.proofs.Calls.{allowed, called-by, fits-now, still, to}
 use Rattle.operations.proofs.Reached.{at-rest, resting}
 use Rattle.operations.proofs.Rest.{AtRest}
@@ -101,15 +99,14 @@ module _ (h : Hub) (a : AtRest h) where
       where
         go : (b : Bool) → aboveZero (h .figures .counter) ≡ b
             → Comes h (record { op = Op.Acquire; party = p }) (acquired b h p)
-        go true i = ask-permit h a p present i e
+        go true i = ask-permit h a p present e i
         go false i =
-            ask-wait h a p present i
+            ask-wait h a p present e i
             (omega (
               arith,
               leb-false (h .oldest + PLACES)
                   (h .figures .issued + count drawsTicket (phasesOf (h .slots))) f,
             ))
-            e
 
     -- Whoever can give up and is at rest waits.
     can-wait : canCancel phase ≡ true → phase ≡ Phase.Waiting (ticketOf phase)
@@ -135,10 +132,10 @@ module _ (h : Hub) (a : AtRest h) where
       where
         go : (b : Bool) → belowZero (h .figures .counter) ≡ b
             → Comes h (record { op = Op.Release; party = p }) (released b h p)
-        go false j = give-back h a p present j e
+        go false j = give-back h a p present e j
         go true j =
             let q = next-waits h a j in
-            hand-over h a p present j (one-of Phase.Holding phase i) (q .0) (q .1) e
+            hand-over h a p present e j (one-of Phase.Holding phase i) (q .0) (q .1)
 
   -- Every operation.
   pub operation : (o : Op) (p : ℕ) → isOperation o ≡ true

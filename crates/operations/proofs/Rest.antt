@@ -1,10 +1,12 @@
 -- What is known of a record that a schedule reached and on which everybody is at rest.
 use Prim.Native.Nat.{ℕ, zero, suc, _+_, _≤_, _<_}
-use mathlib.Core.Path.{_≡_, refl}
+use mathlib.Core.Path.{_≡_, refl, sym}
 use mathlib.Core.Bool.{true, false}
 use mathlib.Core.List.{List}
 use mathlib.Core.Logic.{_⊎_}
 use native.Mathlib.Omega.{arith}
+use borrow.Author.Tests.{lt-ltb}
+use lib.Dec.{ltb}
 use lib.IntN.{ℤ, pos, negsuc}
 use lib.ListN.{length}
 use Rattle.hub.specs.declared.moves.Call.{Call}
@@ -51,25 +53,12 @@ pub record AtRest (h : Hub) : Type 0 where
   pub waiters : count isWaiting (phasesOf (h .slots)) ≡ belowBy (h .figures .counter)
   pub stored : h .opening .named ≡ true → h .pool .stored ≡ atCounter (h .figures .counter)
 
--- Above zero a permit is left; else none is. Below zero somebody waits; else nobody does.
-pub above-left : (z : ℤ) → aboveZero z ≡ true → 1 ≤ atCounter z
-above-left (pos zero) e = let i : _≡_ {A = ℕ} 0 1 = cc in omega arith
-above-left (pos (suc n)) e = omega arith
-above-left (negsuc n) e = let i : _≡_ {A = ℕ} 0 1 = cc in omega arith
+-- Above zero something is there; below zero something is due.
+pub above-zero : (z : ℤ) → aboveZero z ≡ ltb 0 (atCounter z)
+above-zero (pos zero) = refl
+above-zero (pos (suc n)) = sym (lt-ltb 0 (suc n) (omega arith))
+above-zero (negsuc n) = refl
 
-pub not-above : (z : ℤ) → aboveZero z ≡ false → atCounter z ≡ 0
-not-above (pos zero) e = refl
-not-above (pos (suc n)) e = let i : _≡_ {A = ℕ} 0 1 = cc in omega arith
-not-above (negsuc n) e = refl
-
-pub below-wait : (z : ℤ) → belowZero z ≡ true → 1 ≤ belowBy z
-below-wait (pos n) e = let i : _≡_ {A = ℕ} 0 1 = cc in omega arith
-below-wait (negsuc n) e = omega arith
-
-pub not-below : (z : ℤ) → belowZero z ≡ false → belowBy z ≡ 0
-not-below (pos n) e = refl
-not-below (negsuc n) e = let i : _≡_ {A = ℕ} 0 1 = cc in omega arith
-
-pub wait-below : (z : ℤ) → 1 ≤ belowBy z → belowZero z ≡ true
-wait-below (pos n) i = let z : ⊥ = omega arith in absurd z
-wait-below (negsuc n) i = refl
+pub below-zero : (z : ℤ) → belowZero z ≡ ltb 0 (belowBy z)
+below-zero (pos n) = refl
+below-zero (negsuc n) = sym (lt-ltb 0 (suc n) (omega arith))

@@ -1,7 +1,7 @@
 -- The tidying, on rings alone: where it has nothing to do, that it leaves nothing to do, and that a place which
 -- is done after one tidying might as well have been done before.
 use Prim.Native.Nat.{ℕ, zero, suc, _+_, _%_, _≤_, _<_}
-use mathlib.Core.Path.{_≡_, refl, sym, ap, subst, _∙_}
+use mathlib.Core.Path.{_≡_, refl, sym, ap, _∙_}
 use mathlib.Core.Bool.{Bool, true, false, cond, _&&_}
 use mathlib.Core.List.{List}
 use mathlib.Core.Logic.{_≢_}
@@ -18,7 +18,7 @@ use Rattle.hub.specs.Record.{emptySeat, withPlace}
 use Rattle.hub.specs.Ring.{LoopsEnd, PLACES, Ring, canRetire, canSkip, readPlace, readSeat, reclaimed}
 use Rattle.hub.specs.Ring.{retire, retired, skip, skipped, writeSeat}
 use Rattle.hub.proofs.Laws.Bools.{first}
-use Rattle.hub.proofs.Laws.Ring.{loops-end, retire-no, retire-yes, skip-no, skip-yes}
+use Rattle.hub.proofs.Laws.Ring.{loops-end, retire-no, skip-no, skip-yes}
 use Rattle.hub.proofs.Laws.Seats.{written-other, written-same, written-size}
 
 -- Nothing to do.
