@@ -6,13 +6,14 @@ use Rattle.hub.specs.declared.moves.Call.{Call}
 use Rattle.hub.specs.declared.record.Hub.{Hub}
 use Rattle.hub.specs.Schedule.{entries}
 use Rattle.line.specs.Form.{asBytes}
-use Rattle.line.specs.Frame.{isCall, opOf}
+use Rattle.line.specs.Frame.{opOf}
 use Rattle.line.specs.Program.{replyOf, rendered}
 
-unfoldable pub wellFormed : List ℕ → Bool
-wellFormed [] = true
-wellFormed (c ∷ []) = false
-wellFormed (c ∷ p ∷ l) = isCall c && wellFormed l
+-- Two bytes each, the first of them a code that passes a test.
+unfoldable pub wellFormed : (ℕ → Bool) → List ℕ → Bool
+wellFormed isCode [] = true
+wellFormed isCode (c ∷ []) = false
+wellFormed isCode (c ∷ p ∷ l) = isCode c && wellFormed isCode l
 
 unfoldable pub callsOf : List ℕ → List Call
 callsOf [] = []

@@ -10,6 +10,7 @@ use Rattle.hub.specs.declared.record.Hub.{Hub}
 use Rattle.hub.specs.Answers.{refusalCode}
 use Rattle.hub.specs.Basics.{upTo32}
 use Rattle.hub.specs.Opening.{fresh, radiosDiffer}
+use Rattle.line.specs.Frame.{isCall}
 use Rattle.line.specs.Requests.{Request, malformed, toOpen, toCall}
 use Rattle.run.specs.Bytes.{wellFormed, callsOf, framesOf}
 use Rattle.run.specs.declared.Ran.{Ran}
@@ -35,7 +36,7 @@ runIf true true true true true o calls out =
 
 abbrev pub runOf : Opening → List ℕ → List ℕ → Ended
 runOf o calls out =
-    runIf (upTo32 (o .permits)) (upTo32 (o .parties)) (radiosDiffer o) (wellFormed calls)
+    runIf (upTo32 (o .permits)) (upTo32 (o .parties)) (radiosDiffer o) (wellFormed isCall calls)
     (leb (length calls / 2) (length out / 7)) o calls out
 
 -- The same with the opening as a frame; one that is malformed, or a call, opens nothing.

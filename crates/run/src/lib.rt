@@ -11,8 +11,9 @@ use line::form::BYTES;
 use line::openings::is_opening_frame;
 use line::openings::opening_in;
 ghost use mathlib.Core.Path.{_≡_};
-ghost use Rattle.run.specs.Bytes.{wellFormed};
+ghost use Rattle.line.specs.Frame.{isCall};
 ghost use Rattle.line.specs.Requests.{requested};
+ghost use Rattle.run.specs.Bytes.{wellFormed};
 ghost use Rattle.run.specs.Run.{framedRun, ranCode, runOf};
 
 // How a run ended. Only a run that is done writes to the buffer.
@@ -26,7 +27,7 @@ pub enum Ran {
 
 // Is each pair of bytes a call?
 fn well_formed(calls: &[u8]) -> bool
-    ensures { λ r. ⌜ r ≡ wellFormed (now (calls .entry)) ⌝ }
+    ensures { λ r. ⌜ r ≡ wellFormed isCall (now (calls .entry)) ⌝ }
 {
     let total = calls.len() / 2;
     if calls.len() % 2 == 1 {

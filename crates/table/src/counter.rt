@@ -3,13 +3,13 @@
 ghost use mathlib.Core.Path.{_≡_};
 ghost use Rattle.hub.specs.Table.{aboveZero, belowZero};
 
-pub(crate) fn above_zero(counter: i32) -> bool
+pub fn above_zero(counter: i32) -> bool
     ensures { λ r. ⌜ r ≡ aboveZero counter ⌝ }
 {
     0 < counter
 }
 
-pub(crate) fn below_zero(counter: i32) -> bool
+pub fn below_zero(counter: i32) -> bool
     ensures { λ r. ⌜ r ≡ belowZero counter ⌝ }
 {
     counter < 0

@@ -2,7 +2,7 @@
 // calls. Each function is equal to a definition of the crate hub, laid out flat.
 
 pub mod effect; // a decision as it is stored
-mod counter; // the side of zero that the counter is on
+pub mod counter; // the side of zero that the counter is on
 mod figures; // one of them changed
 mod changes; // what the rows are made of
 pub mod rows; // the step table

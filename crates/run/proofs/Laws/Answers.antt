@@ -16,7 +16,7 @@ use Rattle.batch.specs.Batch.{requestsIn, replied}
 use Rattle.run.specs.Bytes.{wellFormed, callsOf}
 use Rattle.run.specs.Run.{written}
 
-makes-calls : (l : List ℕ) → wellFormed l ≡ true
+makes-calls : (l : List ℕ) → wellFormed isCall l ≡ true
     → requestsIn (length l / 2) l ≡ map toCall (callsOf l)
 unfolding wellFormed callsOf requestsIn
 makes-calls [] w = refl
@@ -24,14 +24,14 @@ makes-calls (c ∷ []) w = let z : _≡_ {A = ℕ} 0 1 = cc in absurd (omega ari
 makes-calls (c ∷ p ∷ l) w =
     ap (λ (n : ℕ). requestsIn n (c ∷ p ∷ l)) (half (length l))
     ∙ ap (λ (q : Request). q ∷ requestsIn (length l / 2) l)
-    (if-true (isCall c) _ _ (first (isCall c) (wellFormed l) w))
+    (if-true (isCall c) _ _ (first (isCall c) (wellFormed isCall l) w))
     ∙ ap (λ (l : List Request). toCall (record { op = opOf c; party = p }) ∷ l)
-    (makes-calls l (second (isCall c) (wellFormed l) w))
+    (makes-calls l (second (isCall c) (wellFormed isCall l) w))
   where
     half : (n : ℕ) → suc (suc n) / 2 ≡ suc (n / 2)
     half n = omega arith
 
-pub all-answered : (calls out : List ℕ) (h : Hub) → wellFormed calls ≡ true → isOpen h ≡ true
+pub all-answered : (calls out : List ℕ) (h : Hub) → wellFormed isCall calls ≡ true → isOpen h ≡ true
     → replied asBytes h (length calls / 2) calls out ≡ written h calls out
 all-answered calls out h w o =
     ap (λ (l : List Reply). rendered asBytes l ++ drop (7 * (length calls / 2)) out)

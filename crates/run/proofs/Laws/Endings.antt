@@ -18,6 +18,7 @@ use Rattle.hub.specs.Basics.{upTo32}
 use Rattle.hub.specs.Opening.{fresh, openingIf, opening, radiosDiffer}
 use Rattle.hub.proofs.Laws.Opening.{accepted}
 use Rattle.line.specs.Form.{asBytes}
+use Rattle.line.specs.Frame.{isCall}
 use Rattle.line.specs.Requests.{Request, toOpen, toCall, isOpening}
 use Rattle.batch.specs.Batch.{replied, Reachable}
 use Rattle.batch.proofs.Laws.Reachable.{reachable-open, opening-reachable}
@@ -74,11 +75,11 @@ module _ (k : Opening) (calls out : List ℕ) where
         go true true false t = absurd (miss others 0 tt t)
         go true true true t = record { permits = refl; parties = refl; radios = refl; made = refl }
 
-    pub malformed : wellFormed calls ≡ false → Ends Ran.Malformed out
+    pub malformed : wellFormed isCall calls ≡ false → Ends Ran.Malformed out
     unfolding runIf
     malformed w = rw (opened .permits, opened .parties, opened .radios, w) (refl, refl)
 
-    pub no-room : wellFormed calls ≡ true → length out / 7 < length calls / 2
+    pub no-room : wellFormed isCall calls ≡ true → length out / 7 < length calls / 2
         → Ends Ran.NoRoom out
     unfolding runIf
     no-room w l = rw (opened .permits, opened .parties, opened .radios, w, lt-leb _ _ l) (refl, refl)
@@ -91,7 +92,7 @@ module _ (k : Opening) (calls out : List ℕ) where
         (accepted (upTo32 (k .permits)) (upTo32 (k .parties)) (radiosDiffer k) k (opened .permits)
         (opened .parties) (opened .radios))))
 
-    pub done : (l : List ℕ) → wellFormed calls ≡ true → length calls / 2 ≤ length out / 7
+    pub done : (l : List ℕ) → wellFormed isCall calls ≡ true → length calls / 2 ≤ length out / 7
         → l ≡ replied asBytes (o .hub) (length calls / 2) calls out → Ends Ran.Done l
     unfolding runIf
     done l w m f =

@@ -6,7 +6,6 @@ use mathlib.Core.List.{List, [], _∷_}
 use native.Mathlib.Omega.{arith}
 use lib.ListN.{length, getD, drop, drop-of-length-le}
 use lib.Seq.{drop-cons}
-use Rattle.line.specs.Frame.{isCall}
 use Rattle.run.specs.Bytes.{wellFormed}
 
 -- The i-th pair, in front of the pairs past it.
@@ -25,34 +24,40 @@ pair l i h =
     next : (m : ℕ) → suc (2 * m + 1) ≡ 2 * (m + 1)
     next m = omega arith
 
--- Each pair before the i-th is a call.
-pub record Checked (l : List ℕ) (i : ℕ) : Type 0 where
-  pub within : i ≤ length l / 2
-  pub same : wellFormed (drop (2 * i) l) ≡ wellFormed l
+module _ (isCode : ℕ → Bool) where
+  -- Each pair before the i-th has a code that passes.
+  pub record Checked (l : List ℕ) (i : ℕ) : Type 0 where
+    pub within : i ≤ length l / 2
+    pub same : wellFormed isCode (drop (2 * i) l) ≡ wellFormed isCode l
 
-pub odd : (l : List ℕ) → length l % 2 ≡ 1 → false ≡ wellFormed l
-unfolding wellFormed
-odd [] e = absurd (omega arith)
-odd (c ∷ []) e = refl
-odd (c ∷ p ∷ l) e = go (isCall c) (wellFormed l) (odd l (omega arith))
-  where
-    go : (a b : Bool) → false ≡ b → false ≡ a && b
-    go true b e = e
-    go false b e = refl
-
-module _ (l : List ℕ) (i : ℕ) (k : Checked l i) where
-  pub bad : i < length l / 2 → isCall (getD l (2 * i) 0) ≡ false → false ≡ wellFormed l
+  pub odd : (l : List ℕ) → length l % 2 ≡ 1 → false ≡ wellFormed isCode l
   unfolding wellFormed
-  bad h e = sym (ap wellFormed (pair l i h) ∙ rw e) ∙ k .same
+  odd [] e = absurd (omega arith)
+  odd (c ∷ []) e = refl
+  odd (c ∷ p ∷ l) e = go (isCode c) (wellFormed isCode l) (odd l (omega arith))
+    where
+      go : (a b : Bool) → false ≡ b → false ≡ a && b
+      go true b e = e
+      go false b e = refl
 
-  pub good : i < length l / 2 → isCall (getD l (2 * i) 0) ≡ true → Checked l (i + 1)
+  -- The i-th pair, and the pairs past it.
+  pub one-formed : (l : List ℕ) (i : ℕ) → i < length l / 2
+      → wellFormed isCode (drop (2 * i) l)
+      ≡ isCode (getD l (2 * i) 0) && wellFormed isCode (drop (2 * (i + 1)) l)
   unfolding wellFormed
-  good h e =
-      record {
-        within = omega arith;
-        same = sym (ap wellFormed (pair l i h) ∙ rw e) ∙ k .same;
-      }
+  one-formed l i h = ap (wellFormed isCode) (pair l i h)
 
-  pub all : (length l % 2 ≡ 1 → ⊥) → length l / 2 ≤ i → true ≡ wellFormed l
-  unfolding wellFormed
-  all o h = sym (ap wellFormed (drop-of-length-le l {i = 2 * i} (omega arith))) ∙ k .same
+  module _ (l : List ℕ) (i : ℕ) (k : Checked l i) where
+    pub bad : i < length l / 2 → isCode (getD l (2 * i) 0) ≡ false → false ≡ wellFormed isCode l
+    bad h e = sym (one-formed l i h ∙ rw e) ∙ k .same
+
+    pub good : i < length l / 2 → isCode (getD l (2 * i) 0) ≡ true → Checked l (i + 1)
+    good h e =
+        record {
+          within = omega arith;
+          same = sym (one-formed l i h ∙ rw e) ∙ k .same;
+        }
+
+    pub all : (length l % 2 ≡ 1 → ⊥) → length l / 2 ≤ i → true ≡ wellFormed isCode l
+    unfolding wellFormed
+    all o h = sym (ap (wellFormed isCode) (drop-of-length-le l {i = 2 * i} (omega arith))) ∙ k .same

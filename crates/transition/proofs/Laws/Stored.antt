@@ -26,11 +26,11 @@ use Rattle.transition.specs.Tidied.{tidiedBy}
 use Rattle.transition.proofs.Laws.Loops.{reclaimed-none}
 
 -- Storing what was there changes nothing.
-same-seat : (l : List PlaceSlot) (t : ℕ) → writeSeat l t (readSeat l t) ≡ l
+pub same-seat : (l : List PlaceSlot) (t : ℕ) → writeSeat l t (readSeat l t) ≡ l
 unfolding writeSeat readSeat
 same-seat l t = set-getD l (t % PLACES) emptySeat
 
-same-slot : (l : List PartySlot) (p : ℕ) → writeSlot l p (readSlot l p) ≡ l
+pub same-slot : (l : List PartySlot) (p : ℕ) → writeSlot l p (readSlot l p) ≡ l
 unfolding writeSlot readSlot
 same-slot l p = set-getD l p freeSlot
 
@@ -113,11 +113,11 @@ stored h p e =
     made h (e .figures) (putBack (h .places) (readSlot (h .slots) p .phase) (e .seat))
     (writeSlot (writeSlot (h .slots) (e .woken) (e .waiter)) p (e .slot))
 
-tidied-all : (h : Hub) → tidiedBy PLACES h ≡ tidied h
+pub tidied-all : (h : Hub) → tidiedBy PLACES h ≡ tidied h
 unfolding tidied
 tidied-all h = refl
 
-tidied-none : (h : Hub) → tidiedBy 0 h ≡ h
+pub tidied-none : (h : Hub) → tidiedBy 0 h ≡ h
 tidied-none h = ap (withRing h) (reclaimed-none (ringOf h))
 
 module _ (h : Hub) (p : ℕ) (size : length (h .slots) ≡ PARTIES) where

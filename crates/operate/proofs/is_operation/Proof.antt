@@ -1,0 +1,22 @@
+-- `is_operation` meets its contract: its tests, in order, are those of the definition.
+use borrow.Author.Tests.{eq-eqb, ne-eqb}
+use mathlib.Core.Path.{_≡_, refl}
+use mathlib.Core.Bool.{Bool, true, false, _||_}
+use Rattle.operate.proofs.is_operation.Statement.{statement}
+use Rattle.operate.proofs.is_operation.Tie as tie
+
+returns : tie.Need-returns
+returns c = simp (eq-eqb _ _ (c .if1 .taken))
+
+returns-2 : tie.Need-returns-2
+returns-2 c = simp (ne-eqb _ _ (c .before .if1 .left), eq-eqb _ _ (c .if2 .taken))
+
+returns-3 : tie.Need-returns-3
+returns-3 c = simp (ne-eqb _ _ (c .before .if1 .left), ne-eqb _ _ (c .if2 .left)) (last _)
+  where
+    last : (b : Bool) → b ≡ b || false
+    last true = refl
+    last false = refl
+
+pub is-operation-spec : {M : Type 1} → statement M
+is-operation-spec = tie.close (tie.spec returns returns-2 returns-3)

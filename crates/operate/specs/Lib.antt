@@ -1,0 +1,5 @@
+-- Whole operations from bytes to bytes: two for each operation, three for each answer.
+pub mod Bytes
+pub mod Ending
+pub mod Rested
+pub mod Plan  -- what an operation comes to, as the code decides and stores it
