@@ -1,0 +1,63 @@
+-- The plain line: the parties that hold, and those that wait in their order.
+use Prim.Native.Nat.{ℕ, suc}
+use mathlib.Core.Bool.{Bool, true, false, cond}
+use mathlib.Core.List.{List, [], _∷_}
+use lib.ListN.{getD, length, replicate, take}
+use Rattle.hub.specs.Basics.{among}
+use Rattle.hub.specs.Radios.{padded}
+use Rattle.hub.specs.Record.{PARTIES}
+use Rattle.screen.specs.declared.record.Line.{Line}
+
+-- K permits, n parties, and whether there are radios. Nobody holds and nobody waits.
+unfoldable pub openedLine : ℕ → ℕ → Bool → Line
+openedLine k n named =
+    record {
+      permits = k;
+      parties = n;
+      named = named;
+      holding = replicate PARTIES false;
+      queue = replicate PARTIES 0;
+      waiting = 0;
+    }
+
+-- Those of the parties from p on that hold, rising.
+unfoldable pub holdersFrom : ℕ → List Bool → List ℕ
+holdersFrom p [] = []
+holdersFrom p (b ∷ bs) = let r = holdersFrom (suc p) bs in cond b (p ∷ r) r
+
+unfoldable pub holders : Line → List ℕ
+holders l = holdersFrom 0 (l .holding)
+
+-- Those that wait, in their order.
+unfoldable pub waiters : Line → List ℕ
+waiters l = take (l .waiting) (l .queue)
+
+-- Does party p hold; does it wait?
+unfoldable pub holdsIn : Line → ℕ → Bool
+holdsIn l p = getD (l .holding) p false
+
+unfoldable pub waitsIn : Line → ℕ → Bool
+waitsIn l p = among (waiters l) p
+
+-- The line with other holders, and with others that wait: behind them the queue is 0.
+abbrev pub withHolding : List Bool → Line → Line
+withHolding hs l =
+    record {
+      permits = l .permits;
+      parties = l .parties;
+      named = l .named;
+      holding = hs;
+      queue = l .queue;
+      waiting = l .waiting;
+    }
+
+abbrev pub withWaiters : List ℕ → Line → Line
+withWaiters ws l =
+    record {
+      permits = l .permits;
+      parties = l .parties;
+      named = l .named;
+      holding = l .holding;
+      queue = padded ws;
+      waiting = length ws;
+    }

@@ -1,0 +1,103 @@
+-- Ask, give up and give back as single moves, refused as at the hub.
+use Prim.Native.Nat.{ℕ}
+use mathlib.Core.Bool.{Bool, true, false, cond, not, _&&_}
+use mathlib.Core.List.{List, [], _∷_, _++_}
+use lib.Dec.{eqb, leb, ltb}
+use lib.ListN.{getD, drop, set}
+use Rattle.hub.specs.declared.answers.Answer.{Answer}
+use Rattle.hub.specs.declared.answers.Refusal.{Refusal}
+use Rattle.hub.specs.declared.moves.Call.{Call}
+use Rattle.hub.specs.declared.moves.Op.{Op}
+use Rattle.hub.specs.declared.opening.Opening.{Opening}
+use Rattle.hub.specs.Answers.{printed}
+use Rattle.hub.specs.Kinds.{kindOf}
+use Rattle.hub.specs.Opening.{opening}
+use Rattle.screen.specs.declared.record.Line.{Line}
+use Rattle.screen.specs.declared.record.Moved.{Moved}
+use Rattle.screen.specs.declared.record.Operation.{Operation}
+use Rattle.screen.specs.Fits.{held, lineFits}
+use Rattle.screen.specs.Line.{holdsIn, openedLine, waiters, waitsIn, withHolding, withWaiters}
+
+-- The hub's call by which an operation begins there.
+abbrev pub callOf : Operation → ℕ → Call
+callOf Operation.Acquire p = record { op = Op.Acquire; party = p }
+callOf Operation.Cancel p = record { op = Op.Cancel; party = p }
+callOf Operation.Release p = record { op = Op.Release; party = p }
+
+-- A refusal leaves the line alone.
+abbrev pub refused : Refusal → Line → Moved
+refused r l = record { answer = Answer.Refused r; line = l }
+
+abbrev pub accepted : Line → Moved
+accepted l = record { answer = Answer.Accepted; line = l }
+
+-- Is a permit there? Does anybody wait?
+unfoldable pub hasPermit : Line → Bool
+hasPermit l = ltb (held l) (l .permits)
+
+unfoldable pub hasWaiter : Line → Bool
+hasWaiter l = leb 1 (l .waiting)
+
+-- The first that waits.
+unfoldable pub nextWaiter : Line → ℕ
+nextWaiter l = getD (waiters l) 0 0
+
+-- A list without the first x that is in it; the others keep their order.
+unfoldable pub without : ℕ → List ℕ → List ℕ
+without x [] = []
+without x (y ∷ l) = cond (eqb x y) l (y ∷ without x l)
+
+-- Ask: is the party free; is a permit there? Else it goes to the end of the queue.
+unfoldable pub acquire : Bool → Bool → Line → ℕ → Moved
+acquire false k l p = refused Refusal.NotFree l
+acquire true true l p = accepted (withHolding (set (l .holding) p true) l)
+acquire true false l p = accepted (withWaiters (waiters l ++ (p ∷ [])) l)
+
+-- Give up: does the party wait; is its kind 3? It leaves the queue.
+unfoldable pub cancel : Bool → Bool → Line → ℕ → Moved
+cancel false k l p = refused Refusal.NotWaiting l
+cancel true true l p = refused Refusal.NotCancellable l
+cancel true false l p = accepted (withWaiters (without p (waiters l)) l)
+
+-- Give back: does the party hold; does anybody wait? Then the first of them holds.
+unfoldable pub release : Bool → Bool → Line → ℕ → Moved
+release false w l p = refused Refusal.NotHolding l
+release true false l p = accepted (withHolding (set (l .holding) p false) l)
+release true true l p =
+    accepted
+    (withWaiters (drop 1 (waiters l))
+    (withHolding (set (set (l .holding) p false) (nextWaiter l) true) l))
+
+-- 1, then 4, then the operation's own.
+unfoldable pub checked : Bool → Bool → Line → Moved → Moved
+checked false b l m = refused Refusal.Unfit l
+checked true false l m = refused Refusal.NoSuchParty l
+checked true true l m = m
+
+unfoldable pub ownMove : Line → Operation → ℕ → Moved
+ownMove l Operation.Acquire p = acquire (not (holdsIn l p) && not (waitsIn l p)) (hasPermit l) l p
+ownMove l Operation.Cancel p = cancel (waitsIn l p) (eqb (kindOf p) 3) l p
+ownMove l Operation.Release p = release (holdsIn l p) (hasWaiter l) l p
+
+-- What an operation of party p answers, and the line that it leaves.
+unfoldable pub moved : Line → Operation → ℕ → Moved
+moved l o p = checked (lineFits l) (ltb p (l .parties)) l (ownMove l o p)
+
+-- Is an answer 20; is it 1F?
+abbrev pub isAccepted : Answer → Bool
+isAccepted y = eqb (printed y .code) 0x20
+
+abbrev pub isOpened : Answer → Bool
+isOpened y = eqb (printed y .code) 0x1F
+
+-- A refused opening makes no line; what stands in its place refuses every operation by 1.
+abbrev pub noLine : Line
+noLine = openedLine 0 0 false
+
+-- An opening is answered as at the hub.
+unfoldable pub lineOpening : Opening → Moved
+lineOpening o =
+    record {
+      answer = opening o .answer;
+      line = cond (isOpened (opening o .answer)) (openedLine (o .permits) (o .parties) (o .named)) noLine;
+    }

@@ -1,0 +1,45 @@
+-- A line fits exactly if its moves reach it.
+use Prim.Native.Nat.{ℕ}
+use mathlib.Core.Path.{_≡_}
+use mathlib.Core.Bool.{Bool, true}
+use mathlib.Core.List.{List, [], _∷_}
+use lib.ListN.{length}
+use Rattle.hub.specs.Basics.{upTo32}
+use Rattle.hub.specs.Record.{PARTIES}
+use Rattle.screen.specs.declared.record.Line.{Line}
+use Rattle.screen.specs.declared.record.Operation.{Operation}
+use Rattle.screen.specs.Fits.{lineFits}
+use Rattle.screen.specs.Line.{openedLine}
+use Rattle.screen.specs.Moves.{moved}
+
+-- An operation of a party.
+pub record Request : Type 0 where
+  pub operation : Operation
+  pub party : ℕ
+
+-- The line that a list of them leaves, each on the line that the one before it left, which after a refusal
+-- is the old one.
+unfoldable pub lineAfter : Line → List Request → Line
+lineAfter l [] = l
+lineAfter l (r ∷ rs) = lineAfter (moved l (r .operation) (r .party) .line) rs
+
+-- From an opening with K and n in range.
+pub record LineReached (l : Line) : Type 0 where
+  pub permits : ℕ
+  pub parties : ℕ
+  pub named : Bool
+  pub requests : List Request
+  pub someLinks : upTo32 permits ≡ true
+  pub someParties : upTo32 parties ≡ true
+  pub leads : lineAfter (openedLine permits parties named) requests ≡ l
+
+-- A value of the type: its arrays have 32 elements.
+pub record IsLine (l : Line) : Type 0 where
+  pub holding : length (l .holding) ≡ PARTIES
+  pub queue : length (l .queue) ≡ PARTIES
+
+-- Every line that is reached fits, and every line that fits is reached.
+unfoldable pub FitsIfReached : Type 0
+FitsIfReached =
+    ((l : Line) → LineReached l → lineFits l ≡ true)
+    × ((l : Line) → IsLine l → lineFits l ≡ true → LineReached l)

@@ -1,0 +1,25 @@
+// The plain line of the desk screen.
+
+use hub::Answer;
+
+pub struct Line {
+    pub permits: u8, // links, K
+    pub parties: u8, // n
+    pub named: bool, // does the hub have radios?
+    pub holding: [bool; 32], // each party: does it hold?
+    pub queue: [u8; 32], // the parties that wait, in their order; behind them 0
+    pub waiting: u8, // how many wait
+}
+
+// The clerks' operations: ask (10), give up (12), give back (13).
+pub enum Operation {
+    Acquire,
+    Cancel,
+    Release,
+}
+
+// What an opening or an operation answers, and the line that it leaves.
+pub struct Moved {
+    pub answer: Answer,
+    pub line: Line,
+}

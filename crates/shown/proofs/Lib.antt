@@ -1,0 +1,3 @@
+-- Why the screen shows what the hub comes to.
+pub mod Parties  -- lists of parties
+pub mod Waiters  -- those that wait, when one comes or leaves
