@@ -1,11 +1,14 @@
 -- What an operation comes to on a hub at rest, without its steps.
 use Prim.Native.Nat.{ℕ, _+_}
+use mathlib.Core.Path.{_≡_}
 use mathlib.Core.Bool.{Bool, true, false, cond}
+use mathlib.Core.List.{List}
 use lib.IntN.{ℤ, pos, negsuc, sucℤ, predℤ}
 use Rattle.hub.specs.declared.answers.Answer.{Answer}
 use Rattle.hub.specs.declared.answers.Refusal.{Refusal}
 use Rattle.hub.specs.declared.moves.Call.{Call}
 use Rattle.hub.specs.declared.moves.Op.{Op}
+use Rattle.hub.specs.declared.opening.Opening.{Opening}
 use Rattle.hub.specs.declared.record.Figures.{Figures}
 use Rattle.hub.specs.declared.record.Hub.{Hub}
 use Rattle.hub.specs.declared.record.PartySlot.{PartySlot}
@@ -13,13 +16,17 @@ use Rattle.hub.specs.declared.record.Phase.{Phase}
 use Rattle.hub.specs.declared.record.Place.{Place}
 use Rattle.hub.specs.declared.record.PlaceSlot.{PlaceSlot}
 use Rattle.hub.specs.declared.record.Pool.{Pool}
-use Rattle.hub.specs.Calls.{answerOf, moveOf, tidied}
+use Rattle.hub.specs.Calls.{moveOf, tidied}
+use Rattle.hub.specs.Calm.{rests}
 use Rattle.hub.specs.Moves.{Move, Refuse, Tell, Act, Put, Wake}
+use Rattle.hub.specs.Opening.{opening}
 use Rattle.hub.specs.Phases.{byWaiter, ticketOf}
 use Rattle.hub.specs.Radios.{fetch, handOf, handTo, putBack}
 use Rattle.hub.specs.Record.{readSlot, withPhase, withPlace, writeSlot}
 use Rattle.hub.specs.Ring.{readPlace, readSeat, writeSeat}
+use Rattle.hub.specs.Schedule.{run}
 use Rattle.hub.specs.Table.{aboveZero, belowZero}
+use Rattle.operations.specs.Operation.{operated}
 use Rattle.operations.specs.declared.Operated.{Operated}
 
 -- Party p is in phase x; the place of ticket t is in state a; and all else as it was.
@@ -144,3 +151,29 @@ byMove (Wake q s a x) h c = acceptedAt (c .op) h (c .party)
 
 unfoldable pub operatedAtRest : Hub → Call → Operated
 operatedAtRest h c = byMove (moveOf h c) h c
+
+-- A claim C about records holds of each one that a schedule reaches from an accepted opening, with radios or
+-- without, and on which everybody is at rest.
+abbrev pub OnRest : (Hub → Type 0) → Type 0
+OnRest C =
+    (o : Opening) → opening o .answer ≡ Answer.Opened → (cs : List Call)
+    → let h = run (opening o .hub) cs in
+    ((p : ℕ) → rests h p ≡ true) → C h
+
+-- Ask, give up, give back.
+abbrev pub isOperation : Op → Bool
+isOperation Op.Acquire = true
+isOperation Op.Step = false
+isOperation Op.Cancel = true
+isOperation Op.Release = true
+isOperation Op.Radio = false
+
+-- There each operation comes to its closed form,
+unfoldable pub ComesTo : Type 0
+ComesTo = OnRest (λ h. (c : Call) → isOperation (c .op) ≡ true → operated h c ≡ operatedAtRest h c)
+
+-- and everybody is at rest again: three steps were enough, and nobody else had to step.
+unfoldable pub EndsAtRest : Type 0
+EndsAtRest =
+    OnRest (λ h.
+    (c : Call) → isOperation (c .op) ≡ true → (p : ℕ) → rests (operated h c .hub) p ≡ true)
