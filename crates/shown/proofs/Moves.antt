@@ -325,14 +325,21 @@ module _ (h : Hub) (l : Line) (r : AtRest h) (s : Seen h l) (p : ℕ) where
       own-same (omega (arith, ltb-true p (h .opening .parties) e, r .few)) o
       (isFull (h .oldest) (h .figures .issued) (h .slots))
 
+  fitting-same : (o : Operation) → lineFits l ≡ true
+      → Holds (hubBy (fits h) (ltb p (h .opening .parties)) o) o (moved l o p)
+  unfolding moved run
+  fitting-same o f =
+      let fit : fits h ≡ true = r .fit [] in
+      let there = ltb p (h .opening .parties) in
+      let own = ownMove l o p in
+      subst (λ (b : Bool). Holds (hubBy b there o) o (moved l o p)) (sym fit)
+      (subst (λ (b : Bool). Holds (hubBy true there o) o (screen.checked b (ltb p (l .parties)) l own)) (sym f)
+      (subst (λ (n : ℕ). Holds (hubBy true there o) o (screen.checked true (ltb p n) l own)) (sym (s .parties))
+      (checked-same o there refl)))
+
   -- Every operation, on a line that fits.
   pub operation-same : (o : Operation) → lineFits l ≡ true → Holds (operatedAtRest h (callOf o p)) o (moved l o p)
-  unfolding operatedAtRest moved run
-  operation-same o f =
-      let fit : fits h ≡ true = r .fit [] in
-      let own = ownMove l o p in
-      subst (λ (b : Bool). Holds (hubBy b (ltb p (h .opening .parties)) o) o (moved l o p)) (sym fit)
-      (subst (λ (b : Bool). Holds (hubBy true (ltb p (h .opening .parties)) o) o (screen.checked b (ltb p (l .parties)) l own))
-      (sym f)
-      (subst (λ (m : ℕ). Holds (hubBy true (ltb p (h .opening .parties)) o) o (screen.checked true (ltb p m) l own))
-      (sym (s .parties)) (checked-same o (ltb p (h .opening .parties)) refl)))
+  unfolding operatedAtRest
+  operation-same Operation.Acquire = fitting-same Operation.Acquire
+  operation-same Operation.Cancel = fitting-same Operation.Cancel
+  operation-same Operation.Release = fitting-same Operation.Release

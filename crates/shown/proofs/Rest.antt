@@ -100,8 +100,12 @@ module _ (h : Hub) (r : AtRest h) where
   unfolding isOneOf
   nobody e p =
       go (isWaiting (phaseIn (phases h) p)) refl
-      (omega (arith, weight-one (λ f. bit (isWaiting f)) Phase.Free refl (phases h) p, r .waiters,
-      none (h .figures .counter) e))
+      (omega (
+        arith,
+        weight-one (λ f. bit (isWaiting f)) Phase.Free refl (phases h) p,
+        r .waiters,
+        none (h .figures .counter) e,
+      ))
     where
       none : (c : ℤ) → belowZero c ≡ false → belowBy c ≡ 0
       none (pos n) e = refl
