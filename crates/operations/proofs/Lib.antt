@@ -1,3 +1,6 @@
 -- Why an operation comes to its closed form on a hub at rest.
 pub mod Ring  -- the tidying
 pub mod Rest  -- what is known of a hub at rest
+pub mod Reached  -- and why
+pub mod Walk  -- one party until it is at rest
+pub mod Calls  -- single calls

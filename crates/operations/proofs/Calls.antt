@@ -1,0 +1,202 @@
+-- Single calls, on a record that is as one at rest was but for one party's phase and the figures.
+use Prim.Native.Nat.{ℕ, _<_}
+use mathlib.Core.Path.{_≡_, refl, sym, ap, subst, _∙_}
+use mathlib.Core.Bool.{Bool, true, false, cond}
+use mathlib.Core.List.{List, [], _∷_}
+use mathlib.Core.Logic.{_≢_}
+use native.Mathlib.Decide.{ℕ-discrete}
+use lib.Dec.{ltb}
+use lib.ListN.{length}
+use lib.Seq.{getD-set-other, getD-set-same, set-set}
+use Rattle.hub.specs.declared.answers.Answer.{Answer}
+use Rattle.hub.specs.declared.moves.Call.{Call}
+use Rattle.hub.specs.declared.moves.Op.{Op}
+use Rattle.hub.specs.declared.record.Figures.{Figures}
+use Rattle.hub.specs.declared.record.Hub.{Hub}
+use Rattle.hub.specs.declared.record.Outcome.{Outcome}
+use Rattle.hub.specs.declared.record.PartySlot.{PartySlot}
+use Rattle.hub.specs.declared.record.Phase.{Phase}
+use Rattle.hub.specs.declared.record.Place.{Place}
+use Rattle.hub.specs.declared.record.PlaceSlot.{PlaceSlot}
+use Rattle.hub.specs.declared.record.Pool.{Pool}
+use Rattle.hub.specs.Answers.{Printed, printed}
+use Rattle.hub.specs.Calls.{answerOf, apply, called, checked, isFull, moveOf, ringOf, tidied, withPool, withRing}
+use Rattle.hub.specs.Calm.{rests, stepBy}
+use Rattle.hub.specs.Fits.{fits}
+use Rattle.hub.specs.Look.{look, seenBy}
+use Rattle.hub.specs.Moves.{Change, Move, Refuse, Tell, Act, Put, Wake}
+use Rattle.hub.specs.Phases.{atRest, byTicket}
+use Rattle.hub.specs.Radios.{moved, poolAfter}
+use Rattle.hub.specs.Record.{freeSlot, readSlot, writeSlot}
+use Rattle.hub.specs.Ring.{Ring, reclaimed, writeSeat}
+use Rattle.hub.specs.Schedule.{run}
+use Rattle.hub.specs.Table.{decide, stepIn}
+use Rattle.operations.specs.AtRest.{figuresTo, phaseTo, placeTo, radiosBy}
+use Rattle.operations.proofs.Ring.{Tidy, tidy-same}
+
+-- Slots read after one was written.
+module _ (l : List PartySlot) (p : ℕ) (s : PartySlot) where
+  pub written-slot : p < length l → readSlot (writeSlot l p s) p ≡ s
+  unfolding readSlot writeSlot
+  written-slot = getD-set-same l p s freeSlot
+
+  pub other-slot : (q : ℕ) → q ≢ p → readSlot (writeSlot l p s) q ≡ readSlot l q
+  unfolding readSlot writeSlot
+  other-slot q = getD-set-other l p q s freeSlot
+
+  pub written-twice : (x : PartySlot) → writeSlot (writeSlot l p s) p x ≡ writeSlot l p x
+  unfolding writeSlot
+  written-twice x = set-set l p s x
+
+  -- All at rest, and one more.
+  pub written-rests : p < length l → atRest (s .phase) ≡ true
+      → ((q : ℕ) → atRest (readSlot l q .phase) ≡ true)
+      → (q : ℕ) → atRest (readSlot (writeSlot l p s) q .phase) ≡ true
+  written-rests i e f q = go (ℕ-discrete q p)
+    where
+      go : Dec (q ≡ p) → atRest (readSlot (writeSlot l p s) q .phase) ≡ true
+      go (yes z) =
+          ap (λ (x : PartySlot). atRest (x .phase)) (ap (readSlot (writeSlot l p s)) z ∙ written-slot i) ∙ e
+      go (no z) = ap (λ (x : PartySlot). atRest (x .phase)) (other-slot q z) ∙ f q
+
+-- All that calls lead to fits.
+abbrev pub Fit : Hub → Type 0
+Fit h = (cs : List Call) → fits (run h cs) ≡ true
+
+pub fits-now : (h : Hub) → Fit h → fits h ≡ true
+unfolding run
+fits-now h f = f []
+
+pub onward : (h : Hub) (c : Call) (y : Answer) (h′ : Hub) → Fit h
+    → called h c ≡ record { answer = y; hub = h′ } → Fit h′
+unfolding run
+onward h c y h′ f e cs = sym (ap (λ (o : Outcome). fits (run (o .hub) cs)) e) ∙ f (c ∷ cs)
+
+-- A call on a record that fits.
+module _ (h : Hub) (c : Call) where
+  pub allowed : fits h ≡ true → ltb (c .party) (h .opening .parties) ≡ true
+      → moveOf h c ≡ decide (c .op) (isFull (h .oldest) (h .figures .issued) (h .slots)) (look h (c .party))
+  unfolding checked
+  allowed f b = λ i.
+      checked (f i) (b i)
+      (decide (c .op) (isFull (h .oldest) (h .figures .issued) (h .slots)) (look h (c .party)))
+
+  pub called-by : (m : Move) → moveOf h c ≡ m
+      → called h c
+      ≡ record {
+        answer = answerOf m;
+        hub =
+            withPool (poolAfter (h .opening .named) (printed (answerOf m)) (c .party) (h .pool))
+            (apply h (look h (c .party)) m);
+      }
+  called-by m e =
+      ap
+      (λ (v : Move).
+      record {
+        answer = answerOf v;
+        hub =
+            withPool (poolAfter (h .opening .named) (printed (answerOf v)) (c .party) (h .pool))
+            (apply h (look h (c .party)) v);
+      })
+      e
+
+pub step-by : (h : Hub) (p : ℕ) (x : Phase) → fits h ≡ true → ltb p (h .opening .parties) ≡ true
+    → readSlot (h .slots) p .phase ≡ x → moveOf h (stepBy p) ≡ stepIn x (look h p)
+unfolding decide seenBy
+step-by h p x f b e =
+    allowed h (stepBy p) f b ∙ ap (λ (g : Phase). stepIn g (look h p)) e
+
+-- An answer that moves no radio.
+pub still : (b : Bool) (y : Printed) (p : ℕ) (q : Pool) → moved y p q ≡ q → poolAfter b y p q ≡ q
+unfolding poolAfter
+still true y p q e = e
+still false y p q e = refl
+
+-- Nothing to tidy.
+pub tidied-same : (h : Hub) → Tidy (ringOf h) → tidied h ≡ h
+unfolding tidied
+tidied-same h e = λ i. withRing h (tidy-same (ringOf h) e i)
+
+-- The record with other slots, with other places.
+abbrev withSlots : List PartySlot → Hub → Hub
+withSlots l h =
+    record {
+      opening = h .opening;
+      figures = h .figures;
+      oldest = h .oldest;
+      places = h .places;
+      slots = l;
+      pool = h .pool;
+    }
+
+abbrev withPlaces : List PlaceSlot → Hub → Hub
+withPlaces l h =
+    record {
+      opening = h .opening;
+      figures = h .figures;
+      oldest = h .oldest;
+      places = l;
+      slots = h .slots;
+      pool = h .pool;
+    }
+
+-- A party's phase, the figures and the answer.
+abbrev pub to : Phase → Figures → Answer → Change
+to x f y = record { slot = record { phase = x }; figures = f; answer = y }
+
+module _ (h : Hub) (p : ℕ) (inside : p < length (h .slots)) (present : ltb p (h .opening .parties) ≡ true)
+    where
+  -- The record, with figures f and party p in phase x.
+  abbrev pub now : Figures → Phase → Hub
+  now f x = phaseTo p x (figuresTo f h)
+
+  -- The radios after an answer.
+  abbrev pub radios : Answer → Pool
+  radios y = poolAfter (h .opening .named) (printed y) p (h .pool)
+
+  pub phase-now : (f : Figures) (x : Phase) → readSlot (now f x .slots) p .phase ≡ x
+  phase-now f x = ap (λ (s : PartySlot). s .phase) (written-slot (h .slots) p _ inside)
+
+  pub rests-now : (f : Figures) (x : Phase) {b : Bool} → atRest x ≡ b → rests (now f x) p ≡ b
+  rests-now f x e = ap atRest (phase-now f x) ∙ e
+
+  -- The call that begins an operation, before the tidying.
+  pub begins : (o : Op) (f : Figures) (x : Phase) (y : Answer)
+      → moveOf h (record { op = o; party = p }) ≡ Act (to x f y)
+      → called h (record { op = o; party = p }) ≡ record { answer = y; hub = withPool (radios y) (tidied (now f x)) }
+  unfolding apply seenBy
+  begins o f x y e = called-by h (record { op = o; party = p }) _ e
+
+  module _ (f : Figures) (x : Phase) (fit : fits (now f x) ≡ true) where
+    -- A step that changes the phase to x′, and the figures.
+    pub acts : (f′ : Figures) (x′ : Phase) (y : Answer)
+        → stepIn x (look (now f x) p) ≡ Act (to x′ f′ y)
+        → called (now f x) (stepBy p)
+        ≡ record { answer = y; hub = withPool (radios y) (tidied (now f′ x′)) }
+    unfolding apply seenBy
+    acts f′ x′ y e =
+        called-by (now f x) (stepBy p) _ (step-by (now f x) p x fit present (phase-now f x) ∙ e)
+        ∙ ap
+        (λ (l : List PartySlot).
+        record { answer = y; hub = withPool (radios y) (tidied (withSlots l (figuresTo f′ h))) })
+        (written-twice (h .slots) p (record { phase = x }) (record { phase = x′ }))
+
+    -- One that changes the place of its ticket t, too.
+    pub puts : (t : ℕ) (a : Place) (x′ : Phase) (y : Answer) → ((g : ℕ → List PlaceSlot) → byTicket (h .places) g x ≡ g t)
+        → stepIn x (look (now f x) p) ≡ Put (record { place = a }) (to x′ f y)
+        → called (now f x) (stepBy p)
+        ≡ record { answer = y; hub = withPool (radios y) (tidied (placeTo t a (now f x′))) }
+    unfolding apply seenBy
+    puts t a x′ y b e =
+        called-by (now f x) (stepBy p) _ (step-by (now f x) p x fit present (phase-now f x) ∙ e)
+        ∙ (λ i.
+        record {
+          answer = y;
+          hub = withPool (radios y)
+              (tidied
+              (withPlaces
+              ((ap (byTicket (h .places) (λ u. writeSeat (h .places) u (record { place = a }))) (phase-now f x)
+              ∙ b (λ u. writeSeat (h .places) u (record { place = a }))) i)
+              (withSlots (written-twice (h .slots) p (record { phase = x }) (record { phase = x′ }) i)
+              (figuresTo f h))));
+        })
