@@ -81,14 +81,14 @@ unfolding fresh readSeat isPlaceOf
 fresh-tidy o = record { size = refl; unskipped = refl; unretired = refl }
 
 -- Calls after calls.
-run-more : (h : Hub) (cs ds : List Call) → run (run h cs) ds ≡ run h (cs ++ ds)
+pub run-more : (h : Hub) (cs ds : List Call) → run (run h cs) ds ≡ run h (cs ++ ds)
 unfolding run
 run-more h [] ds = refl
 run-more h (c ∷ cs) ds = run-more (called h c .hub) cs ds
 
 -- A weight that is there is somewhere; and where it is at most 1, at one place alone.
 module _ {A : Type 0} (f : A → ℕ) (d : A) where
-  weight-some : (l : List A) → 1 ≤ weight f l → (i : ℕ) × (1 ≤ f (getD l i d))
+  pub weight-some : (l : List A) → 1 ≤ weight f l → (i : ℕ) × (1 ≤ f (getD l i d))
   unfolding weight
   weight-some [] e = let z : ⊥ = omega arith in absurd z
   weight-some (x ∷ l) e = go (decLe 1 (f x)) (weight-some l)
@@ -131,7 +131,7 @@ rest-cases f e = free (one-or Free (Holding ∷ Waiting 0 ∷ []) f e)
     free (inr z) = holds (one-or Holding (Waiting 0 ∷ []) f z)
 
 -- What holds of each of them.
-resting : (P : Phase → Type 0) → P Free → P Holding → ((t : ℕ) → P (Waiting t))
+pub resting : (P : Phase → Type 0) → P Free → P Holding → ((t : ℕ) → P (Waiting t))
     → (f : Phase) → atRest f ≡ true → P f
 resting P a b c f e = go (rest-cases f e)
   where

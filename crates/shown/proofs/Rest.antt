@@ -23,25 +23,13 @@ use Rattle.hub.proofs.Laws.Lists.{weight-one}
 use Rattle.hub.proofs.Laws.Phases.{one-of, one-or}
 use Rattle.hub.proofs.Laws.Slots.{read-phase}
 use Rattle.operations.proofs.Rest.{AtRest}
+use Rattle.operations.proofs.Reached.{resting, weight-some}
 use Rattle.shown.proofs.Waiters.{Apart, Between}
 
 abbrev pub phases : Hub → List Phase
 phases h = phasesOf (h .slots)
 
--- A phase at rest is one of three.
-pub resting : (P : Phase → Type 0) → P Phase.Free → P Phase.Holding → ((t : ℕ) → P (Phase.Waiting t))
-    → (f : Phase) → atRest f ≡ true → P f
-resting P a b c f e = go (one-or Phase.Free (Phase.Holding ∷ Phase.Waiting 0 ∷ []) f e)
-  where
-    then : (f ≡ Phase.Holding) ⊎ (isWaiting f ≡ true) → P f
-    then (inl z) = subst P (sym z) b
-    then (inr z) = subst P (sym (one-of (Phase.Waiting 0) f z)) (c (ticketOf f))
-
-    go : (f ≡ Phase.Free) ⊎ (isOneOf (Phase.Holding ∷ Phase.Waiting 0 ∷ []) f ≡ true) → P f
-    go (inl z) = subst P (sym z) a
-    go (inr z) = then (one-or Phase.Holding (Phase.Waiting 0 ∷ []) f z)
-
--- So there the tests of a call come to two.
+-- At rest the tests of a call come to two.
 pub free-at-rest : (f : Phase) → atRest f ≡ true → isFree f ≡ not (isHolding f) && not (isWaiting f)
 unfolding isOneOf
 free-at-rest = resting (λ f. isFree f ≡ not (isHolding f) && not (isWaiting f)) refl refl (λ t. refl)
@@ -53,19 +41,6 @@ holds-at-rest = resting (λ f. holds f ≡ isHolding f) refl refl (λ t. refl)
 pub cancel-at-rest : (f : Phase) → atRest f ≡ true → canCancel f ≡ isWaiting f
 unfolding isOneOf
 cancel-at-rest = resting (λ f. canCancel f ≡ isWaiting f) refl refl (λ t. refl)
-
--- Some party passes a test that is counted.
-module _ (f : Phase → Bool) where
-  counted : (l : List Phase) → 1 ≤ count f l → (p : ℕ) × (f (phaseIn l p) ≡ true)
-  unfolding weight
-  counted [] i = absurd (omega arith)
-  counted (x ∷ l) i = go (f x) refl i (counted l)
-    where
-      go : (b : Bool) → f x ≡ b → 1 ≤ bit b + count f l
-          → (1 ≤ count f l → (p : ℕ) × (f (phaseIn l p) ≡ true))
-          → (p : ℕ) × (f (phaseIn (x ∷ l) p) ≡ true)
-      go true e i ih = (0, e)
-      go false e i ih = let r = ih (omega arith) in (suc (r .0), r .1)
 
 module _ (h : Hub) (r : AtRest h) where
   waits : (p t : ℕ) → phaseIn (phases h) p ≡ Phase.Waiting t
@@ -123,6 +98,10 @@ module _ (h : Hub) (r : AtRest h) where
   unfolding isPlaceOf
   next e = at (r .line (h .figures .resumed) (omega arith) some)
     where
+      passes : (b : Bool) → 1 ≤ bit b → b ≡ true
+      passes true i = refl
+      passes false i = absurd (omega arith)
+
       due : (c : ℤ) → belowZero c ≡ true → 1 ≤ belowBy c
       due (pos n) e = let z : _≡_ {A = ℕ} 0 1 = cc in omega arith
       due (negsuc n) e = omega arith
@@ -130,8 +109,10 @@ module _ (h : Hub) (r : AtRest h) where
       -- somebody waits, with a number that is not resumed yet
       some : h .figures .resumed < h .figures .issued
       some =
-          let w = counted isWaiting (phases h) (omega (arith, r .waiters, due (h .figures .counter) e)) in
-          let b = between (w .0) _ (one-of (Phase.Waiting 0) _ (w .1)) in
+          let w =
+          weight-some (λ f. bit (isWaiting f)) Phase.Free (phases h)
+          (omega (arith, r .waiters, due (h .figures .counter) e)) in
+          let b = between (w .0) _ (one-of (Phase.Waiting 0) _ (passes _ (w .1))) in
           omega (arith, b)
 
       at : (readPlace (h .places) (h .figures .resumed) ≡ Place.Cancelled)
