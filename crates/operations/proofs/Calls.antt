@@ -145,58 +145,58 @@ abbrev pub to : Phase → Figures → Answer → Change
 to x f y = record { slot = record { phase = x }; figures = f; answer = y }
 
 module _ (h : Hub) (p : ℕ) (inside : p < length (h .slots)) (present : ltb p (h .opening .parties) ≡ true)
-    where
-  -- The record, with figures f and party p in phase x.
-  abbrev pub now : Figures → Phase → Hub
-  now f x = phaseTo p x (figuresTo f h)
+  where
+    -- The record, with figures f and party p in phase x.
+    abbrev pub now : Figures → Phase → Hub
+    now f x = phaseTo p x (figuresTo f h)
 
-  -- The radios after an answer.
-  abbrev pub radios : Answer → Pool
-  radios y = poolAfter (h .opening .named) (printed y) p (h .pool)
+    -- The radios after an answer.
+    abbrev pub radios : Answer → Pool
+    radios y = poolAfter (h .opening .named) (printed y) p (h .pool)
 
-  pub phase-now : (f : Figures) (x : Phase) → readSlot (now f x .slots) p .phase ≡ x
-  phase-now f x = ap (λ (s : PartySlot). s .phase) (written-slot (h .slots) p _ inside)
+    pub phase-now : (f : Figures) (x : Phase) → readSlot (now f x .slots) p .phase ≡ x
+    phase-now f x = ap (λ (s : PartySlot). s .phase) (written-slot (h .slots) p _ inside)
 
-  pub rests-now : (f : Figures) (x : Phase) {b : Bool} → atRest x ≡ b → rests (now f x) p ≡ b
-  rests-now f x e = ap atRest (phase-now f x) ∙ e
+    pub rests-now : (f : Figures) (x : Phase) {b : Bool} → atRest x ≡ b → rests (now f x) p ≡ b
+    rests-now f x e = ap atRest (phase-now f x) ∙ e
 
-  -- The call that begins an operation, before the tidying.
-  pub begins : (o : Op) (f : Figures) (x : Phase) (y : Answer)
-      → moveOf h (record { op = o; party = p }) ≡ Act (to x f y)
-      → called h (record { op = o; party = p }) ≡ record { answer = y; hub = withPool (radios y) (tidied (now f x)) }
-  unfolding apply seenBy
-  begins o f x y e = called-by h (record { op = o; party = p }) _ e
-
-  module _ (f : Figures) (x : Phase) (fit : fits (now f x) ≡ true) where
-    -- A step that changes the phase to x′, and the figures.
-    pub acts : (f′ : Figures) (x′ : Phase) (y : Answer)
-        → stepIn x (look (now f x) p) ≡ Act (to x′ f′ y)
-        → called (now f x) (stepBy p)
-        ≡ record { answer = y; hub = withPool (radios y) (tidied (now f′ x′)) }
+    -- The call that begins an operation, before the tidying.
+    pub begins : (o : Op) (f : Figures) (x : Phase) (y : Answer)
+        → moveOf h (record { op = o; party = p }) ≡ Act (to x f y)
+        → called h (record { op = o; party = p }) ≡ record { answer = y; hub = withPool (radios y) (tidied (now f x)) }
     unfolding apply seenBy
-    acts f′ x′ y e =
-        called-by (now f x) (stepBy p) _ (step-by (now f x) p x fit present (phase-now f x) ∙ e)
-        ∙ ap
-        (λ (l : List PartySlot).
-        record { answer = y; hub = withPool (radios y) (tidied (withSlots l (figuresTo f′ h))) })
-        (written-twice (h .slots) p (record { phase = x }) (record { phase = x′ }))
+    begins o f x y e = called-by h (record { op = o; party = p }) _ e
 
-    -- One that changes the place of its ticket t, too.
-    pub puts : (t : ℕ) (a : Place) (x′ : Phase) (y : Answer) → ((g : ℕ → List PlaceSlot) → byTicket (h .places) g x ≡ g t)
-        → stepIn x (look (now f x) p) ≡ Put (record { place = a }) (to x′ f y)
-        → called (now f x) (stepBy p)
-        ≡ record { answer = y; hub = withPool (radios y) (tidied (placeTo t a (now f x′))) }
-    unfolding apply seenBy
-    puts t a x′ y b e =
-        called-by (now f x) (stepBy p) _ (step-by (now f x) p x fit present (phase-now f x) ∙ e)
-        ∙ (λ i.
-        record {
-          answer = y;
-          hub = withPool (radios y)
-              (tidied
-              (withPlaces
-              ((ap (byTicket (h .places) (λ u. writeSeat (h .places) u (record { place = a }))) (phase-now f x)
-              ∙ b (λ u. writeSeat (h .places) u (record { place = a }))) i)
-              (withSlots (written-twice (h .slots) p (record { phase = x }) (record { phase = x′ }) i)
-              (figuresTo f h))));
-        })
+    module _ (f : Figures) (x : Phase) (fit : fits (now f x) ≡ true) where
+      -- A step that changes the phase to x′, and the figures.
+      pub acts : (f′ : Figures) (x′ : Phase) (y : Answer)
+          → stepIn x (look (now f x) p) ≡ Act (to x′ f′ y)
+          → called (now f x) (stepBy p)
+          ≡ record { answer = y; hub = withPool (radios y) (tidied (now f′ x′)) }
+      unfolding apply seenBy
+      acts f′ x′ y e =
+          called-by (now f x) (stepBy p) _ (step-by (now f x) p x fit present (phase-now f x) ∙ e)
+          ∙ ap
+          (λ (l : List PartySlot).
+          record { answer = y; hub = withPool (radios y) (tidied (withSlots l (figuresTo f′ h))) })
+          (written-twice (h .slots) p (record { phase = x }) (record { phase = x′ }))
+
+      -- One that changes the place of its ticket t, too.
+      pub puts : (t : ℕ) (a : Place) (x′ : Phase) (y : Answer) → ((g : ℕ → List PlaceSlot) → byTicket (h .places) g x ≡ g t)
+          → stepIn x (look (now f x) p) ≡ Put (record { place = a }) (to x′ f y)
+          → called (now f x) (stepBy p)
+          ≡ record { answer = y; hub = withPool (radios y) (tidied (placeTo t a (now f x′))) }
+      unfolding apply seenBy
+      puts t a x′ y b e =
+          called-by (now f x) (stepBy p) _ (step-by (now f x) p x fit present (phase-now f x) ∙ e)
+          ∙ (λ i.
+          record {
+            answer = y;
+            hub = withPool (radios y)
+                (tidied
+                (withPlaces
+                ((ap (byTicket (h .places) (λ u. writeSeat (h .places) u (record { place = a }))) (phase-now f x)
+                ∙ b (λ u. writeSeat (h .places) u (record { place = a }))) i)
+                (withSlots (written-twice (h .slots) p (record { phase = x }) (record { phase = x′ }) i)
+                (figuresTo f h))));
+          })

@@ -430,17 +430,17 @@ module _ (k : ℕ) (h : Hub) (m : Queue) (r : Reached k h m) (tidy : Tidy (ringO
         drawn = omega (arith, drawn, fig (λ f. f .resumed), fig (λ f. f .issued));
         room = omega (arith, high k h m (r .tracks), fig (λ f. f .issued));
         waits = λ p t e. (
-          let w = waits p t (shown p (Waiting t) e) in (
-            place-cell t (WaitedBy p) (w .3) (w .4) (w .0),
-            omega (arith, w .1, fig (λ f. f .resumed)),
-            omega (arith, w .2, fig (λ f. f .issued)),
-          )
-        );
+            let w = waits p t (shown p (Waiting t) e) in (
+              place-cell t (WaitedBy p) (w .3) (w .4) (w .0),
+              omega (arith, w .1, fig (λ f. f .resumed)),
+              omega (arith, w .2, fig (λ f. f .issued)),
+            )
+            );
         line = λ t a b. (
-          let u : t < issued = omega (arith, fig (λ f. f .issued)) in
-          let l : resumed ≤ t = omega (arith, fig (λ f. f .resumed)) in
-          in-line t l u (line t l u)
-        );
+            let u : t < issued = omega (arith, fig (λ f. f .issued)) in
+            let l : resumed ≤ t = omega (arith, fig (λ f. f .resumed)) in
+            in-line t l u (line t l u)
+            );
         spare = λ i.
             ap (readPlace (h .places)) (fig (λ f. f .issued))
             ∙ place-cell issued Empty (omega (arith, low k h m (r .tracks)))

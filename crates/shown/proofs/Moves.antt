@@ -1,22 +1,19 @@
 -- One operation: what it comes to at a hub at rest, and the screen's move on a line that shows that hub.
-use Prim.Native.Nat.{ℕ, suc, _+_, _-_, _≤_, _<_}
+use Prim.Native.Nat.{ℕ, _≤_, _<_}
 use mathlib.Core.Path.{_≡_, refl, sym, ap, ap₂, subst, _∙_}
 use mathlib.Core.Bool.{Bool, true, false, cond}
 use mathlib.Core.List.{List, [], _∷_, _++_, map}
 use mathlib.Core.Logic.{_≢_, _⊎_, inl, inr}
 use native.Mathlib.Omega.{arith}
-use borrow.Author.Tests.{eq-eqb, ltb-true}
+use borrow.Author.Tests.{ltb-true}
 use lib.Dec.{eqb, leb, ltb}
 use lib.ListN.{length, drop, set, length-map}
 use lib.Seq.{getD-set-other, map-set-same, set-comm, take-append-seam, take-take}
 use Rattle.hub.specs.declared.answers.Answer.{Answer}
 use Rattle.hub.specs.declared.answers.Refusal.{Refusal}
-use Rattle.hub.specs.declared.moves.Call.{Call}
-use Rattle.hub.specs.declared.moves.Op.{Op}
-use Rattle.hub.specs.declared.moves.Sight.{Sight}
 use Rattle.hub.specs.declared.record.Hub.{Hub}
 use Rattle.hub.specs.declared.record.Phase.{Phase}
-use Rattle.hub.specs.Calls.{checked, isFull, moveOf, tidied}
+use Rattle.hub.specs.Calls.{checked, isFull, tidied}
 use Rattle.hub.specs.Fits.{fits}
 use Rattle.hub.specs.Kinds.{kindOf}
 use Rattle.hub.specs.Ledger.{phaseIn}
@@ -45,7 +42,7 @@ use Rattle.screen.specs.Steps.{ownSteps, ownWoken}
 use Rattle.shown.specs.Parties.{waitersFrom, waitersOf}
 use Rattle.shown.specs.Shows.{isSixOrSeven}
 use Rattle.shown.proofs.Parties.{without-behind}
-use Rattle.shown.proofs.Waiters.{comes, leaves, stays, is-first}
+use Rattle.shown.proofs.Waiters.{comes, leaves, stays}
 use Rattle.shown.proofs.Rest.{phases, apart, between, calm, cancel-at-rest, next}
 use Rattle.shown.proofs.Seen.{Seen, nextAt, holds-same, waits-same, free-same, permit-same}
 use Rattle.shown.proofs.Seen.{line-first, next-same, waiter-same}

@@ -1,7 +1,7 @@
 -- Lists of parties, by their phases.
 use Prim.Native.Nat.{ℕ, zero, suc, _+_, _≤_, _<_}
-use mathlib.Core.Path.{_≡_, refl, sym, ap, ap₂, subst, _∙_}
-use mathlib.Core.Bool.{Bool, true, false, cond, _&&_, _||_}
+use mathlib.Core.Path.{_≡_, refl, sym, ap, ap₂, _∙_}
+use mathlib.Core.Bool.{Bool, true, false, cond, _||_}
 use mathlib.Core.List.{List, [], _∷_, _++_, map, append-assoc}
 use mathlib.Core.Logic.{_≢_}
 use native.Mathlib.Omega.{arith}
@@ -23,6 +23,15 @@ unfolding partiesFrom holdersFrom
 parties-bits p f [] = refl
 parties-bits p f (x ∷ l) =
     ap (λ (r : List ℕ). cond (f x) (p ∷ r) r) (parties-bits (suc p) f l)
+
+-- Tests that agree on every phase of the list give the same parties.
+pub parties-alike : (p : ℕ) (f g : Phase → Bool) (l : List Phase)
+    → ((q : ℕ) → f (phaseIn l q) ≡ g (phaseIn l q)) → partiesFrom p f l ≡ partiesFrom p g l
+unfolding partiesFrom
+parties-alike p f g [] e = refl
+parties-alike p f g (x ∷ l) e =
+    ap₂ (λ (b : Bool) (r : List ℕ). cond b (p ∷ r) r) (e 0)
+    (parties-alike (suc p) f g l (λ q. e (suc q)))
 
 -- They are as many as the test counts.
 pub parties-count : (p : ℕ) (f : Phase → Bool) (l : List Phase)

@@ -1,8 +1,8 @@
 -- A line that shows a record at rest: its tests are those of the record.
-use Prim.Native.Nat.{ℕ, suc, _+_, _-_, _≤_, _<_}
-use mathlib.Core.Path.{_≡_, refl, sym, ap, ap₂, subst, _∙_}
+use Prim.Native.Nat.{ℕ, suc, _-_}
+use mathlib.Core.Path.{_≡_, refl, sym, ap, ap₂, _∙_}
 use mathlib.Core.Bool.{Bool, true, false, not, _&&_}
-use mathlib.Core.List.{List, [], _∷_, map}
+use mathlib.Core.List.{List, _∷_, map}
 use native.Mathlib.Omega.{arith}
 use borrow.Author.Tests.{le-leb}
 use lib.Dec.{leb, ltb}
@@ -12,10 +12,8 @@ use Rattle.hub.specs.declared.record.Phase.{Phase}
 use Rattle.hub.specs.Basics.{among, count}
 use Rattle.hub.specs.Ledger.{phaseIn}
 use Rattle.hub.specs.Phases.{byWaiter, isFree, isHolding, isOneOf, isWaiting}
-use Rattle.hub.specs.Record.{readSlot}
 use Rattle.hub.specs.Ring.{readPlace}
 use Rattle.hub.specs.Table.{aboveZero, belowZero}
-use Rattle.hub.proofs.Laws.Slots.{read-phase}
 use Rattle.operations.proofs.Rest.{AtRest}
 use Rattle.screen.specs.declared.record.Line.{Line}
 use Rattle.screen.specs.Fits.{held}
