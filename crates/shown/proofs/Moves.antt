@@ -38,7 +38,7 @@ use Rattle.screen.specs.Line.{waiters, withHolding, withWaiters}
 use Rattle.screen.specs.Moves.{acquire, callOf, cancel, hasPermit, hasWaiter, isAccepted, moved, nextWaiter}
 use Rattle.screen.specs.Moves.{ownMove, refused, release, without}
 use Rattle.screen.specs.Moves as screen
-use Rattle.screen.specs.Steps.{ownSteps, ownWoken}
+use Rattle.screen.specs.Steps.{TO-HAND-OVER, TO-WAIT, ownSteps, ownWoken, toCounter}
 use Rattle.shown.specs.Parties.{waitersFrom, waitersOf}
 use Rattle.shown.specs.Shows.{isSixOrSeven}
 use Rattle.shown.proofs.Parties.{without-behind}
@@ -146,8 +146,7 @@ module _ (h : Hub) (l : Line) (r : AtRest h) (s : Seen h l) (p : ℕ) where
       record {
         answer = refl;
         woken = refl;
-        steps =
-            ap₂ (λ (b c : Bool). cond c (cond b 2 1) 3) (sym (s .named)) (sym e);
+        steps = ap₂ (λ (b c : Bool). cond c (toCounter b) TO-WAIT) (sym (s .named)) (sym e);
         seen =
             other-holders _ l (s .permits) (s .parties) (s .named) (set (phases h) p Phase.Holding)
             (write-phase (h .slots) p _) (set (l .holding) p true) (holding-set Phase.Holding)
@@ -157,7 +156,7 @@ module _ (h : Hub) (l : Line) (r : AtRest h) (s : Seen h l) (p : ℕ) where
       record {
         answer = refl;
         woken = refl;
-        steps = ap (λ (c : Bool). cond c (cond (l .named) 2 1) 3) (sym e);
+        steps = ap (λ (c : Bool). cond c (toCounter (l .named)) TO-WAIT) (sym e);
         seen =
             other-waiters _ l (s .permits) (s .parties) (s .named)
             (set (phases h) p (Phase.Waiting (h .figures .issued))) (write-phase (h .slots) p _)
@@ -201,7 +200,7 @@ module _ (h : Hub) (l : Line) (r : AtRest h) (s : Seen h l) (p : ℕ) where
       record {
         answer = refl;
         woken = ap (λ (c : Bool). cond c (nextWaiter l) 0xFF) (sym e);
-        steps = ap₂ (λ (b c : Bool). cond c 3 (cond b 2 1)) (sym (s .named)) (sym e);
+        steps = ap₂ (λ (b c : Bool). cond c TO-HAND-OVER (toCounter b)) (sym (s .named)) (sym e);
         seen =
             other-holders _ l (s .permits) (s .parties) (s .named) (set (phases h) p Phase.Free)
             (write-phase (h .slots) p _) (set (l .holding) p false) (holding-set Phase.Free)
@@ -211,7 +210,7 @@ module _ (h : Hub) (l : Line) (r : AtRest h) (s : Seen h l) (p : ℕ) where
       record {
         answer = refl;
         woken = sym (next-same h l r s z) ∙ ap (λ (c : Bool). cond c (nextWaiter l) 0xFF) (sym e);
-        steps = ap (λ (c : Bool). cond c 3 (cond (l .named) 2 1)) (sym e);
+        steps = ap (λ (c : Bool). cond c TO-HAND-OVER (toCounter (l .named))) (sym e);
         seen =
             other-waiters _ (withHolding (set (set (l .holding) p false) (nextWaiter l) true) l)
             (s .permits) (s .parties) (s .named) (set (set (phases h) q Phase.Holding) p Phase.Free)
@@ -244,12 +243,13 @@ module _ (h : Hub) (l : Line) (r : AtRest h) (s : Seen h l) (p : ℕ) where
           let n : _≡_ {A = ℕ} 0 1 = cc in
           omega arith
 
-  -- The tests of an ask, of a give-up and of a give-back, one after the other.
-  abbrev Holds : Operated → Operation → Moved → Type 0
-  Holds x o y = isSixOrSeven (x .answer) ≡ false → y .line .waiting ≤ PARTIES → Same x l o y
+  -- As long as the hub does not answer 6 or 7, and the queue has room for the move.
+  abbrev Follows : Operated → Operation → Moved → Type 0
+  Follows x o y = isSixOrSeven (x .answer) ≡ false → y .line .waiting ≤ PARTIES → Same x l o y
 
+  -- The tests of an ask, of a give-up and of a give-back, one after the other.
   acquire-by : p < PARTIES → (b : Bool) → isFree now ≡ b → (e full : Bool)
-      → Holds (byMove (table.acquire b e full (look h p)) h (callOf Operation.Acquire p)) Operation.Acquire
+      → Follows (byMove (table.acquire b e full (look h p)) h (callOf Operation.Acquire p)) Operation.Acquire
       (acquire b (hasPermit l) l p)
   unfolding table.acquire acquire
   acquire-by i false f e full n j = refused-same h l Operation.Acquire Refusal.NotFree s refl
@@ -260,7 +260,7 @@ module _ (h : Hub) (l : Line) (r : AtRest h) (s : Seen h l) (p : ℕ) where
       (permit-same h l r s) (acquire-same i f (hasPermit l) refl j)
 
   cancel-by : (b : Bool) → isWaiting now ≡ b → (k : Bool) (x : Phase)
-      → Holds (byMove (table.cancel b k x (look h p)) h (callOf Operation.Cancel p)) Operation.Cancel
+      → Follows (byMove (table.cancel b k x (look h p)) h (callOf Operation.Cancel p)) Operation.Cancel
       (cancel b k l p)
   unfolding table.cancel cancel
   cancel-by false f k x n j = refused-same h l Operation.Cancel Refusal.NotWaiting s refl
@@ -268,7 +268,7 @@ module _ (h : Hub) (l : Line) (r : AtRest h) (s : Seen h l) (p : ℕ) where
   cancel-by true f false x n j = cancel-same f j
 
   release-by : (b : Bool) → isHolding now ≡ b
-      → Holds (byMove (table.release b (look h p)) h (callOf Operation.Release p)) Operation.Release
+      → Follows (byMove (table.release b (look h p)) h (callOf Operation.Release p)) Operation.Release
       (release b (hasWaiter l) l p)
   unfolding table.release release
   release-by false f n j = refused-same h l Operation.Release Refusal.NotHolding s refl
@@ -276,15 +276,15 @@ module _ (h : Hub) (l : Line) (r : AtRest h) (s : Seen h l) (p : ℕ) where
       subst (λ (b : Bool). Same (released b h p) l Operation.Release (release true (hasWaiter l) l p))
       (waiter-same h l r s) (release-same f (hasWaiter l) (sym (waiter-same h l r s)) refl j)
 
-  -- What is decided where the party is one.
+  -- What is decided where there is such a party.
   own-same : p < PARTIES → (o : Operation) (full : Bool)
-      → Holds (byMove (decide (callOf o p .op) full (look h p)) h (callOf o p)) o (ownMove l o p)
+      → Follows (byMove (decide (callOf o p .op) full (look h p)) h (callOf o p)) o (ownMove l o p)
   unfolding decide ownMove seenBy
   own-same i Operation.Acquire full =
       let e = leb MAX-BEGUN (h .figures .begun) in
       subst
       (λ (b : Bool).
-      Holds (byMove (table.acquire b e full (look h p)) h (callOf Operation.Acquire p)) Operation.Acquire
+      Follows (byMove (table.acquire b e full (look h p)) h (callOf Operation.Acquire p)) Operation.Acquire
       (ownMove l Operation.Acquire p))
       (free-same h l r s p ∙ ap isFree (sym (read-phase (h .slots) p)))
       (acquire-by i _ (sym (free-same h l r s p)) e full)
@@ -293,7 +293,7 @@ module _ (h : Hub) (l : Line) (r : AtRest h) (s : Seen h l) (p : ℕ) where
       let x = givenUp (readSlot (h .slots) p .phase) in
       subst
       (λ (b : Bool).
-      Holds (byMove (table.cancel b k x (look h p)) h (callOf Operation.Cancel p)) Operation.Cancel
+      Follows (byMove (table.cancel b k x (look h p)) h (callOf Operation.Cancel p)) Operation.Cancel
       (ownMove l Operation.Cancel p))
       (waits-same h l r s p ∙ sym (cancel-at-rest now (calm h r p))
       ∙ ap canCancel (sym (read-phase (h .slots) p)))
@@ -301,7 +301,7 @@ module _ (h : Hub) (l : Line) (r : AtRest h) (s : Seen h l) (p : ℕ) where
   own-same i Operation.Release full =
       subst
       (λ (b : Bool).
-      Holds (byMove (table.release b (look h p)) h (callOf Operation.Release p)) Operation.Release
+      Follows (byMove (table.release b (look h p)) h (callOf Operation.Release p)) Operation.Release
       (ownMove l Operation.Release p))
       (holds-same h l r s p ∙ ap isHolding (sym (read-phase (h .slots) p)))
       (release-by _ (sym (holds-same h l r s p)))
@@ -315,7 +315,7 @@ module _ (h : Hub) (l : Line) (r : AtRest h) (s : Seen h l) (p : ℕ) where
       h (callOf o p)
 
   checked-same : (o : Operation) (b : Bool) → ltb p (h .opening .parties) ≡ b
-      → Holds (hubBy true b o) o (screen.checked true b l (ownMove l o p))
+      → Follows (hubBy true b o) o (screen.checked true b l (ownMove l o p))
   unfolding checked screen.checked
   checked-same o false e = λ n j. refused-same h l o Refusal.NoSuchParty s refl
   checked-same o true e =
@@ -323,19 +323,19 @@ module _ (h : Hub) (l : Line) (r : AtRest h) (s : Seen h l) (p : ℕ) where
       (isFull (h .oldest) (h .figures .issued) (h .slots))
 
   fitting-same : (o : Operation) → lineFits l ≡ true
-      → Holds (hubBy (fits h) (ltb p (h .opening .parties)) o) o (moved l o p)
+      → Follows (hubBy (fits h) (ltb p (h .opening .parties)) o) o (moved l o p)
   unfolding moved run
   fitting-same o f =
       let fit : fits h ≡ true = r .fit [] in
       let there = ltb p (h .opening .parties) in
       let own = ownMove l o p in
-      subst (λ (b : Bool). Holds (hubBy b there o) o (moved l o p)) (sym fit)
-      (subst (λ (b : Bool). Holds (hubBy true there o) o (screen.checked b (ltb p (l .parties)) l own)) (sym f)
-      (subst (λ (n : ℕ). Holds (hubBy true there o) o (screen.checked true (ltb p n) l own)) (sym (s .parties))
+      subst (λ (b : Bool). Follows (hubBy b there o) o (moved l o p)) (sym fit)
+      (subst (λ (b : Bool). Follows (hubBy true there o) o (screen.checked b (ltb p (l .parties)) l own)) (sym f)
+      (subst (λ (n : ℕ). Follows (hubBy true there o) o (screen.checked true (ltb p n) l own)) (sym (s .parties))
       (checked-same o there refl)))
 
   -- Every operation, on a line that fits.
-  pub operation-same : (o : Operation) → lineFits l ≡ true → Holds (operatedAtRest h (callOf o p)) o (moved l o p)
+  pub operation-same : (o : Operation) → lineFits l ≡ true → Follows (operatedAtRest h (callOf o p)) o (moved l o p)
   unfolding operatedAtRest
   operation-same Operation.Acquire = fitting-same Operation.Acquire
   operation-same Operation.Cancel = fitting-same Operation.Cancel
