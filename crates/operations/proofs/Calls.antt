@@ -1,13 +1,13 @@
 -- Single calls, on a record that is as one at rest was but for one party's phase and the figures.
 use Prim.Native.Nat.{ℕ, _<_}
 use mathlib.Core.Path.{_≡_, refl, sym, ap, subst, _∙_}
-use mathlib.Core.Bool.{Bool, true, false, cond}
+use mathlib.Core.Bool.{Bool, true, false}
 use mathlib.Core.List.{List, [], _∷_}
 use mathlib.Core.Logic.{_≢_}
 use native.Mathlib.Decide.{ℕ-discrete}
 use lib.Dec.{ltb}
-use lib.ListN.{length}
-use lib.Seq.{getD-set-other, getD-set-same, set-set}
+use lib.ListN.{length, length-set, set}
+use lib.Seq.{getD-set-other, getD-set-same, set-comm, set-set}
 use Rattle.hub.specs.declared.answers.Answer.{Answer}
 use Rattle.hub.specs.declared.moves.Call.{Call}
 use Rattle.hub.specs.declared.moves.Op.{Op}
@@ -24,14 +24,14 @@ use Rattle.hub.specs.Calls.{answerOf, apply, called, checked, isFull, moveOf, r
 use Rattle.hub.specs.Calm.{rests, stepBy}
 use Rattle.hub.specs.Fits.{fits}
 use Rattle.hub.specs.Look.{look, seenBy}
-use Rattle.hub.specs.Moves.{Change, Move, Refuse, Tell, Act, Put, Wake}
+use Rattle.hub.specs.Moves.{Change, Move, Act, Put}
 use Rattle.hub.specs.Phases.{atRest, byTicket}
 use Rattle.hub.specs.Radios.{moved, poolAfter}
-use Rattle.hub.specs.Record.{freeSlot, readSlot, writeSlot}
-use Rattle.hub.specs.Ring.{Ring, reclaimed, writeSeat}
+use Rattle.hub.specs.Record.{emptySeat, freeSlot, readSlot, writeSlot}
+use Rattle.hub.specs.Ring.{Ring, readSeat, writeSeat}
 use Rattle.hub.specs.Schedule.{run}
 use Rattle.hub.specs.Table.{decide, stepIn}
-use Rattle.operations.specs.AtRest.{figuresTo, phaseTo, placeTo, radiosBy}
+use Rattle.operations.specs.AtRest.{figuresTo, phaseTo, placeTo}
 use Rattle.operations.proofs.Ring.{Tidy, tidy-same}
 
 -- Slots read after one was written.
@@ -47,6 +47,16 @@ module _ (l : List PartySlot) (p : ℕ) (s : PartySlot) where
   pub written-twice : (x : PartySlot) → writeSlot (writeSlot l p s) p x ≡ writeSlot l p x
   unfolding writeSlot
   written-twice x = set-set l p s x
+
+  pub written-length : length (writeSlot l p s) ≡ length l
+  unfolding writeSlot
+  written-length = length-set l p s
+
+  -- With another slot written in between.
+  pub written-around : (q : ℕ) (x y : PartySlot) → p ≢ q
+      → writeSlot (writeSlot (writeSlot l p s) q x) p y ≡ writeSlot (writeSlot l q x) p y
+  unfolding writeSlot
+  written-around q x y d = ap (λ (k : List PartySlot). set k p y) (set-comm l p q s x d) ∙ set-set (set l q x) p s y
 
   -- All at rest, and one more.
   pub written-rests : p < length l → atRest (s .phase) ≡ true
@@ -160,6 +170,11 @@ module _ (h : Hub) (p : ℕ) (inside : p < length (h .slots)) (present : ltb p (
     pub rests-now : (f : Figures) (x : Phase) {b : Bool} → atRest x ≡ b → rests (now f x) p ≡ b
     rests-now f x e = ap atRest (phase-now f x) ∙ e
 
+    pub seat-now : (f : Figures) (x : Phase)
+        → look (now f x) p .seat .place ≡ byTicket emptySeat (readSeat (h .places)) x .place
+    unfolding seenBy
+    seat-now f x = ap (λ (g : Phase). byTicket emptySeat (readSeat (h .places)) g .place) (phase-now f x)
+
     -- The call that begins an operation, before the tidying.
     pub begins : (o : Op) (f : Figures) (x : Phase) (y : Answer)
         → moveOf h (record { op = o; party = p }) ≡ Act (to x f y)
@@ -200,3 +215,17 @@ module _ (h : Hub) (p : ℕ) (inside : p < length (h .slots)) (present : ltb p (
                 (withSlots (written-twice (h .slots) p (record { phase = x }) (record { phase = x′ }) i)
                 (figuresTo f h))));
           })
+
+    -- Where nothing is drawn to resume the tidying does nothing; and where no radio moves either, that is all.
+    module _ (tidy : Tidy (ringOf h)) (f : Figures) (x : Phase) (same : f .resumed ≡ h .figures .resumed) where
+      pub tidied-now : tidied (now f x) ≡ now f x
+      tidied-now = tidied-same (now f x) (subst (λ (n : ℕ). Tidy (ring n)) (sym same) tidy)
+        where
+          ring : ℕ → Ring
+          ring n = record { resumed = n; oldest = h .oldest; places = h .places }
+
+      pub quiet : (y : Answer) → moved (printed y) p (h .pool) ≡ h .pool
+          → withPool (radios y) (tidied (now f x)) ≡ now f x
+      quiet y e =
+          ap (λ (q : Pool). withPool q (tidied (now f x))) (still (h .opening .named) (printed y) p (h .pool) e)
+          ∙ ap (withPool (h .pool)) tidied-now

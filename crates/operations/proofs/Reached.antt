@@ -1,5 +1,5 @@
 -- Whatever a schedule reaches, once everybody is at rest all of `AtRest` is known of it.
-use Prim.Native.Nat.{ℕ, zero, suc, _+_, _*_, _%_, _≤_, _<_}
+use Prim.Native.Nat.{ℕ, zero, suc, _+_, _%_, _≤_, _<_}
 use mathlib.Core.Path.{_≡_, refl, sym, ap, subst, _∙_}
 use mathlib.Core.Bool.{Bool, true, false, cond}
 use mathlib.Core.List.{List, [], _∷_, _++_}
@@ -8,7 +8,6 @@ use native.Mathlib.Decide.{decLe}
 use native.Mathlib.Omega.{arith}
 use lib.IntN.{ℤ, pos, negsuc}
 use lib.ListN.{getD, length, length-map, List·getD-map}
-use Rattle.hub.specs.declared.answers.Answer.{Answer}
 use Rattle.hub.specs.declared.moves.Call.{Call}
 use Rattle.hub.specs.declared.moves.Sight.{Sight}
 use Rattle.hub.specs.declared.opening.Opening.{Opening}
@@ -37,17 +36,16 @@ use Rattle.hub.specs.Ring.{PLACES, readPlace, readSeat, writeSeat}
 use Rattle.hub.specs.Schedule.{run}
 use Rattle.hub.proofs.Demand3.{every-record-fits, ring-count, schedule, start}
 use Rattle.hub.proofs.Invariant.Held.{held-most}
-use Rattle.hub.proofs.Invariant.Keep.{Inv, TicketsIn, permits}
+use Rattle.hub.proofs.Invariant.Keep.{Inv, permits}
 use Rattle.hub.proofs.Invariant.Rest.{Settled, idle, no-permits, rest-settled, standing}
-use Rattle.hub.proofs.Invariant.Tickets.{mine, one-in, resumed-most}
+use Rattle.hub.proofs.Invariant.Tickets.{mine, resumed-most}
 use Rattle.hub.proofs.Invariant.Weights.{down, hand, holding, least, live, lt-le, lt-no, lt-yes, most, one}
 use Rattle.hub.proofs.Invariant.Weights.{own, permitCell, pick, refusedCell, refusing, resuming, same}
 use Rattle.hub.proofs.Invariant.Weights.{same-eq, same-self, served, spent, stage, stage-own, stand-own}
 use Rattle.hub.proofs.Invariant.Weights.{TICKETS, cellSum, sum, suspending, up}
 use Rattle.hub.proofs.Laws.Lists.{weight-le, weight-one, weight-scale}
-use Rattle.hub.proofs.Laws.Phases.{by-ticket, one-or, place-of, ticketed, waiterOf}
+use Rattle.hub.proofs.Laws.Phases.{by-ticket, one-or, ticketed, waiterOf}
 use Rattle.hub.proofs.Laws.Seats.{written-size}
-use Rattle.hub.proofs.Radios.Kept.{Kept}
 use Rattle.hub.proofs.Window.Shown.{Reached, has-place, high, low, read-same}
 use Rattle.operations.specs.AtRest.{OnRest}
 use Rattle.operations.proofs.Rest.{AtRest}
@@ -274,16 +272,10 @@ module _ (k : ℕ) (h : Hub) (m : Queue) (r : Reached k h m) (tidy : Tidy (ringO
   place-cell t a i j e =
       ap (λ (s : PlaceSlot). s .place) (sym (r .tracks .shows .window .within t i j)) ∙ e
 
-  abbrev lent : ℕ
-  lent = h .oldest + PLACES
-
   oldest : h .oldest ≡ resumed
   unfolding isPlaceOf
   oldest = go (decLe resumed (h .oldest))
     where
-      o : ℕ
-      o = h .oldest
-
       go : Dec (resumed ≤ h .oldest) → h .oldest ≡ resumed
       go (yes i) = omega (arith, low k h m (r .tracks))
       go (no i) =
@@ -301,7 +293,7 @@ module _ (k : ℕ) (h : Hub) (m : Queue) (r : Reached k h m) (tidy : Tidy (ringO
 
   -- The party that waits with ticket t, and its place.
   waits : (p t : ℕ) → phaseIn (phases m) p ≡ Waiting t
-      → (places m t ≡ WaitedBy p) × (resumed ≤ t) × (t < issued) × (h .oldest ≤ t) × (t < lent)
+      → (places m t ≡ WaitedBy p) × (resumed ≤ t) × (t < issued) × (h .oldest ≤ t) × (t < h .oldest + PLACES)
   unfolding pick isOneOf
   waits p t e = (
     cell ∙ ap WaitedBy same-party,
@@ -429,18 +421,9 @@ module _ (k : ℕ) (h : Hub) (m : Queue) (r : Reached k h m) (tidy : Tidy (ringO
         oldest = oldest ∙ sym (fig (λ f. f .resumed));
         drawn = omega (arith, drawn, fig (λ f. f .resumed), fig (λ f. f .issued));
         room = omega (arith, high k h m (r .tracks), fig (λ f. f .issued));
-        waits = λ p t e. (
-            let w = waits p t (shown p (Waiting t) e) in (
-              place-cell t (WaitedBy p) (w .3) (w .4) (w .0),
-              omega (arith, w .1, fig (λ f. f .resumed)),
-              omega (arith, w .2, fig (λ f. f .issued)),
-            )
-            );
-        line = λ t a b. (
-            let u : t < issued = omega (arith, fig (λ f. f .issued)) in
-            let l : resumed ≤ t = omega (arith, fig (λ f. f .resumed)) in
-            in-line t l u (line t l u)
-            );
+        waits = λ p t e. placed-waits p t (waits p t (shown p (Waiting t) e));
+        line = λ t a b.
+            in-line t (omega (arith, fig (λ f. f .resumed))) (omega (arith, fig (λ f. f .issued)));
         spare = λ i.
             ap (readPlace (h .places)) (fig (λ f. f .issued))
             ∙ place-cell issued Empty (omega (arith, low k h m (r .tracks)))
@@ -450,13 +433,26 @@ module _ (k : ℕ) (h : Hub) (m : Queue) (r : Reached k h m) (tidy : Tidy (ringO
         stored = stored;
       }
     where
+      placed-waits : (p t : ℕ)
+          → (places m t ≡ WaitedBy p) × (resumed ≤ t) × (t < issued) × (h .oldest ≤ t) × (t < h .oldest + PLACES)
+          → (readPlace (h .places) t ≡ WaitedBy p) × (h .figures .resumed ≤ t) × (t < h .figures .issued)
+      placed-waits p t w = (
+        place-cell t (WaitedBy p) (w .3) (w .4) (w .0),
+        omega (arith, w .1, fig (λ f. f .resumed)),
+        omega (arith, w .2, fig (λ f. f .issued)),
+      )
+
       in-line : (t : ℕ) → resumed ≤ t → t < issued
-          → (places m t ≡ Cancelled) ⊎ ((p : ℕ) × (phaseIn (phases m) p ≡ Waiting t))
           → (readPlace (h .places) t ≡ Cancelled)
           ⊎ ((p : ℕ) × (readSlot (h .slots) p .phase ≡ Waiting t))
-      in-line t a b (inl e) =
-          inl (place-cell t Cancelled (omega (arith, oldest)) (omega (arith, high k h m (r .tracks))) e)
-      in-line t a b (inr p) = inr (p .0, read-same k h m (r .tracks) (p .0) ∙ p .1)
+      in-line t a b = go (line t a b)
+        where
+          go : (places m t ≡ Cancelled) ⊎ ((p : ℕ) × (phaseIn (phases m) p ≡ Waiting t))
+              → (readPlace (h .places) t ≡ Cancelled)
+              ⊎ ((p : ℕ) × (readSlot (h .slots) p .phase ≡ Waiting t))
+          go (inl e) =
+              inl (place-cell t Cancelled (omega (arith, oldest)) (omega (arith, high k h m (r .tracks))) e)
+          go (inr p) = inr (p .0, read-same k h m (r .tracks) (p .0) ∙ p .1)
 
 pub at-rest : OnRest AtRest
 unfolding ReachedFits

@@ -1,9 +1,13 @@
 -- What is known of a record that a schedule reached and on which everybody is at rest.
-use Prim.Native.Nat.{ℕ, _+_, _≤_, _<_}
-use mathlib.Core.Path.{_≡_}
+use Prim.Native.Nat.{ℕ, zero, suc, _+_, _≤_, _<_}
+use mathlib.Core.Path.{_≡_, refl, sym}
 use mathlib.Core.Bool.{true, false}
 use mathlib.Core.List.{List}
 use mathlib.Core.Logic.{_⊎_}
+use native.Mathlib.Omega.{arith}
+use borrow.Author.Tests.{lt-ltb}
+use lib.Dec.{ltb}
+use lib.IntN.{ℤ, pos, negsuc}
 use lib.ListN.{length}
 use Rattle.hub.specs.declared.moves.Call.{Call}
 use Rattle.hub.specs.declared.record.Hub.{Hub}
@@ -18,6 +22,7 @@ use Rattle.hub.specs.Phases.{isHolding, isWaiting}
 use Rattle.hub.specs.Record.{PARTIES, phasesOf, readSlot}
 use Rattle.hub.specs.Ring.{PLACES, canRetire, canSkip, readPlace}
 use Rattle.hub.specs.Schedule.{run}
+use Rattle.hub.specs.Table.{aboveZero, belowZero}
 
 pub record AtRest (h : Hub) : Type 0 where
   pub calm : (p : ℕ) → rests h p ≡ true
@@ -47,3 +52,13 @@ pub record AtRest (h : Hub) : Type 0 where
       ≡ h .opening .permits
   pub waiters : count isWaiting (phasesOf (h .slots)) ≡ belowBy (h .figures .counter)
   pub stored : h .opening .named ≡ true → h .pool .stored ≡ atCounter (h .figures .counter)
+
+-- Above zero something is there; below zero something is due.
+pub above-zero : (z : ℤ) → aboveZero z ≡ ltb 0 (atCounter z)
+above-zero (pos zero) = refl
+above-zero (pos (suc n)) = sym (lt-ltb 0 (suc n) (omega arith))
+above-zero (negsuc n) = refl
+
+pub below-zero : (z : ℤ) → belowZero z ≡ ltb 0 (belowBy z)
+below-zero (pos n) = refl
+below-zero (negsuc n) = sym (lt-ltb 0 (suc n) (omega arith))

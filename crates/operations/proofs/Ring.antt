@@ -1,7 +1,7 @@
 -- The tidying, on rings alone: where it has nothing to do, that it leaves nothing to do, and that a place which
 -- is done after one tidying might as well have been done before.
 use Prim.Native.Nat.{ℕ, zero, suc, _+_, _%_, _≤_, _<_}
-use mathlib.Core.Path.{_≡_, refl, sym, ap, subst, _∙_}
+use mathlib.Core.Path.{_≡_, refl, sym, ap, _∙_}
 use mathlib.Core.Bool.{Bool, true, false, cond, _&&_}
 use mathlib.Core.List.{List}
 use mathlib.Core.Logic.{_≢_}
@@ -18,7 +18,7 @@ use Rattle.hub.specs.Record.{emptySeat, withPlace}
 use Rattle.hub.specs.Ring.{LoopsEnd, PLACES, Ring, canRetire, canSkip, readPlace, readSeat, reclaimed}
 use Rattle.hub.specs.Ring.{retire, retired, skip, skipped, writeSeat}
 use Rattle.hub.proofs.Laws.Bools.{first}
-use Rattle.hub.proofs.Laws.Ring.{loops-end, retire-no, retire-yes, skip-no, skip-yes}
+use Rattle.hub.proofs.Laws.Ring.{loops-end, retire-no, skip-no, skip-yes}
 use Rattle.hub.proofs.Laws.Seats.{written-other, written-same, written-size}
 
 -- Nothing to do.
@@ -230,22 +230,26 @@ skip-passed (suc n) t r d =
         }
     go false e f = record { drawn = d; oldest = refl; same = refl }
 
--- So it is the same whether the place of the oldest ticket is done before a tidying or after it.
-pub done-between : (t : ℕ) (r : Ring) → Drawn t r → r .oldest ≡ t → isDone (readPlace (r .places) t) ≡ false
-    → reclaimed (doneAt t (reclaimed r)) ≡ reclaimed (doneAt t r)
-unfolding LoopsEnd
-done-between t r d o e =
-    ap (λ (x : Ring). reclaimed (doneAt t x)) (retire-no 255 s unretired)
-    ∙ ap (retire PLACES) (skip-no 255 (doneAt t s) (skip-alike t s (p .drawn) ∙ loops-end r (d .size) .0)
-    ∙ sym (skip-done PLACES t r d))
-  where
-    s : Ring
-    s = skip PLACES r
+-- The place of the oldest ticket, drawn to resume and not done, ends the second loop at once. So it stays as it
+-- is, and it is the same whether it is done before the tidying or after it.
+module _ (t : ℕ) (r : Ring) (d : Drawn t r) (o : r .oldest ≡ t) (e : isDone (readPlace (r .places) t) ≡ false) where
+  passed : Passed t r (skip PLACES r)
+  passed = skip-passed PLACES t r d
 
-    p : Passed t r s
-    p = skip-passed PLACES t r d
+  only-skipped : reclaimed r ≡ skip PLACES r
+  only-skipped =
+      retire-no 255 (skip PLACES r)
+      (ap (λ (u : ℕ). isDone (readPlace (skip PLACES r .places) u)) (passed .oldest ∙ o)
+      ∙ ap (λ (x : PlaceSlot). isDone (x .place)) (passed .same) ∙ e)
 
-    unretired : canRetire s ≡ false
-    unretired =
-        ap (λ (u : ℕ). isDone (readPlace (s .places) u)) (p .oldest ∙ o)
-        ∙ ap (λ (x : PlaceSlot). isDone (x .place)) (p .same) ∙ e
+  pub drawn-stays : readSeat (reclaimed r .places) t ≡ readSeat (r .places) t
+  drawn-stays = ap (λ (x : Ring). readSeat (x .places) t) only-skipped ∙ passed .same
+
+  pub done-between : reclaimed (doneAt t (reclaimed r)) ≡ reclaimed (doneAt t r)
+  unfolding LoopsEnd
+  done-between =
+      ap (λ (x : Ring). reclaimed (doneAt t x)) only-skipped
+      ∙ ap (retire PLACES)
+      (skip-no 255 (doneAt t (skip PLACES r))
+      (skip-alike t (skip PLACES r) (passed .drawn) ∙ loops-end r (d .size) .0)
+      ∙ sym (skip-done PLACES t r d))

@@ -1,7 +1,7 @@
 -- The steps of one party, answer by answer, until it is at rest: what an operation is then.
 use Prim.Native.Nat.{ℕ, zero, suc, _≤_}
 use mathlib.Core.Path.{_≡_, refl, sym, ap, subst, _∙_}
-use mathlib.Core.Bool.{Bool, true, false, cond}
+use mathlib.Core.Bool.{true, false, cond}
 use mathlib.Core.List.{List, [], _∷_}
 use native.Mathlib.Omega.{arith}
 use borrow.Author.Tests.{eq-eqb}
@@ -14,8 +14,7 @@ use Rattle.hub.specs.declared.record.Outcome.{Outcome}
 use Rattle.hub.specs.Answers.{printed}
 use Rattle.hub.specs.Calls.{called}
 use Rattle.hub.specs.Calm.{rests, stepBy}
-use Rattle.hub.specs.Fits.{fits}
-use Rattle.hub.specs.Schedule.{Entry, entries, run}
+use Rattle.hub.specs.Schedule.{entries, run}
 use Rattle.hub.proofs.Laws.Bools.{if-false, if-true}
 use Rattle.operations.specs.declared.Operated.{Operated}
 use Rattle.operations.specs.Operation.{MOST-STEPS, operated, stepsOf, wokenIn}

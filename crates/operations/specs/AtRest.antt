@@ -3,18 +3,15 @@ use Prim.Native.Nat.{ℕ, _+_}
 use mathlib.Core.Path.{_≡_}
 use mathlib.Core.Bool.{Bool, true, false, cond}
 use mathlib.Core.List.{List}
-use lib.IntN.{ℤ, pos, negsuc, sucℤ, predℤ}
+use lib.IntN.{sucℤ, predℤ}
 use Rattle.hub.specs.declared.answers.Answer.{Answer}
-use Rattle.hub.specs.declared.answers.Refusal.{Refusal}
 use Rattle.hub.specs.declared.moves.Call.{Call}
 use Rattle.hub.specs.declared.moves.Op.{Op}
 use Rattle.hub.specs.declared.opening.Opening.{Opening}
 use Rattle.hub.specs.declared.record.Figures.{Figures}
 use Rattle.hub.specs.declared.record.Hub.{Hub}
-use Rattle.hub.specs.declared.record.PartySlot.{PartySlot}
 use Rattle.hub.specs.declared.record.Phase.{Phase}
 use Rattle.hub.specs.declared.record.Place.{Place}
-use Rattle.hub.specs.declared.record.PlaceSlot.{PlaceSlot}
 use Rattle.hub.specs.declared.record.Pool.{Pool}
 use Rattle.hub.specs.Calls.{moveOf, tidied}
 use Rattle.hub.specs.Calm.{rests}

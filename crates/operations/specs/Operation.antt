@@ -1,7 +1,7 @@
 -- A whole operation: a call (ask, give up, give back), then steps until nobody is busy. On a hub at rest only
 -- the calling party can be.
 use Prim.Native.Nat.{ℕ, zero, suc}
-use mathlib.Core.Bool.{Bool, cond}
+use mathlib.Core.Bool.{cond}
 use mathlib.Core.List.{List, [], _∷_}
 use lib.Dec.{eqb}
 use lib.ListN.{length}

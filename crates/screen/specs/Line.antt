@@ -2,6 +2,7 @@
 use Prim.Native.Nat.{ℕ, suc}
 use mathlib.Core.Bool.{Bool, true, false, cond}
 use mathlib.Core.List.{List, [], _∷_}
+use lib.Dec.{eqb}
 use lib.ListN.{getD, length, replicate, take}
 use Rattle.hub.specs.Basics.{among}
 use Rattle.hub.specs.Radios.{padded}
@@ -31,6 +32,11 @@ holders l = holdersFrom 0 (l .holding)
 -- Those that wait, in their order.
 unfoldable pub waiters : Line → List ℕ
 waiters l = take (l .waiting) (l .queue)
+
+-- The place of the first x in a list; its length if x is not there.
+unfoldable pub placeOf : ℕ → List ℕ → ℕ
+placeOf x [] = 0
+placeOf x (y ∷ l) = cond (eqb x y) 0 (suc (placeOf x l))
 
 -- Does party p hold; does it wait?
 unfoldable pub holdsIn : Line → ℕ → Bool

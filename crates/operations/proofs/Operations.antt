@@ -1,0 +1,161 @@
+-- Each operation on a hub at rest comes to its closed form, refused or accepted, and leaves everybody at rest.
+use Prim.Native.Nat.{ℕ, _+_}
+use mathlib.Core.Path.{_≡_, refl, sym, ap, subst, _∙_}
+use mathlib.Core.Bool.{Bool, true, false}
+use native.Mathlib.Omega.{arith}
+use borrow.Author.Tests.{leb-false}
+use lib.Dec.{ltb}
+use Rattle.hub.specs.declared.answers.Answer.{Answer}
+use Rattle.hub.specs.declared.answers.Refusal.{Refusal}
+use Rattle.hub.specs.declared.moves.Call.{Call}
+use Rattle.hub.specs.declared.moves.Op.{Op}
+use Rattle.hub.specs.declared.record.Hub.{Hub}
+use Rattle.hub.specs.declared.record.Phase.{Phase}
+use Rattle.hub.specs.declared.record.Pool.{Pool}
+use Rattle.hub.specs.Answers.{printed}
+use Rattle.hub.specs.Basics.{count}
+use Rattle.hub.specs.Calls.{apply, checked, isFull, moveOf, withPool}
+use Rattle.hub.specs.Calm.{rests}
+use Rattle.hub.specs.Look.{look, seenBy}
+use Rattle.hub.specs.Moves.{Act, Move, Refuse}
+use Rattle.hub.specs.Phases.{drawsTicket, isHolding, isOneOf, ticketOf}
+use Rattle.hub.specs.Radios.{moved}
+use Rattle.hub.specs.Record.{phasesOf, readSlot}
+use Rattle.hub.specs.Ring.{PLACES}
+use Rattle.hub.specs.Table.{aboveZero, acquire, belowZero, canCancel, cancel, decide, givenUp, release}
+use Rattle.hub.proofs.Laws.Phases.{one-of}
+use Rattle.operations.specs.declared.Operated.{Operated}
+use Rattle.operations.specs.AtRest.{ComesTo, EndsAtRest, acquired, byMove, isOperation, operatedAtRest, released}
+use Rattle.operations.proofs.Calls.{allowed, called-by, fits-now, still, to}
+use Rattle.operations.proofs.Reached.{at-rest, resting}
+use Rattle.operations.proofs.Rest.{AtRest}
+use Rattle.operations.proofs.Shapes.{Comes, ask-permit, ask-wait, give-back, give-up, hand-over}
+use Rattle.operations.proofs.Waits.{next-waits}
+use Rattle.operations.proofs.Walk.{operated-by, stop}
+
+-- A refusal moves no radio.
+refusal-still : (r : Refusal) (p : ℕ) (q : Pool) → moved (printed (Answer.Refused r)) p q ≡ q
+unfolding moved
+refusal-still Refusal.Unfit p q = refl
+refusal-still Refusal.BadPermits p q = refl
+refusal-still Refusal.BadParties p q = refl
+refusal-still Refusal.NoSuchParty p q = refl
+refusal-still Refusal.NotFree p q = refl
+refusal-still Refusal.Exhausted p q = refl
+refusal-still Refusal.Full p q = refl
+refusal-still Refusal.AtRest p q = refl
+refusal-still Refusal.NotWaiting p q = refl
+refusal-still Refusal.NotCancellable p q = refl
+refusal-still Refusal.NotHolding p q = refl
+refusal-still Refusal.SameRadios p q = refl
+
+module _ (h : Hub) (a : AtRest h) where
+  -- What a move comes to.
+  abbrev By : Call → Move → Type 0
+  By c m = moveOf h c ≡ m → Comes h c (byMove m h c)
+
+  refused : (c : Call) (r : Refusal) → By c (Refuse r)
+  unfolding apply
+  refused c r e =
+      record {
+        same =
+            operated-by h c (Answer.Refused r)
+            (called-by h c (Refuse r) e
+            ∙ ap (λ (q : Pool). record { answer = Answer.Refused r; hub = withPool q h })
+            (still (h .opening .named) (printed (Answer.Refused r)) (c .party) (h .pool)
+            (refusal-still r (c .party) (h .pool))))
+            refl (stop (a .calm (c .party))) (omega arith);
+        rest = a .calm;
+      }
+
+  abbrev full : Bool
+  full = isFull (h .oldest) (h .figures .issued) (h .slots)
+
+  -- No such party, or what the call decides.
+  in-turn : (c : Call) (b : Bool) → ltb (c .party) (h .opening .parties) ≡ b
+      → (b ≡ true → By c (decide (c .op) full (look h (c .party))))
+      → Comes h c (operatedAtRest h c)
+  unfolding operatedAtRest checked
+  in-turn c true e f = of _ (allowed h c (fits-now h (a .fit)) e) (f refl)
+    where
+      of : (m : Move) → moveOf h c ≡ m → By c m → Comes h c (byMove (moveOf h c) h c)
+      of m i g = subst (λ (v : Move). Comes h c (byMove v h c)) (sym i) (g i)
+  in-turn c false e f =
+      let i : moveOf h c ≡ Refuse Refusal.NoSuchParty =
+      (λ j. checked (fits-now h (a .fit) j) (e j) (decide (c .op) full (look h (c .party)))) in
+      subst (λ (v : Move). Comes h c (byMove v h c)) (sym i) (refused c Refusal.NoSuchParty i)
+
+  module _ (p : ℕ) (present : ltb p (h .opening .parties) ≡ true) where
+    abbrev phase : Phase
+    phase = readSlot (h .slots) p .phase
+
+    asks : (x y z : Bool) → full ≡ z
+        → By (record { op = Op.Acquire; party = p }) (acquire x y z (look h p))
+    unfolding acquire seenBy
+    asks false y z f e = refused _ Refusal.NotFree e
+    asks true true z f e = refused _ Refusal.Exhausted e
+    asks true false true f e = refused _ Refusal.Full e
+    asks true false false f e = go (aboveZero (h .figures .counter)) refl
+      where
+        go : (b : Bool) → aboveZero (h .figures .counter) ≡ b
+            → Comes h (record { op = Op.Acquire; party = p }) (acquired b h p)
+        go true i = ask-permit h a p present e i
+        go false i =
+            ask-wait h a p present e i
+            (omega (
+              arith,
+              leb-false (h .oldest + PLACES)
+                  (h .figures .issued + count drawsTicket (phasesOf (h .slots))) f,
+            ))
+
+    -- Whoever can give up and is at rest waits.
+    can-wait : canCancel phase ≡ true → phase ≡ Phase.Waiting (ticketOf phase)
+    unfolding isOneOf
+    can-wait =
+        resting (λ f. canCancel f ≡ true → f ≡ Phase.Waiting (ticketOf f)) (λ i. cc) (λ i. cc) (λ t i. refl)
+        phase (a .calm p)
+
+    gives-up : (x y : Bool) → canCancel phase ≡ x
+        → By (record { op = Op.Cancel; party = p }) (cancel x y (givenUp phase) (look h p))
+    unfolding cancel seenBy givenUp isOneOf
+    gives-up false y i e = refused _ Refusal.NotWaiting e
+    gives-up true true i e = refused _ Refusal.NotCancellable e
+    gives-up true false i e =
+        give-up h a p present (ticketOf phase) (can-wait i)
+        (e ∙ ap (λ (f : Phase). Act (to (givenUp f) (h .figures) Answer.Accepted)) (can-wait i))
+
+    gives-back : (x : Bool) → isHolding phase ≡ x
+        → By (record { op = Op.Release; party = p }) (release x (look h p))
+    unfolding release seenBy
+    gives-back false i e = refused _ Refusal.NotHolding e
+    gives-back true i e = go (belowZero (h .figures .counter)) refl
+      where
+        go : (b : Bool) → belowZero (h .figures .counter) ≡ b
+            → Comes h (record { op = Op.Release; party = p }) (released b h p)
+        go false j = give-back h a p present e j
+        go true j =
+            let q = next-waits h a j in
+            hand-over h a p present e j (one-of Phase.Holding phase i) (q .0) (q .1)
+
+  -- Every operation.
+  pub operation : (o : Op) (p : ℕ) → isOperation o ≡ true
+      → Comes h (record { op = o; party = p }) (operatedAtRest h (record { op = o; party = p }))
+  unfolding decide seenBy
+  operation Op.Acquire p i =
+      in-turn (record { op = Op.Acquire; party = p }) _ refl (λ e. asks p e _ _ full refl)
+  operation Op.Step p i = let z : _≡_ {A = ℕ} 0 1 = cc in let w : ⊥ = omega arith in absurd w
+  operation Op.Cancel p i =
+      in-turn (record { op = Op.Cancel; party = p }) _ refl (λ e. gives-up p e _ _ refl)
+  operation Op.Release p i =
+      in-turn (record { op = Op.Release; party = p }) _ refl (λ e. gives-back p e _ refl)
+  operation Op.Radio p i = let z : _≡_ {A = ℕ} 0 1 = cc in let w : ⊥ = omega arith in absurd w
+
+pub comes-to : ComesTo
+unfolding ComesTo
+comes-to o e cs calm c i = operation _ (at-rest o e cs calm) (c .op) (c .party) i .same
+
+pub ends-at-rest : EndsAtRest
+unfolding EndsAtRest
+ends-at-rest o e cs calm c i p =
+    let x = operation _ (at-rest o e cs calm) (c .op) (c .party) i in
+    ap (λ (r : Operated). rests (r .hub) p) (x .same) ∙ x .rest p

@@ -1,0 +1,112 @@
+-- `line_fits` meets its contract: its tests are the clauses of the definition.
+use borrow.Author.Needs.{needs}
+use borrow.Author.Tests.{leb-true, lt-leb, le-leb, not-false, not-true}
+use native.Mathlib.Omega.{arith}
+use mathlib.Core.Path.{_≡_, sym, ap, _∙_}
+use mathlib.Core.Bool.{Bool, true}
+use Prim.Native.Nat.{ℕ, _≤_, _<_}
+use lib.Dec.{eqb, leb}
+use Rattle.hub.specs.Basics.{implies, upTo32}
+use Rattle.hub.proofs.Laws.Bools.{second}
+use Rattle.screen.specs.declared.record.Line.{Line}
+use Rattle.screen.specs.Fits.{held}
+use Rattle.screen.proofs.Laws.Check.{fails, fails-holders, fails-queue, passes}
+use Rattle.screen.proofs.Laws.Lists.{gt-by}
+use Rattle.screen.proofs.fits.line_fits.Statement.{statement}
+use Rattle.screen.proofs.fits.line_fits.Tie as tie
+
+n-small : (n : ℕ) → upTo32 n ≡ true → n ≤ 32
+n-small n e = leb-true _ _ (second (leb 1 n) _ e)
+
+idle : (l : Line) → l .waiting < 1 → true ≡ implies (leb 1 (l .waiting)) (eqb (held l) (l .permits))
+idle l h = rw (lt-leb 1 (l .waiting) h)
+
+busy : (l : Line) → 1 ≤ l .waiting
+    → eqb (held l) (l .permits) ≡ implies (leb 1 (l .waiting)) (eqb (held l) (l .permits))
+busy l h = rw (le-leb 1 (l .waiting) h)
+
+up-to-32-requires : tie.Need-up-to-32-requires
+up-to-32-requires c κs = search needs
+
+returns : tie.Need-returns
+returns c = fails _ 0 (sym (c .before .up-to-32 .ensures) ∙ not-true _ (c .if1 .taken))
+
+up-to-32-requires-2 : tie.Need-up-to-32-requires-2
+up-to-32-requires-2 c κs = search needs
+
+returns-2 : tie.Need-returns-2
+returns-2 c = fails _ 1 (sym (c .before .up-to-322 .ensures) ∙ not-true _ (c .if2 .taken))
+
+returns-3 : tie.Need-returns-3
+returns-3 c = fails _ 2 (lt-leb _ _ (c .if3 .taken))
+
+holders-below-requires : tie.Need-holders-below-requires
+holders-below-requires c κs = n-small _ (sym (c .before .before .before .up-to-322 .ensures) ∙ not-false _ (c .before .before .if2 .left))
+
+returns-4 : tie.Need-returns-4
+returns-4 c = fails-holders _ (sym (c .before .holders-below .ensures) ∙ not-true _ (c .if4 .taken))
+
+queue-fits-requires : tie.Need-queue-fits-requires
+queue-fits-requires c κs = (
+  n-small _ (sym (c .before .before .before .before .before .up-to-322 .ensures) ∙ not-false _ (c .before .before .before .before .if2 .left)),
+  (c .before .before .if3 .left, sym (c .before .holders-below .ensures) ∙ not-false _ (c .if4 .left)),
+)
+
+returns-5 : tie.Need-returns-5
+returns-5 c = fails-queue _ (sym (c .before .queue-fits .ensures) ∙ not-true _ (c .if5 .taken))
+
+held-requires : tie.Need-held-requires
+held-requires c κs = search needs
+
+returns-6 : tie.Need-returns-6
+returns-6 c =
+    fails _ 5 (lt-leb _ _ (gt-by (c .before .before .held .ensures) (c .if6 .taken)))
+
+rest-is-zero-requires : tie.Need-rest-is-zero-requires
+rest-is-zero-requires c κs = search needs
+
+returns-7 : tie.Need-returns-7
+returns-7 c = fails _ 7 (sym (c .before .rest-is-zero .ensures) ∙ not-true _ (c .if7 .taken))
+
+returns-8 : tie.Need-returns-8
+returns-8 c =
+    let b = c .before in
+    idle (b .before .before .before .before .before .before .before .before .before .before .before .before .before .before .before .before .args .line) (c .if8 .taken)
+    ∙ passes _ (sym (b .before .before .before .before .before .before .before .before .before .before .before .before .before .before .before .up-to-32 .ensures) ∙ not-false _ (b .before .before .before .before .before .before .before .before .before .before .before .before .before .before .if1 .left))
+    (sym (b .before .before .before .before .before .before .before .before .before .before .before .before .before .up-to-322 .ensures) ∙ not-false _ (b .before .before .before .before .before .before .before .before .before .before .before .before .if2 .left))
+    (b .before .before .before .before .before .before .before .before .before .before .if3 .left)
+    (sym (b .before .before .before .before .before .before .before .queue-fits .ensures) ∙ not-false _ (b .before .before .before .before .before .before .if5 .left))
+    (omega (arith, b .before .before .before .before .before .held .ensures, b .before .before .before .if6 .left))
+    (sym (b .before .before .rest-is-zero .ensures) ∙ not-false _ (b .before .if7 .left))
+
+returns-9 : tie.Need-returns-9
+returns-9 c =
+    let b = c .before .before in
+    ap (λ (n : ℕ). eqb n (b .before .before .before .before .before .before .before .before .before .before .before .before .before .before .before .before .args .line .permits)) (b .before .before .before .before .before .held .ensures)
+    ∙ busy (b .before .before .before .before .before .before .before .before .before .before .before .before .before .before .before .before .args .line) (c .before .if8 .left)
+    ∙ passes _ (sym (b .before .before .before .before .before .before .before .before .before .before .before .before .before .before .before .up-to-32 .ensures) ∙ not-false _ (b .before .before .before .before .before .before .before .before .before .before .before .before .before .before .if1 .left))
+    (sym (b .before .before .before .before .before .before .before .before .before .before .before .before .before .up-to-322 .ensures) ∙ not-false _ (b .before .before .before .before .before .before .before .before .before .before .before .before .if2 .left))
+    (b .before .before .before .before .before .before .before .before .before .before .if3 .left)
+    (sym (b .before .before .before .before .before .before .before .queue-fits .ensures) ∙ not-false _ (b .before .before .before .before .before .before .if5 .left))
+    (omega (arith, b .before .before .before .before .before .held .ensures, b .before .before .before .if6 .left))
+    (sym (b .before .before .rest-is-zero .ensures) ∙ not-false _ (b .before .if7 .left))
+
+pub line-fits-spec : {M : Type 1} → statement M
+line-fits-spec =
+    tie.close
+    (tie.spec
+    up-to-32-requires
+    returns
+    up-to-32-requires-2
+    returns-2
+    returns-3
+    holders-below-requires
+    returns-4
+    queue-fits-requires
+    returns-5
+    held-requires
+    returns-6
+    rest-is-zero-requires
+    returns-7
+    returns-8
+    returns-9)
