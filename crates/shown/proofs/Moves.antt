@@ -43,8 +43,8 @@ use Rattle.shown.specs.Parties.{waitersFrom, waitersOf}
 use Rattle.shown.specs.Shows.{isSixOrSeven}
 use Rattle.shown.proofs.Parties.{without-behind}
 use Rattle.shown.proofs.Waiters.{comes, leaves, stays}
-use Rattle.shown.proofs.Rest.{phases, apart, between, calm, cancel-at-rest, next}
-use Rattle.shown.proofs.Seen.{Seen, nextAt, holds-same, waits-same, free-same, permit-same}
+use Rattle.shown.proofs.Rest.{phases, apart, between, calm, cancel-at-rest, next, nextAt}
+use Rattle.shown.proofs.Seen.{Seen, holds-same, waits-same, free-same, permit-same}
 use Rattle.shown.proofs.Seen.{line-first, next-same, waiter-same}
 
 -- What an operation came to at the hub, and the screen's move.

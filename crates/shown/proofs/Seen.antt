@@ -15,6 +15,7 @@ use Rattle.hub.specs.Phases.{byWaiter, isFree, isHolding, isOneOf, isWaiting}
 use Rattle.hub.specs.Ring.{readPlace}
 use Rattle.hub.specs.Table.{aboveZero, belowZero}
 use Rattle.operations.proofs.Rest.{AtRest}
+use Rattle.operations.proofs.Waits.{permit-left}
 use Rattle.screen.specs.declared.record.Line.{Line}
 use Rattle.screen.specs.Fits.{held}
 use Rattle.screen.specs.Line.{holders, holdersFrom, holdsIn, waiters, waitsIn}
@@ -22,7 +23,7 @@ use Rattle.screen.specs.Moves.{hasPermit, hasWaiter, nextWaiter}
 use Rattle.shown.specs.Parties.{waitersFrom, waitersOf}
 use Rattle.shown.proofs.Parties.{parties-bits, parties-count}
 use Rattle.shown.proofs.Waiters.{among-waiters, is-first, nobody-waits}
-use Rattle.shown.proofs.Rest.{phases, apart, between, calm, free-at-rest, permit-there, nobody, next}
+use Rattle.shown.proofs.Rest.{phases, apart, between, calm, free-at-rest, nextAt, nobody, next}
 
 -- The line l shows the record h.
 pub record Seen (h : Hub) (l : Line) : Type 0 where
@@ -32,10 +33,6 @@ pub record Seen (h : Hub) (l : Line) : Type 0 where
   pub holding : l .holding ≡ map isHolding (phases h)
   pub waiters : waiters l ≡ waitersOf h
   pub waiting : l .waiting ≡ length (waitersOf h)
-
--- The waiter that a hand-over would meet.
-abbrev pub nextAt : Hub → ℕ
-nextAt h = byWaiter 0xFF (λ x. x) (readPlace (h .places) (h .figures .resumed))
 
 module _ (h : Hub) (l : Line) (r : AtRest h) (s : Seen h l) where
   pub holds-same : (p : ℕ) → holdsIn l p ≡ isHolding (phaseIn (phases h) p)
@@ -57,7 +54,7 @@ module _ (h : Hub) (l : Line) (r : AtRest h) (s : Seen h l) where
   pub permit-same : hasPermit l ≡ aboveZero (h .figures .counter)
   unfolding hasPermit holders
   permit-same =
-      ap₂ ltb held-same (s .permits) ∙ sym (permit-there h r)
+      ap₂ ltb held-same (s .permits) ∙ sym (permit-left h r)
     where
       held-same : held l ≡ count isHolding (phases h)
       held-same =

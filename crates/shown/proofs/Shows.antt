@@ -21,6 +21,7 @@ use Rattle.hub.proofs.Laws.Bools.{both, clause, if-true}
 use Rattle.operations.specs.declared.Operated.{Operated}
 use Rattle.operations.specs.AtRest.{ComesTo, EndsAtRest, OnRest, isOperation, operatedAtRest}
 use Rattle.operations.specs.Operation.{operated, stepsAfter}
+use Rattle.operations.proofs.Operations.{comes-to, ends-at-rest}
 use Rattle.operations.proofs.Reached.{at-rest, run-more}
 use Rattle.operations.proofs.Rest.{AtRest}
 use Rattle.screen.specs.declared.record.Line.{Line}
@@ -72,8 +73,7 @@ is-operation Operation.Acquire p = refl
 is-operation Operation.Cancel p = refl
 is-operation Operation.Release p = refl
 
-module _ (comes : ComesTo) (ends : EndsAtRest) (fitting : FitsIfReached)
-    (o : Opening) (e : opening o .answer ≡ Answer.Opened) where
+module _ (fitting : FitsIfReached) (o : Opening) (e : opening o .answer ≡ Answer.Opened) where
   abbrev first : Hub
   first = opening o .hub
 
@@ -129,7 +129,7 @@ module _ (comes : ComesTo) (ends : EndsAtRest) (fitting : FitsIfReached)
     unfolding lineFits ComesTo
     same-move n =
         let eq : after ≡ operatedAtRest h (asked r) =
-        known (λ g. (c : Call) → isOperation (c .op) ≡ true → operated g c ≡ operatedAtRest g c) comes h l x
+        known (λ g. (c : Call) → isOperation (c .op) ≡ true → operated g c ≡ operatedAtRest g c) comes-to h l x
         (asked r) (is-operation (r .operation) (r .party)) in
         subst (λ (y : Operated). Same y l (r .operation) shown) (sym eq)
         (operation-same h l (known AtRest at-rest h l x) (x .seen) (r .party) (r .operation)
@@ -149,7 +149,7 @@ module _ (comes : ComesTo) (ends : EndsAtRest) (fitting : FitsIfReached)
           led = led-on;
           calm =
               known (λ g. (c : Call) → isOperation (c .op) ≡ true → (p : ℕ) → rests (operated g c .hub) p ≡ true)
-              ends h l x (asked r) (is-operation (r .operation) (r .party));
+              ends-at-rest h l x (asked r) (is-operation (r .operation) (r .party));
           seen = same-move n .seen;
         }
 
@@ -189,8 +189,8 @@ module _ (comes : ComesTo) (ends : EndsAtRest) (fitting : FitsIfReached)
         atRest = x .calm;
       }
 
-pub screen-shows : ComesTo → EndsAtRest → FitsIfReached → ScreenShows
+pub screen-shows : FitsIfReached → ScreenShows
 unfolding ScreenShows
-screen-shows comes ends fitting o e rs n =
-    subst (λ (l : Line). Alike (opening o .hub) l rs) (sym (same-line comes ends fitting o e))
-    (alike comes ends fitting o e rs n)
+screen-shows fitting o e rs n =
+    subst (λ (l : Line). Alike (opening o .hub) l rs) (sym (same-line fitting o e))
+    (alike fitting o e rs n)
