@@ -5,15 +5,18 @@ use mathlib.Core.Bool.{Bool, true, false, cond, _||_}
 use mathlib.Core.List.{List, [], _∷_, _++_, map, append-assoc}
 use mathlib.Core.Logic.{_≢_}
 use native.Mathlib.Omega.{arith}
-use borrow.Author.Tests.{eq-eqb, ne-eqb}
+use borrow.Author.Tests.{eq-eqb}
 use lib.Dec.{eqb}
-use lib.ListN.{length, set}
+use lib.ListN.{length, getD, set, List·getD-map}
 use lib.Seq.{map-set-same}
 use Rattle.hub.specs.declared.record.Phase.{Phase}
-use Rattle.hub.specs.Basics.{among, bit, count, weight}
+use Rattle.hub.specs.Basics.{among, bit, count}
 use Rattle.hub.specs.Ledger.{phaseIn}
+use Rattle.hub.specs.Phases.{isOneOf}
+use Rattle.hub.proofs.Laws.Lists.{weight-map}
 use Rattle.screen.specs.Line.{holdersFrom}
 use Rattle.screen.specs.Moves.{without}
+use Rattle.screen.proofs.Laws.Holders.{held-weight, holds-there}
 use Rattle.shown.specs.Parties.{partiesFrom, waitsWith, waitersFrom}
 
 -- Of the parties from p on, those that pass a test: the screen's list of those whose Bool is true.
@@ -33,17 +36,15 @@ parties-alike p f g (x ∷ l) e =
     ap₂ (λ (b : Bool) (r : List ℕ). cond b (p ∷ r) r) (e 0)
     (parties-alike (suc p) f g l (λ q. e (suc q)))
 
--- They are as many as the test counts.
-pub parties-count : (p : ℕ) (f : Phase → Bool) (l : List Phase)
-    → length (partiesFrom p f l) ≡ count f l
-unfolding partiesFrom weight
-parties-count p f [] = refl
-parties-count p f (x ∷ l) = go (f x) (parties-count (suc p) f l)
-  where
-    go : (b : Bool) → length (partiesFrom (suc p) f l) ≡ count f l
-        → length (cond b (p ∷ partiesFrom (suc p) f l) (partiesFrom (suc p) f l)) ≡ bit b + count f l
-    go true e = omega (arith, e)
-    go false e = omega (arith, e)
+-- They are as many as the test counts, and those that pass are among them.
+pub parties-count : (f : Phase → Bool) (l : List Phase) → length (partiesFrom 0 f l) ≡ count f l
+parties-count f l = ap length (parties-bits 0 f l) ∙ held-weight (map f l) 0 ∙ weight-map bit f l
+
+pub parties-among : (f : Phase → Bool) (l : List Phase) → f Phase.Free ≡ false → (p : ℕ)
+    → among (partiesFrom 0 f l) p ≡ f (phaseIn l p)
+parties-among f l z p =
+    ap (λ (r : List ℕ). among r p) (parties-bits 0 f l) ∙ holds-there (map f l) p
+    ∙ ap (getD (map f l) p) (sym z) ∙ List·getD-map f l p Phase.Free
 
 -- One phase replaced by another that is tested alike changes nothing.
 pub parties-set : (p : ℕ) (f : Phase → Bool) (l : List Phase) (i : ℕ) (x : Phase)
@@ -76,33 +77,6 @@ parties-one p f (x ∷ l) (suc i) q d z e o =
     ap (λ (b : Bool). cond b (p ∷ partiesFrom (suc p) f l) (partiesFrom (suc p) f l))
     (o 0 (λ i. omega arith))
     ∙ parties-one (suc p) f l i q (omega arith) z e (λ j n. o (suc j) (λ i. n (omega arith)))
-
--- Who does not pass is not among them; nor is anybody before p.
-parties-before : (p : ℕ) (f : Phase → Bool) (l : List Phase) (q : ℕ) → q < p
-    → among (partiesFrom p f l) q ≡ false
-unfolding partiesFrom
-parties-before p f [] q h = refl
-parties-before p f (x ∷ l) q h = go (f x) (parties-before (suc p) f l q (omega arith))
-  where
-    go : (b : Bool) → among (partiesFrom (suc p) f l) q ≡ false
-        → among (cond b (p ∷ partiesFrom (suc p) f l) (partiesFrom (suc p) f l)) q ≡ false
-    go true e = ap (λ (c : Bool). c || among (partiesFrom (suc p) f l) q) (ne-eqb q p (omega arith)) ∙ e
-    go false e = e
-
-pub parties-without : (p : ℕ) (f : Phase → Bool) (l : List Phase) (i q : ℕ) → q ≡ p + i
-    → f (phaseIn l i) ≡ false → among (partiesFrom p f l) q ≡ false
-unfolding partiesFrom
-parties-without p f [] i q d e = refl
-parties-without p f (x ∷ l) zero q d e =
-    ap (λ (b : Bool). among (cond b (p ∷ partiesFrom (suc p) f l) (partiesFrom (suc p) f l)) q) e
-    ∙ parties-before (suc p) f l q (omega arith)
-parties-without p f (x ∷ l) (suc i) q d e =
-    go (f x) (parties-without (suc p) f l i q (omega arith) e)
-  where
-    go : (b : Bool) → among (partiesFrom (suc p) f l) q ≡ false
-        → among (cond b (p ∷ partiesFrom (suc p) f l) (partiesFrom (suc p) f l)) q ≡ false
-    go true h = ap (λ (c : Bool). c || among (partiesFrom (suc p) f l) q) (ne-eqb q p (omega arith)) ∙ h
-    go false h = h
 
 -- Somebody is in the first of two lists or in the second.
 pub among-append : (a b : List ℕ) (x : ℕ) → among (a ++ b) x ≡ among a x || among b x
@@ -168,9 +142,9 @@ waiters-none t (suc n) l e =
 pub waiters-without : (t n : ℕ) (l : List Phase) (p : ℕ)
     → ((u : ℕ) → t ≤ u → u < t + n → waitsWith u (phaseIn l p) ≡ false)
     → among (waitersFrom t n l) p ≡ false
-unfolding waitersFrom
+unfolding waitersFrom isOneOf
 waiters-without t zero l p e = refl
 waiters-without t (suc n) l p e =
     among-append (partiesFrom 0 (waitsWith t) l) (waitersFrom (suc t) n l) p
-    ∙ ap₂ _||_ (parties-without 0 (waitsWith t) l p p (omega arith) (e t (omega arith) (omega arith)))
+    ∙ ap₂ _||_ (parties-among (waitsWith t) l refl p ∙ e t (omega arith) (omega arith))
     (waiters-without (suc t) n l p (λ u a b. e u (omega arith) (omega arith)))

@@ -1,24 +1,16 @@
 -- What the screen has to know of a hub at rest.
-use Prim.Native.Nat.{ℕ, zero, suc, _+_, _≤_, _<_}
+use Prim.Native.Nat.{ℕ, _≤_, _<_}
 use mathlib.Core.Path.{_≡_, refl, sym, ap, _∙_}
 use mathlib.Core.Bool.{Bool, true, false, not, _&&_}
 use mathlib.Core.List.{List}
-use mathlib.Core.Logic.{_⊎_, inl, inr}
-use native.Mathlib.Omega.{arith}
-use borrow.Author.Tests.{lt-ltb, le-ltb}
-use lib.Dec.{ltb}
-use lib.IntN.{ℤ, pos, negsuc}
 use Rattle.hub.specs.declared.record.Hub.{Hub}
 use Rattle.hub.specs.declared.record.Phase.{Phase}
 use Rattle.hub.specs.declared.record.Place.{Place}
-use Rattle.hub.specs.Basics.{bit, count}
-use Rattle.hub.specs.Ledger.{phaseIn, atCounter, belowBy}
-use Rattle.hub.specs.Phases.{atRest, byWaiter, holds, isCancelled, isFree, isHolding, isOneOf, isPlaceOf, isWaiting}
-use Rattle.hub.specs.Record.{phasesOf, readSlot}
-use Rattle.hub.specs.Ring.{PLACES, readPlace}
-use Rattle.hub.specs.Table.{aboveZero, belowZero, canCancel}
-use Rattle.hub.proofs.Laws.Bools.{both}
-use Rattle.hub.proofs.Laws.Lists.{weight-one}
+use Rattle.hub.specs.Ledger.{phaseIn}
+use Rattle.hub.specs.Phases.{atRest, byWaiter, holds, isFree, isHolding, isOneOf, isWaiting}
+use Rattle.hub.specs.Record.{phasesOf}
+use Rattle.hub.specs.Ring.{readPlace}
+use Rattle.hub.specs.Table.{belowZero, canCancel}
 use Rattle.hub.proofs.Laws.Phases.{one-of}
 use Rattle.hub.proofs.Laws.Slots.{read-phase}
 use Rattle.operations.proofs.Rest.{AtRest}

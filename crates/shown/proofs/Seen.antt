@@ -11,8 +11,7 @@ use Rattle.hub.specs.declared.record.Hub.{Hub}
 use Rattle.hub.specs.declared.record.Phase.{Phase}
 use Rattle.hub.specs.Basics.{among, count}
 use Rattle.hub.specs.Ledger.{phaseIn}
-use Rattle.hub.specs.Phases.{byWaiter, isFree, isHolding, isOneOf, isWaiting}
-use Rattle.hub.specs.Ring.{readPlace}
+use Rattle.hub.specs.Phases.{isFree, isHolding, isOneOf, isWaiting}
 use Rattle.hub.specs.Table.{aboveZero, belowZero}
 use Rattle.operations.proofs.Rest.{AtRest}
 use Rattle.operations.proofs.Waits.{permit-left}
@@ -59,7 +58,7 @@ module _ (h : Hub) (l : Line) (r : AtRest h) (s : Seen h l) where
       held-same : held l ≡ count isHolding (phases h)
       held-same =
           ap (λ (b : List Bool). length (holdersFrom 0 b)) (s .holding)
-          ∙ ap length (sym (parties-bits 0 isHolding (phases h))) ∙ parties-count 0 isHolding (phases h)
+          ∙ ap length (sym (parties-bits 0 isHolding (phases h))) ∙ parties-count isHolding (phases h)
 
   -- The first that waits is the one that a hand-over would meet.
   pub line-first : belowZero (h .figures .counter) ≡ true
