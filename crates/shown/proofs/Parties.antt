@@ -40,7 +40,7 @@ parties-alike p f g (x ∷ l) e =
 pub parties-count : (f : Phase → Bool) (l : List Phase) → length (partiesFrom 0 f l) ≡ count f l
 parties-count f l = ap length (parties-bits 0 f l) ∙ held-weight (map f l) 0 ∙ weight-map bit f l
 
-pub parties-among : (f : Phase → Bool) (l : List Phase) → f Phase.Free ≡ false → (p : ℕ)
+parties-among : (f : Phase → Bool) (l : List Phase) → f Phase.Free ≡ false → (p : ℕ)
     → among (partiesFrom 0 f l) p ≡ f (phaseIn l p)
 parties-among f l z p =
     ap (λ (r : List ℕ). among r p) (parties-bits 0 f l) ∙ holds-there (map f l) p
@@ -79,7 +79,7 @@ parties-one p f (x ∷ l) (suc i) q d z e o =
     ∙ parties-one (suc p) f l i q (omega arith) z e (λ j n. o (suc j) (λ i. n (omega arith)))
 
 -- Somebody is in the first of two lists or in the second.
-pub among-append : (a b : List ℕ) (x : ℕ) → among (a ++ b) x ≡ among a x || among b x
+among-append : (a b : List ℕ) (x : ℕ) → among (a ++ b) x ≡ among a x || among b x
 among-append [] b x = refl
 among-append (y ∷ a) b x = go (eqb x y) (among-append a b x)
   where

@@ -33,7 +33,7 @@ use Rattle.screen.specs.Moves.{callOf, isOpened, lineOpening, moved}
 use Rattle.screen.specs.Reached.{FitsIfReached, Request, lineAfter}
 use Rattle.screen.specs.Steps.{stepsToRest, wokenBy}
 use Rattle.shown.specs.Parties.{holdersOf, waitersFrom, waitersOf}
-use Rattle.shown.specs.Shows.{Alike, NoSixOrSeven, ScreenShows, asked, hubAfter, hubTold}
+use Rattle.shown.specs.Shows.{Alike, NoSixOrSeven, ScreenShows, callFor, hubAfter, hubTold}
 use Rattle.shown.specs.Shows.{isSixOrSeven, lineTold}
 use Rattle.shown.proofs.Parties.{parties-alike, parties-bits}
 use Rattle.shown.proofs.Rest.{calm, holds-at-rest, phases}
@@ -114,7 +114,7 @@ module _ (fitting : FitsIfReached) (o : Opening) (e : opening o .answer ≡ Answ
   -- One operation more.
   module _ (h : Hub) (l : Line) (x : Pair h l) (r : Request) where
     abbrev after : Operated
-    after = operated h (asked r)
+    after = operated h (callFor r)
 
     abbrev shown : Moved
     shown = moved l (r .operation) (r .party)
@@ -128,9 +128,9 @@ module _ (fitting : FitsIfReached) (o : Opening) (e : opening o .answer ≡ Answ
     same-move : isSixOrSeven (after .answer) ≡ false → Same after l (r .operation) shown
     unfolding lineFits ComesTo
     same-move n =
-        let eq : after ≡ operatedAtRest h (asked r) =
+        let eq : after ≡ operatedAtRest h (callFor r) =
         known (λ g. (c : Call) → isOperation (c .op) ≡ true → operated g c ≡ operatedAtRest g c) comes-to h l x
-        (asked r) (is-operation (r .operation) (r .party)) in
+        (callFor r) (is-operation (r .operation) (r .party)) in
         subst (λ (y : Operated). Same y l (r .operation) shown) (sym eq)
         (operation-same h l (known AtRest at-rest h l x) (x .seen) (r .party) (r .operation)
         (fits-line l (x .requests) (x .led))
@@ -141,15 +141,15 @@ module _ (fitting : FitsIfReached) (o : Opening) (e : opening o .answer ≡ Answ
     unfolding operated EndsAtRest
     pair-on n =
         record {
-          calls = x .calls ++ asked r ∷ stepsAfter h (asked r);
+          calls = x .calls ++ callFor r ∷ stepsAfter h (callFor r);
           ran =
-              sym (run-more first (x .calls) (asked r ∷ stepsAfter h (asked r)))
-              ∙ ap (λ (g : Hub). run g (asked r ∷ stepsAfter h (asked r))) (x .ran);
+              sym (run-more first (x .calls) (callFor r ∷ stepsAfter h (callFor r)))
+              ∙ ap (λ (g : Hub). run g (callFor r ∷ stepsAfter h (callFor r))) (x .ran);
           requests = x .requests ++ r ∷ [];
           led = led-on;
           calm =
               known (λ g. (c : Call) → isOperation (c .op) ≡ true → (p : ℕ) → rests (operated g c .hub) p ≡ true)
-              ends-at-rest h l x (asked r) (is-operation (r .operation) (r .party));
+              ends-at-rest h l x (callFor r) (is-operation (r .operation) (r .party));
           seen = same-move n .seen;
         }
 

@@ -2,7 +2,7 @@
 -- phases.
 use Prim.Native.Nat.{ℕ, suc, _+_, _-_, _≤_, _<_}
 use mathlib.Core.Path.{_≡_, refl, sym, ap, ap₂, _∙_}
-use mathlib.Core.Bool.{Bool, true, false, _&&_, _||_}
+use mathlib.Core.Bool.{Bool, true, false, _&&_}
 use mathlib.Core.List.{List, [], _∷_, _++_}
 use mathlib.Core.Logic.{_≢_}
 use native.Mathlib.Decide.{ℕ-discrete, decLe}
@@ -18,35 +18,32 @@ use Rattle.hub.specs.Phases.{isOneOf, isWaiting, ticketOf}
 use Rattle.hub.proofs.Laws.Bools.{first, second}
 use Rattle.hub.proofs.Laws.Phases.{one-of}
 use Rattle.screen.specs.Moves.{without}
+use Rattle.screen.proofs.Laws.Lists.{among-back, among-here}
 use Rattle.shown.specs.Parties.{partiesFrom, waitsWith, waitersFrom}
-use Rattle.shown.proofs.Parties.{parties-set, parties-none, parties-one, among-append}
+use Rattle.shown.proofs.Parties.{parties-set, parties-none, parties-one}
 use Rattle.shown.proofs.Parties.{without-behind, waiters-split, waiters-same, waiters-none}
 use Rattle.shown.proofs.Parties.{waiters-without}
 
 -- A phase waits with t exactly if it is waiting t.
-pub waits-is : (t : ℕ) (f : Phase) → waitsWith t f ≡ true → f ≡ Phase.Waiting t
+waits-is : (t : ℕ) (f : Phase) → waitsWith t f ≡ true → f ≡ Phase.Waiting t
 waits-is t f e =
     one-of (Phase.Waiting 0) f (first (isWaiting f) _ e)
     ∙ ap Phase.Waiting (eqb-true (ticketOf f) t (second (isWaiting f) _ e))
 
-pub waits-not : (t : ℕ) (f : Phase) → (f ≡ Phase.Waiting t → ⊥) → waitsWith t f ≡ false
+waits-not : (t : ℕ) (f : Phase) → (f ≡ Phase.Waiting t → ⊥) → waitsWith t f ≡ false
 waits-not t f n = go (waitsWith t f) refl
   where
     go : (b : Bool) → waitsWith t f ≡ b → waitsWith t f ≡ false
     go true e = absurd (n (waits-is t f e))
     go false e = e
 
-pub waits-self : (t : ℕ) (f : Phase) → f ≡ Phase.Waiting t → waitsWith t f ≡ true
+waits-self : (t : ℕ) (f : Phase) → f ≡ Phase.Waiting t → waitsWith t f ≡ true
 unfolding isOneOf
 waits-self t f e = ap (waitsWith t) e ∙ eq-eqb t t refl
 
 -- A phase that does not wait, waits with no number.
-pub waits-never : (t : ℕ) (f : Phase) → isWaiting f ≡ false → waitsWith t f ≡ false
+waits-never : (t : ℕ) (f : Phase) → isWaiting f ≡ false → waitsWith t f ≡ false
 waits-never t f e = ap (λ (b : Bool). b && eqb (ticketOf f) t) e
-
-or-true : (c : Bool) → c || true ≡ true
-or-true true = refl
-or-true false = refl
 
 -- Each number is one party's; every number that is waited with is from r on and below n.
 abbrev pub Apart : List Phase → Type 0
@@ -83,7 +80,7 @@ module _ (l : List Phase) where
         (λ q d. waits-not t (phaseIn l q) (λ z. d (apart q p t z e)))
 
     -- those before it, itself, and those behind it
-    pub stands-in : (n : ℕ) → t < n
+    stands-in : (n : ℕ) → t < n
         → waitersFrom 0 n l ≡ waitersFrom 0 t l ++ p ∷ waitersFrom (suc t) (n - suc t) l
     unfolding waitersFrom
     stands-in n i =
@@ -136,13 +133,11 @@ module _ (l : List Phase) where
           same u z = cc
 
     -- it is among those that wait
-    pub is-among : (n : ℕ) → t < n → among (waitersFrom 0 n l) p ≡ true
+    is-among : (n : ℕ) → t < n → among (waitersFrom 0 n l) p ≡ true
     is-among n i =
         ap (λ (r : List ℕ). among r p) (stands-in n i)
-        ∙ among-append (waitersFrom 0 t l) (p ∷ waitersFrom (suc t) (n - suc t) l) p
-        ∙ ap (λ (b : Bool). among (waitersFrom 0 t l) p || (b || among (waitersFrom (suc t) (n - suc t) l) p))
-        (eq-eqb p p refl)
-        ∙ or-true (among (waitersFrom 0 t l) p)
+        ∙ among-back (waitersFrom 0 t l) (p ∷ waitersFrom (suc t) (n - suc t) l) p
+        (among-here (waitersFrom (suc t) (n - suc t) l) p p refl)
 
     -- and the first of them, if nobody waits with a lower number
     pub is-first : (n : ℕ) → Between t n l → waitersFrom 0 n l ≡ p ∷ waitersFrom (suc t) (n - suc t) l

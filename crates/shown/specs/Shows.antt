@@ -26,19 +26,19 @@ pub record Told : Type 0 where
   pub steps : ℕ
 
 -- The hub's call by which a clerk's request begins there.
-abbrev pub asked : Request → Call
-asked r = callOf (r .operation) (r .party)
+abbrev pub callFor : Request → Call
+callFor r = callOf (r .operation) (r .party)
 
 -- At the hub, each operation run to rest on the record that the one before it left: the last record, and what
 -- each of them came to.
 unfoldable pub hubAfter : Hub → List Request → Hub
 hubAfter h [] = h
-hubAfter h (r ∷ rs) = hubAfter (operated h (asked r) .hub) rs
+hubAfter h (r ∷ rs) = hubAfter (operated h (callFor r) .hub) rs
 
 unfoldable pub hubTold : Hub → List Request → List Told
 hubTold h [] = []
 hubTold h (r ∷ rs) =
-    let x = operated h (asked r) in
+    let x = operated h (callFor r) in
     record { answer = x .answer; woken = x .woken; steps = x .steps } ∷ hubTold (x .hub) rs
 
 -- What the screen tells of each, from its line alone; `lineAfter` is the line that they leave.
