@@ -8,7 +8,7 @@ use native.Mathlib.Omega.{arith}
 use borrow.Author.Tests.{ltb-true}
 use lib.Dec.{eqb, leb, ltb}
 use lib.ListN.{length, drop, set, length-map}
-use lib.Seq.{getD-set-other, map-set-same, set-comm, take-append-seam, take-take}
+use lib.Seq.{getD-set-other, map-set-same, set-comm}
 use Rattle.hub.specs.declared.answers.Answer.{Answer}
 use Rattle.hub.specs.declared.answers.Refusal.{Refusal}
 use Rattle.hub.specs.declared.record.Hub.{Hub}
@@ -19,7 +19,6 @@ use Rattle.hub.specs.Kinds.{kindOf}
 use Rattle.hub.specs.Ledger.{phaseIn}
 use Rattle.hub.specs.Look.{look, seenBy}
 use Rattle.hub.specs.Phases.{isFree, isHolding, isOneOf, isWaiting, ticketOf}
-use Rattle.hub.specs.Radios.{STORE, padded}
 use Rattle.hub.specs.Record.{MAX-BEGUN, PARTIES, readSlot, writeSlot}
 use Rattle.hub.specs.Schedule.{run}
 use Rattle.hub.specs.Table.{belowZero, canCancel, decide, givenUp}
@@ -33,12 +32,13 @@ use Rattle.operations.proofs.Rest.{AtRest}
 use Rattle.screen.specs.declared.record.Line.{Line}
 use Rattle.screen.specs.declared.record.Moved.{Moved}
 use Rattle.screen.specs.declared.record.Operation.{Operation}
-use Rattle.screen.specs.Fits.{lineFits}
 use Rattle.screen.specs.Line.{waiters, withHolding, withWaiters}
 use Rattle.screen.specs.Moves.{acquire, callOf, cancel, hasPermit, hasWaiter, isAccepted, moved, nextWaiter}
 use Rattle.screen.specs.Moves.{ownMove, refused, release, without}
 use Rattle.screen.specs.Moves as screen
 use Rattle.screen.specs.Steps.{TO-HAND-OVER, TO-WAIT, ownSteps, ownWoken, toCounter}
+use Rattle.screen.proofs.Laws.Fit.{fits as fits-line}
+use Rattle.screen.proofs.Reached.Sound.{Sound, waiters-of}
 use Rattle.shown.specs.Parties.{waitersFrom, waitersOf}
 use Rattle.shown.specs.Shows.{isSixOrSeven}
 use Rattle.shown.proofs.Parties.{without-behind}
@@ -54,41 +54,31 @@ pub record Same (x : Operated) (l : Line) (o : Operation) (y : Moved) : Type 0 w
   pub steps : x .steps ≡ cond (isAccepted (y .answer)) (ownSteps l o) 0
   pub seen : Seen (x .hub) (y .line)
 
--- Those that were written into a queue wait there.
-pub waiters-with : (ws : List ℕ) (l : Line) → length ws ≤ PARTIES → waiters (withWaiters ws l) ≡ ws
-unfolding waiters padded
-waiters-with ws l i = take-take (length ws) STORE _ i ∙ take-append-seam ws _
-
 -- A record whose phases are ls, and a line with others that hold; with others that wait.
 module _ (h : Hub) (l : Line) (k : l .permits ≡ h .opening .permits) (n : l .parties ≡ h .opening .parties)
     (named : l .named ≡ h .opening .named) (ls : List Phase) (e : phases h ≡ ls) where
   other-holders : (hs : List Bool) → hs ≡ map isHolding ls
-      → waiters l ≡ waitersFrom 0 (h .figures .issued) ls → l .waiting ≡ length (waiters l)
-      → Seen h (withHolding hs l)
+      → waiters l ≡ waitersFrom 0 (h .figures .issued) ls → Seen h (withHolding hs l)
   unfolding waiters waitersOf
-  other-holders hs f w i =
-      let v : waiters l ≡ waitersOf h = w ∙ ap (waitersFrom 0 (h .figures .issued)) (sym e) in
+  other-holders hs f w =
       record {
         permits = k;
         parties = n;
         named = named;
         holding = f ∙ ap (map isHolding) (sym e);
-        waiters = v;
-        waiting = i ∙ ap length v;
+        waiters = w ∙ ap (waitersFrom 0 (h .figures .issued)) (sym e);
       }
 
   other-waiters : (ws : List ℕ) → length ws ≤ PARTIES → l .holding ≡ map isHolding ls
       → ws ≡ waitersFrom 0 (h .figures .issued) ls → Seen h (withWaiters ws l)
   unfolding waitersOf
   other-waiters ws i f w =
-      let v : ws ≡ waitersOf h = w ∙ ap (waitersFrom 0 (h .figures .issued)) (sym e) in
       record {
         permits = k;
         parties = n;
         named = named;
         holding = f ∙ ap (map isHolding) (sym e);
-        waiters = waiters-with ws l i ∙ v;
-        waiting = ap length v;
+        waiters = waiters-of l (l .holding) ws i ∙ w ∙ ap (waitersFrom 0 (h .figures .issued)) (sym e);
       }
 
 -- A refusal.
@@ -114,13 +104,9 @@ unfolding isOneOf
 not-holding f (inl e) = ap isHolding (one-of Phase.Free f e)
 not-holding f (inr e) = ap isHolding (one-of (Phase.Waiting 0) f e)
 
-module _ (h : Hub) (l : Line) (r : AtRest h) (s : Seen h l) (p : ℕ) where
+module _ (h : Hub) (l : Line) (r : AtRest h) (g : Sound l) (s : Seen h l) (p : ℕ) where
   abbrev now : Phase
   now = phaseIn (phases h) p
-
-  -- how many wait is how many are in the queue
-  counts : l .waiting ≡ length (waiters l)
-  counts = s .waiting ∙ ap length (sym (s .waiters))
 
   -- Only one party's holding changes.
   holding-set : (x : Phase) → set (l .holding) p (isHolding x) ≡ map isHolding (set (phases h) p x)
@@ -150,7 +136,7 @@ module _ (h : Hub) (l : Line) (r : AtRest h) (s : Seen h l) (p : ℕ) where
         seen =
             other-holders _ l (s .permits) (s .parties) (s .named) (set (phases h) p Phase.Holding)
             (write-phase (h .slots) p _) (set (l .holding) p true) (holding-set Phase.Holding)
-            (waiting-kept Phase.Holding refl (not-waiting now (inl f))) counts;
+            (waiting-kept Phase.Holding refl (not-waiting now (inl f)));
       }
   acquire-same i f false e j =
       record {
@@ -204,12 +190,12 @@ module _ (h : Hub) (l : Line) (r : AtRest h) (s : Seen h l) (p : ℕ) where
         seen =
             other-holders _ l (s .permits) (s .parties) (s .named) (set (phases h) p Phase.Free)
             (write-phase (h .slots) p _) (set (l .holding) p false) (holding-set Phase.Free)
-            (waiting-kept Phase.Free refl (not-waiting now (inr f))) counts;
+            (waiting-kept Phase.Free refl (not-waiting now (inr f)));
       }
   release-same f true z e j =
       record {
         answer = refl;
-        woken = sym (next-same h l r s z) ∙ ap (λ (c : Bool). cond c (nextWaiter l) 0xFF) (sym e);
+        woken = sym (next-same h l r g s z) ∙ ap (λ (c : Bool). cond c (nextWaiter l) 0xFF) (sym e);
         steps = ap (λ (c : Bool). cond c TO-HAND-OVER (toCounter (l .named))) (sym e);
         seen =
             other-waiters _ (withHolding (set (set (l .holding) p false) (nextWaiter l) true) l)
@@ -217,17 +203,17 @@ module _ (h : Hub) (l : Line) (r : AtRest h) (s : Seen h l) (p : ℕ) where
             (write-phase (writeSlot (h .slots) q _) p _
             ∙ ap (λ (x : List Phase). set x p Phase.Free) (write-phase (h .slots) q _))
             (drop 1 (waiters l)) j
-            (ap₂ (λ (b : List Bool) (n : ℕ). set (set b p false) n true) (s .holding) (next-same h l r s z)
+            (ap₂ (λ (b : List Bool) (n : ℕ). set (set b p false) n true) (s .holding) (next-same h l r g s z)
             ∙ ap (λ (b : List Bool). set b q true) (sym (map-set isHolding (phases h) p Phase.Free))
             ∙ sym (map-set isHolding (set (phases h) p Phase.Free) q Phase.Holding)
             ∙ ap (map isHolding) (set-comm (phases h) p q Phase.Free Phase.Holding differs))
-            (ap (drop 1) (s .waiters ∙ line-first h l r s z)
+            (ap (drop 1) (s .waiters ∙ line-first h l r g s z)
             ∙ sym (stays (set (phases h) q Phase.Holding) p Phase.Free refl
             (ap isWaiting (getD-set-other (phases h) q p Phase.Holding Phase.Free differs)
             ∙ not-waiting now (inr f)) 0 (h .figures .issued)
             ∙ leaves (phases h) (apart h r) q (h .figures .resumed) first Phase.Holding refl
             (h .figures .issued) (between h r q (h .figures .resumed) first .1)
-            ∙ ap (without q) (line-first h l r s z) ∙ without-behind [] q _ refl));
+            ∙ ap (without q) (line-first h l r g s z) ∙ without-behind [] q _ refl));
       }
     where
       q : ℕ
@@ -257,7 +243,7 @@ module _ (h : Hub) (l : Line) (r : AtRest h) (s : Seen h l) (p : ℕ) where
   acquire-by i true f false true n j = absurd (let z : _≡_ {A = ℕ} 0 1 = cc in omega arith)
   acquire-by i true f false false n j =
       subst (λ (b : Bool). Same (acquired b h p) l Operation.Acquire (acquire true (hasPermit l) l p))
-      (permit-same h l r s) (acquire-same i f (hasPermit l) refl j)
+      (permit-same h l r g s) (acquire-same i f (hasPermit l) refl j)
 
   cancel-by : (b : Bool) → isWaiting now ≡ b → (k : Bool) (x : Phase)
       → Follows (byMove (table.cancel b k x (look h p)) h (callOf Operation.Cancel p)) Operation.Cancel
@@ -274,7 +260,7 @@ module _ (h : Hub) (l : Line) (r : AtRest h) (s : Seen h l) (p : ℕ) where
   release-by false f n j = refused-same h l Operation.Release Refusal.NotHolding s refl
   release-by true f n j =
       subst (λ (b : Bool). Same (released b h p) l Operation.Release (release true (hasWaiter l) l p))
-      (waiter-same h l r s) (release-same f (hasWaiter l) (sym (waiter-same h l r s)) refl j)
+      (waiter-same h l r g s) (release-same f (hasWaiter l) (sym (waiter-same h l r g s)) refl j)
 
   -- What is decided where there is such a party.
   own-same : p < PARTIES → (o : Operation) (full : Bool)
@@ -286,8 +272,8 @@ module _ (h : Hub) (l : Line) (r : AtRest h) (s : Seen h l) (p : ℕ) where
       (λ (b : Bool).
       Follows (byMove (table.acquire b e full (look h p)) h (callOf Operation.Acquire p)) Operation.Acquire
       (ownMove l Operation.Acquire p))
-      (free-same h l r s p ∙ ap isFree (sym (read-phase (h .slots) p)))
-      (acquire-by i _ (sym (free-same h l r s p)) e full)
+      (free-same h l r g s p ∙ ap isFree (sym (read-phase (h .slots) p)))
+      (acquire-by i _ (sym (free-same h l r g s p)) e full)
   own-same i Operation.Cancel full =
       let k = eqb (kindOf p) 3 in
       let x = givenUp (readSlot (h .slots) p .phase) in
@@ -295,16 +281,16 @@ module _ (h : Hub) (l : Line) (r : AtRest h) (s : Seen h l) (p : ℕ) where
       (λ (b : Bool).
       Follows (byMove (table.cancel b k x (look h p)) h (callOf Operation.Cancel p)) Operation.Cancel
       (ownMove l Operation.Cancel p))
-      (waits-same h l r s p ∙ sym (cancel-at-rest now (calm h r p))
+      (waits-same h l r g s p ∙ sym (cancel-at-rest now (calm h r p))
       ∙ ap canCancel (sym (read-phase (h .slots) p)))
-      (cancel-by _ (sym (waits-same h l r s p)) k x)
+      (cancel-by _ (sym (waits-same h l r g s p)) k x)
   own-same i Operation.Release full =
       subst
       (λ (b : Bool).
       Follows (byMove (table.release b (look h p)) h (callOf Operation.Release p)) Operation.Release
       (ownMove l Operation.Release p))
-      (holds-same h l r s p ∙ ap isHolding (sym (read-phase (h .slots) p)))
-      (release-by _ (sym (holds-same h l r s p)))
+      (holds-same h l r g s p ∙ ap isHolding (sym (read-phase (h .slots) p)))
+      (release-by _ (sym (holds-same h l r g s p)))
 
   -- What the hub decides, once it fits and has the party or has not.
   abbrev hubBy : Bool → Bool → Operation → Operated
@@ -322,20 +308,21 @@ module _ (h : Hub) (l : Line) (r : AtRest h) (s : Seen h l) (p : ℕ) where
       own-same (omega (arith, ltb-true p (h .opening .parties) e, r .few)) o
       (isFull (h .oldest) (h .figures .issued) (h .slots))
 
-  fitting-same : (o : Operation) → lineFits l ≡ true
+  fitting-same : (o : Operation)
       → Follows (hubBy (fits h) (ltb p (h .opening .parties)) o) o (moved l o p)
   unfolding moved run
-  fitting-same o f =
+  fitting-same o =
       let fit : fits h ≡ true = r .fit [] in
       let there = ltb p (h .opening .parties) in
       let own = ownMove l o p in
       subst (λ (b : Bool). Follows (hubBy b there o) o (moved l o p)) (sym fit)
-      (subst (λ (b : Bool). Follows (hubBy true there o) o (screen.checked b (ltb p (l .parties)) l own)) (sym f)
+      (subst (λ (b : Bool). Follows (hubBy true there o) o (screen.checked b (ltb p (l .parties)) l own))
+      (sym (fits-line l (g .fit)))
       (subst (λ (n : ℕ). Follows (hubBy true there o) o (screen.checked true (ltb p n) l own)) (sym (s .parties))
       (checked-same o there refl)))
 
-  -- Every operation, on a line that fits.
-  pub operation-same : (o : Operation) → lineFits l ≡ true → Follows (operatedAtRest h (callOf o p)) o (moved l o p)
+  -- Every operation.
+  pub operation-same : (o : Operation) → Follows (operatedAtRest h (callOf o p)) o (moved l o p)
   unfolding operatedAtRest
   operation-same Operation.Acquire = fitting-same Operation.Acquire
   operation-same Operation.Cancel = fitting-same Operation.Cancel

@@ -19,6 +19,7 @@ use Rattle.screen.specs.declared.record.Line.{Line}
 use Rattle.screen.specs.Fits.{held}
 use Rattle.screen.specs.Line.{holders, holdersFrom, holdsIn, waiters, waitsIn}
 use Rattle.screen.specs.Moves.{hasPermit, hasWaiter, nextWaiter}
+use Rattle.screen.proofs.Reached.Sound.{Sound, waiting-is}
 use Rattle.shown.specs.Parties.{waitersFrom, waitersOf}
 use Rattle.shown.proofs.Parties.{parties-bits, parties-count}
 use Rattle.shown.proofs.Waiters.{among-waiters, is-first, nobody-waits}
@@ -31,9 +32,8 @@ pub record Seen (h : Hub) (l : Line) : Type 0 where
   pub named : l .named ≡ h .opening .named
   pub holding : l .holding ≡ map isHolding (phases h)
   pub waiters : waiters l ≡ waitersOf h
-  pub waiting : l .waiting ≡ length (waitersOf h)
 
-module _ (h : Hub) (l : Line) (r : AtRest h) (s : Seen h l) where
+module _ (h : Hub) (l : Line) (r : AtRest h) (g : Sound l) (s : Seen h l) where
   pub holds-same : (p : ℕ) → holdsIn l p ≡ isHolding (phaseIn (phases h) p)
   unfolding holdsIn isOneOf
   holds-same p =
@@ -74,7 +74,7 @@ module _ (h : Hub) (l : Line) (r : AtRest h) (s : Seen h l) where
 
   pub waiter-same : hasWaiter l ≡ belowZero (h .figures .counter)
   unfolding hasWaiter waitersOf
-  waiter-same = ap (leb 1) (s .waiting) ∙ go (belowZero (h .figures .counter)) refl
+  waiter-same = ap (leb 1) (sym (waiting-is l g) ∙ ap length (s .waiters)) ∙ go (belowZero (h .figures .counter)) refl
     where
       go : (b : Bool) → belowZero (h .figures .counter) ≡ b → leb 1 (length (waitersOf h)) ≡ b
       go true e = le-leb 1 (length (waitersOf h)) (omega (arith, ap length (line-first e)))

@@ -3,7 +3,7 @@ use Prim.Native.Nat.{ℕ, zero, suc, _≤_}
 use mathlib.Core.Path.{_≡_, refl, sym, ap, ap₂, subst, _∙_}
 use mathlib.Core.Bool.{true, false}
 use mathlib.Core.List.{List, [], _∷_, _++_}
-use borrow.Author.Tests.{le-leb, leb-true}
+use borrow.Author.Tests.{le-leb}
 use lib.ListN.{getD, replicate}
 use Rattle.hub.specs.declared.answers.Answer.{Answer}
 use Rattle.hub.specs.declared.moves.Call.{Call}
@@ -17,7 +17,7 @@ use Rattle.hub.specs.Phases.{atRest, holds, isHolding, isOneOf}
 use Rattle.hub.specs.Record.{PARTIES, freeSlot, readSlot}
 use Rattle.hub.specs.Schedule.{run}
 use Rattle.hub.proofs.Demand3.{start}
-use Rattle.hub.proofs.Laws.Bools.{both, clause, if-true}
+use Rattle.hub.proofs.Laws.Bools.{both, if-true}
 use Rattle.operations.specs.declared.Operated.{Operated}
 use Rattle.operations.specs.AtRest.{ComesTo, EndsAtRest, OnRest, isOperation, operatedAtRest}
 use Rattle.operations.specs.Operation.{operated, stepsAfter}
@@ -27,11 +27,12 @@ use Rattle.operations.proofs.Rest.{AtRest}
 use Rattle.screen.specs.declared.record.Line.{Line}
 use Rattle.screen.specs.declared.record.Moved.{Moved}
 use Rattle.screen.specs.declared.record.Operation.{Operation}
-use Rattle.screen.specs.Fits.{lineClauses, lineFits}
 use Rattle.screen.specs.Line.{holders, holdersFrom, openedLine, waiters}
 use Rattle.screen.specs.Moves.{callOf, isOpened, lineOpening, moved}
-use Rattle.screen.specs.Reached.{FitsIfReached, Request, lineAfter}
+use Rattle.screen.specs.Reached.{Request, lineAfter}
 use Rattle.screen.specs.Steps.{stepsToRest, wokenBy}
+use Rattle.screen.proofs.Reached.Moved.{moved-sound, reached-sound}
+use Rattle.screen.proofs.Reached.Sound.{Sound}
 use Rattle.shown.specs.Parties.{holdersOf, waitersFrom, waitersOf}
 use Rattle.shown.specs.Shows.{Alike, NoSixOrSeven, ScreenShows, callFor, hubAfter, hubTold}
 use Rattle.shown.specs.Shows.{isSixOrSeven, lineTold}
@@ -51,7 +52,7 @@ same-holders h l r s =
 fresh-seen : (o : Opening) → Seen (fresh o) (openedLine (o .permits) (o .parties) (o .named))
 unfolding fresh openedLine isOneOf waitersOf waitersFrom waiters
 fresh-seen o =
-    record { permits = refl; parties = refl; named = refl; holding = refl; waiters = refl; waiting = refl }
+    record { permits = refl; parties = refl; named = refl; holding = refl; waiters = refl }
 
 fresh-calm : (o : Opening) (p : ℕ) → rests (fresh o) p ≡ true
 unfolding fresh readSlot isOneOf
@@ -62,18 +63,12 @@ fresh-calm o p = ap (λ (s : PartySlot). atRest (s .phase)) (free PARTIES p)
     free (suc n) zero = refl
     free (suc n) (suc i) = free n i
 
--- A clerk's requests after others.
-line-more : (l : Line) (rs ss : List Request) → lineAfter (lineAfter l rs) ss ≡ lineAfter l (rs ++ ss)
-unfolding lineAfter
-line-more l [] ss = refl
-line-more l (r ∷ rs) ss = line-more (moved l (r .operation) (r .party) .line) rs ss
-
 is-operation : (o : Operation) (p : ℕ) → isOperation (callOf o p .op) ≡ true
 is-operation Operation.Acquire p = refl
 is-operation Operation.Cancel p = refl
 is-operation Operation.Release p = refl
 
-module _ (fitting : FitsIfReached) (o : Opening) (e : opening o .answer ≡ Answer.Opened) where
+module _ (o : Opening) (e : opening o .answer ≡ Answer.Opened) where
   abbrev first : Hub
   first = opening o .hub
 
@@ -84,32 +79,14 @@ module _ (fitting : FitsIfReached) (o : Opening) (e : opening o .answer ≡ Answ
   record Pair (h : Hub) (l : Line) : Type 0 where
     pub calls : List Call
     pub ran : run first calls ≡ h
-    pub requests : List Request
-    pub led : lineAfter firstLine requests ≡ l
+    pub sound : Sound l
     pub calm : (p : ℕ) → rests h p ≡ true
     pub seen : Seen h l
 
-  -- What is known of the record, and of the line.
+  -- What is known of the record.
   known : (C : Hub → Type 0) → OnRest C → (h : Hub) (l : Line) → Pair h l → C h
   known C f h l x =
       subst C (x .ran) (f o e (x .calls) (λ p. ap (λ (g : Hub). rests g p) (x .ran) ∙ x .calm p))
-
-  fits-line : (l : Line) (rs : List Request) → lineAfter firstLine rs ≡ l → lineFits l ≡ true
-  unfolding FitsIfReached
-  fits-line l rs z =
-      fitting .0 l
-      (record {
-        permits = o .permits;
-        parties = o .parties;
-        named = o .named;
-        requests = rs;
-        someLinks = in-32 (o .permits) (start o e .permits);
-        someParties = in-32 (o .parties) (start o e .parties);
-        leads = z;
-      })
-    where
-      in-32 : (n : ℕ) → (1 ≤ n) × (n ≤ 32) → upTo32 n ≡ true
-      in-32 n i = both _ _ (le-leb 1 n (i .0)) (le-leb n 32 (i .1))
 
   -- One operation more.
   module _ (h : Hub) (l : Line) (x : Pair h l) (r : Request) where
@@ -119,23 +96,18 @@ module _ (fitting : FitsIfReached) (o : Opening) (e : opening o .answer ≡ Answ
     abbrev shown : Moved
     shown = moved l (r .operation) (r .party)
 
-    led-on : lineAfter firstLine (x .requests ++ r ∷ []) ≡ shown .line
-    unfolding lineAfter
-    led-on =
-        sym (line-more firstLine (x .requests) (r ∷ []))
-        ∙ ap (λ (m : Line). lineAfter m (r ∷ [])) (x .led)
+    sound-on : Sound (shown .line)
+    sound-on = moved-sound l (r .operation) (r .party) (x .sound)
 
     same-move : isSixOrSeven (after .answer) ≡ false → Same after l (r .operation) shown
-    unfolding lineFits ComesTo
+    unfolding ComesTo
     same-move n =
         let eq : after ≡ operatedAtRest h (callFor r) =
         known (λ g. (c : Call) → isOperation (c .op) ≡ true → operated g c ≡ operatedAtRest g c) comes-to h l x
         (callFor r) (is-operation (r .operation) (r .party)) in
         subst (λ (y : Operated). Same y l (r .operation) shown) (sym eq)
-        (operation-same h l (known AtRest at-rest h l x) (x .seen) (r .party) (r .operation)
-        (fits-line l (x .requests) (x .led))
-        (ap (λ (y : Operated). isSixOrSeven (y .answer)) (sym eq) ∙ n)
-        (leb-true _ PARTIES (clause 2 (lineClauses (shown .line)) (fits-line _ _ led-on))))
+        (operation-same h l (known AtRest at-rest h l x) (x .sound) (x .seen) (r .party) (r .operation)
+        (ap (λ (y : Operated). isSixOrSeven (y .answer)) (sym eq) ∙ n) (sound-on .fit .short))
 
     pair-on : isSixOrSeven (after .answer) ≡ false → Pair (after .hub) (shown .line)
     unfolding operated EndsAtRest
@@ -145,8 +117,7 @@ module _ (fitting : FitsIfReached) (o : Opening) (e : opening o .answer ≡ Answ
           ran =
               sym (run-more first (x .calls) (callFor r ∷ stepsAfter h (callFor r)))
               ∙ ap (λ (g : Hub). run g (callFor r ∷ stepsAfter h (callFor r))) (x .ran);
-          requests = x .requests ++ r ∷ [];
-          led = led-on;
+          sound = sound-on;
           calm =
               known (λ g. (c : Call) → isOperation (c .op) ≡ true → (p : ℕ) → rests (operated g c .hub) p ≡ true)
               ends-at-rest h l x (callFor r) (is-operation (r .operation) (r .party));
@@ -168,11 +139,23 @@ module _ (fitting : FitsIfReached) (o : Opening) (e : opening o .answer ≡ Answ
       record {
         calls = [];
         ran = refl;
-        requests = [];
-        led = refl;
+        sound =
+            reached-sound firstLine
+            (record {
+              permits = o .permits;
+              parties = o .parties;
+              named = o .named;
+              requests = [];
+              someLinks = in-32 (o .permits) (start o e .permits);
+              someParties = in-32 (o .parties) (start o e .parties);
+              leads = refl;
+            });
         calm = subst (λ (h : Hub). (p : ℕ) → rests h p ≡ true) (sym (start o e .hub)) (fresh-calm o);
         seen = subst (λ (h : Hub). Seen h firstLine) (sym (start o e .hub)) (fresh-seen o);
       }
+    where
+      in-32 : (n : ℕ) → (1 ≤ n) × (n ≤ 32) → upTo32 n ≡ true
+      in-32 n i = both _ _ (le-leb 1 n (i .0)) (le-leb n 32 (i .1))
 
   same-line : lineOpening o .line ≡ firstLine
   unfolding lineOpening
@@ -189,8 +172,8 @@ module _ (fitting : FitsIfReached) (o : Opening) (e : opening o .answer ≡ Answ
         atRest = x .calm;
       }
 
-pub screen-shows : FitsIfReached → ScreenShows
+pub screen-shows : ScreenShows
 unfolding ScreenShows
-screen-shows fitting o e rs n =
-    subst (λ (l : Line). Alike (opening o .hub) l rs) (sym (same-line fitting o e))
-    (alike fitting o e rs n)
+screen-shows o e rs n =
+    subst (λ (l : Line). Alike (opening o .hub) l rs) (sym (same-line o e))
+    (alike o e rs n)
