@@ -5,3 +5,4 @@ pub mod Rest  -- a hub at rest
 pub mod Seen  -- a line that shows a record
 pub mod Moves  -- one operation
 pub mod Shows  -- lists of operations
+pub mod OneWay  -- no other steps
