@@ -137,12 +137,13 @@ fn main() {
             let r = &replies[piece.first + i];
             let loads = before.iter().filter(|a| !a.store && a.size == 1).map(|a| a.addr).collect();
             asked.push((loads, 2 * i as u64));
-            let stores: Vec<u64> = before.iter().filter(|a| a.store && a.size == 8).map(|a| a.addr).collect();
-            if 0x20 <= r.code {
-                slots.push((stores.clone(), 8 * r.party));
+            let stores = |size| before.iter().filter(|a| a.store && a.size == size).map(|a| a.addr).collect();
+            // 39 changes nothing
+            if 0x20 <= r.code && r.code < 0x39 {
+                slots.push((stores(8), 8 * r.party));
             }
             if r.code == 0x24 {
-                places.push((stores, 8 * (r.number % 256)));
+                places.push((stores(2), 2 * (r.number % 256)));
             }
             cut.push(before);
             from = last.at;
@@ -171,7 +172,7 @@ fn main() {
             if let Some(last) = last {
                 rows[2] += start - last;
             }
-            let record = |a: &&Access| a.store && (within(a, slots, 256) || within(a, places, 2048));
+            let record = |a: &&Access| a.store && (within(a, slots, 256) || within(a, places, 512));
             let stored: Vec<&Access> = before.iter().filter(|a| a.at > start).filter(record).collect();
             let mut from = before[before.len() - 1].at;
             if let (Some(a), Some(b)) = (stored.first(), stored.last()) {

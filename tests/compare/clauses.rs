@@ -133,8 +133,9 @@ impl Clause {
             Clause::WaiterNumber => each(&["one less", "one more"], OUTSIDE),
             Clause::WaiterParty => {
                 let mut cases = each(&["31", "n - 1"], INSIDE);
-                // the last three would be a waiting party's, cut to so many bytes
-                cases.extend(each(&["32", "n", "in one byte", "in two", "in three"], OUTSIDE));
+                // three would be a waiting party's, cut to so many bits; 255 is the most that a place holds
+                let outside = ["32", "n", "in five bits", "in six", "in seven", "255"];
+                cases.extend(each(&outside, OUTSIDE));
                 cases
             }
             Clause::Taking => by_phase(|phase| match phase {
@@ -377,7 +378,8 @@ impl Judgement {
         note(Clause::WaiterParty, 2, waiter == 32);
         note(Clause::WaiterParty, 3, waiter == n);
         if waiter >= 32 {
-            for (case, bits) in [(4, 8), (5, 16), (6, 24)] {
+            note(Clause::WaiterParty, 7, waiter == 255);
+            for (case, bits) in [(4, 5), (5, 6), (6, 7)] {
                 let low = waiter as usize % (1 << bits);
                 note(Clause::WaiterParty, case, low < PARTIES && here(low));
             }

@@ -757,10 +757,10 @@ fn waiter_numbers_alone(random: &mut Random, records: &mut Vec<Record>) {
     }
 }
 
-/// A waiting place whose party is right, or would be if a part of the number were lost.
+/// A waiting place whose party is right, or would be if a part of its byte were lost.
 fn waiter_parties_alone(random: &mut Random, records: &mut Vec<Record>) {
-    let any = [0, 32, 64, 224, 1 << 8, 1 << 16, 1 << 24, 1 << 31, 0xFFFF_FF00];
-    let some = [(Some(31), 0), (Some(0), 32)];
+    let any = [0, 32, 64, 128, 224];
+    let some = [(Some(31), 0), (Some(0), 32), (Some(31), 224)];
     for (party, more) in some.into_iter().chain(any.map(|more| (None, more))) {
         let mut record = roomy(random);
         if party == Some(31) {
@@ -1057,6 +1057,10 @@ fn odd_bytes(random: &mut Random) -> Case {
     if random.one_in(4) {
         let from = random.pick(&[0, 0, 22]);
         case.bytes[from..].iter_mut().for_each(|byte| *byte = random.byte());
+        // a place has a byte for its party
+        for cell in case.bytes[22..22 + 5 * PLACES].chunks_mut(5).filter(|cell| cell[0] % 6 == 1) {
+            cell[1..4].fill(0);
+        }
         return case;
     }
     let (record, call) = case.bytes.split_at_mut(RECORD);
@@ -1139,7 +1143,7 @@ pub fn sample() -> Vec<u8> {
     untidy.counter = -3;
     add(&untidy, [STEP, 1]);
     // the same, but for a waiter that is not 7
-    *untidy.place_mut(1003) = Place::waiting(7 + 256);
+    *untidy.place_mut(1003) = Place::waiting(7 + 128);
     add(&untidy, [STEP, 1]);
     // all places are empty and party 0 holds, and it gives back; radios that count for nothing
     let odd = bytes.len();

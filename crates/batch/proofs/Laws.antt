@@ -2,5 +2,4 @@
 pub mod Admission
 pub mod Reachable
 pub mod Answered
-pub mod Placed
 pub mod Responses

@@ -8,7 +8,6 @@ use admission::admit;
 use admission::op_of;
 use hub::kinds;
 use hub::moves::Sight;
-use hub::phases::has_ticket;
 use hub::record::Hub;
 use hub::record::Place;
 use hub::slots::empty_seat;
@@ -21,7 +20,6 @@ use line::pairs;
 use pool::moving::move_radio;
 use transition::effect::decide_by;
 use transition::room::full_for;
-use transition::sight::by_ticket;
 use transition::sight::seat_index;
 use transition::sight::slot_within;
 use transition::sight::waiter_at;
@@ -69,8 +67,7 @@ pub fn answer_requests(hub: Hub, requests: &[u8], count: usize, form: bool, out:
         let own = party as usize;
         let slot = slots[own];
         let t = seat_index(slot);
-        let there = places[t];
-        let seat = by_ticket(slot, there, empty_seat());
+        let seat = places[t];
         let q = waiter_at(seat);
         let near = slots[(q % 32) as usize];
         let waiter = slot_within(q, near);
@@ -99,11 +96,8 @@ pub fn answer_requests(hub: Hub, requests: &[u8], count: usize, form: bool, out:
         }
         let becomes = e.slot;
         slots[own] = becomes;
-        let phase = slot.phase;
-        if has_ticket(phase) {
-            let put = e.seat;
-            places[t] = put;
-        }
+        let put = e.seat;
+        places[t] = put;
         let answer = e.answer;
         put_reply(&pairs, &mut out[at..end], form, party, print_of(answer));
         if opening.named {

@@ -122,7 +122,7 @@ fn counting(counter: i32) -> Hub {
 }
 
 // A place where a party waits.
-fn waiting(party: u32) -> PlaceSlot {
+fn waiting(party: u8) -> PlaceSlot {
     with_place(Place::Waiting(party), empty_seat())
 }
 
@@ -148,7 +148,7 @@ fn made_by_hand() {
     h.places[200] = waiting(2);
     told(2, cancel(h, 2));
     // nor does one of a party that there is not
-    h.places[200] = waiting(4000000000);
+    h.places[200] = waiting(255);
     told(2, cancel(h, 2));
     // a party gives back at counter 32: the answer is the table's, and the next call is refused
     let mut h = opened(32, 3);

@@ -144,10 +144,12 @@ fn party_fits(phase: Phase, place: Place, figures: Figures, oldest: u32, named: 
 fn stands_at(phase: Phase, t: u32) -> bool
     ensures { λ r. ⌜ r ≡ standsAt phase t ⌝ }
 {
+    // mostly it waits
+    if let Phase::Waiting(u) = phase {
+        return u == t;
+    }
     match phase {
-        Phase::Waiting(_) | Phase::Aborting(_) | Phase::Cancelling(_) | Phase::Refusing(_) => {
-            ticket(phase) == t
-        }
+        Phase::Aborting(_) | Phase::Cancelling(_) | Phase::Refusing(_) => ticket(phase) == t,
         _ => false,
     }
 }
@@ -160,8 +162,9 @@ fn ticket_at(oldest: u32, i: usize) -> u32
     oldest + (i as u32 + Hub::PLACES - oldest % Hub::PLACES) % Hub::PLACES
 }
 
-// Does the record fit? Little is done where there is little to test: a free party, a party from n
-// up, a place where nobody waits. Eight places in a turn, so that the compiler unrolls it.
+// Does the record fit? Little is done where there is little to test: a free party, one that waits, a
+// party from n up, a place where nobody waits. Eight places in a turn, which the compiler asks at once
+// whether anyone waits there, a place being two bytes.
 pub fn fits(hub: Hub) -> bool
     ensures { λ r. ⌜ r ≡ Rattle.hub.specs.Fits.fits hub ⌝ }
 {
@@ -177,6 +180,14 @@ pub fn fits(hub: Hub) -> bool
         let slot = hub.slots[p];
         let phase = slot.phase;
         if let Phase::Free = phase {
+            p += 1;
+            continue;
+        }
+        // a party that waits acts on no place
+        if let Phase::Waiting(t) = phase {
+            if !in_window(oldest, figures.issued, t) {
+                return false;
+            }
             p += 1;
             continue;
         }
@@ -203,6 +214,21 @@ pub fn fits(hub: Hub) -> bool
     }
     let mut j: usize = 0;
     while j < 32 {
+        let mut anyone = false;
+        let mut b: usize = 0;
+        while b < 8 {
+            let seat = hub.places[8 * j + b];
+            let place = seat.place;
+            match place {
+                Place::Waiting(_) => anyone = true,
+                _ => {}
+            }
+            b += 1;
+        }
+        if !anyone {
+            j += 1;
+            continue;
+        }
         let mut k: usize = 0;
         while k < 8 {
             let i = 8 * j + k;

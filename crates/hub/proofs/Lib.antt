@@ -7,3 +7,4 @@ pub mod Window  -- the record beside the unbounded queue
 pub mod Demand3  -- the third demand
 pub mod RadiosKept  -- what is claimed of radios
 pub mod Calm  -- how long until calm
+pub mod Widths  -- what is claimed of places of a byte

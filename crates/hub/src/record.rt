@@ -27,7 +27,7 @@ pub enum Phase {
 // What lies at the place of a ticket: a cell of the waiting queue.
 pub enum Place {
     Empty,
-    Waiting(u32), // the party that waits there
+    Waiting(u8), // the party that waits there
     Permit, // link
     Cancelled,
     Refused,

@@ -131,10 +131,10 @@ fn put_cell(out: &mut [u8; 1849], at: usize, cell: Cell)
     put_number(out, at + 1, cell.number);
 }
 
-// A byte that names nothing counts by its remainder.
+// A byte that names nothing counts by its remainder, and so does a party that a place has no room for.
 fn place_of(cell: Cell) -> Place {
     let name = cell.name % 6;
-    let party = cell.number;
+    let party = (cell.number % 256) as u8;
     match name {
         0 => Place::Empty,
         1 => Place::Waiting(party),
@@ -150,7 +150,7 @@ fn place_cell(place: Place) -> Cell {
         Place::Empty => plain(0),
         Place::Waiting(party) => Cell {
             name: 1,
-            number: party,
+            number: wide(party),
         },
         Place::Permit => plain(2),
         Place::Cancelled => plain(3),

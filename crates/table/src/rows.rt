@@ -84,10 +84,7 @@ fn step_ticketed(next: Phase, t: u32, s: Sight) -> Effect
     let seat = s.seat;
     let place = seat.place;
     match place {
-        Place::Empty => {
-            let party = s.party as u32;
-            placed(Place::Waiting(party), next, Answer::Parked(t), s)
-        }
+        Place::Empty => placed(Place::Waiting(s.party), next, Answer::Parked(t), s),
         Place::Permit => placed(Place::Done, Phase::Holding, Answer::TookPermit(t), s),
         _ => refused(Refusal::Unfit, s),
     }
@@ -132,7 +129,7 @@ fn step_resuming_at(t: u32, s: Sight) -> Effect
     let place = seat.place;
     match place {
         Place::Empty => placed(Place::Permit, Phase::Free, Answer::LeftPermit(t), s),
-        Place::Waiting(q) => resume_waiter(q, t, s),
+        Place::Waiting(q) => resume_waiter(q as u32, t, s),
         Place::Cancelled => placed(Place::Done, Phase::Resuming, Answer::Skipped(t), s),
         Place::Refused => placed(Place::Done, Phase::Free, Answer::ResumeRefused(t), s),
         _ => refused(Refusal::Unfit, s),

@@ -5,6 +5,7 @@ pub mod Counting  -- a loop that counts
 pub mod Counter  -- the counter as the code reads it
 pub mod Shown  -- what a record shows
 pub mod Sight  -- what a call looks at
+pub mod Unseen  -- and what it does not
 pub mod Loops  -- the tidying's loops
 pub mod Stored  -- what is stored of an effect
 pub mod Radios  -- what the check of the radios says, and whether they move

@@ -1,6 +1,6 @@
-// What a call looks at, from what lies in the arrays.
+// What a call looks at, from what lies in the arrays. The place is read whether or not the party has a
+// ticket: one without looks at no place, whatever lies there.
 
-use hub::phases::has_ticket;
 use hub::phases::ticket;
 use hub::record::Hub;
 use hub::record::PartySlot;
@@ -11,7 +11,7 @@ ghost use mathlib.Core.Path.{_≡_};
 ghost use mathlib.Core.Bool.{cond};
 ghost use Prim.Native.Nat.{_%_};
 ghost use lib.Dec.{ltb};
-ghost use Rattle.hub.specs.Phases.{byTicket, byWaiter, ticketOf};
+ghost use Rattle.hub.specs.Phases.{byWaiter, ticketOf};
 ghost use Rattle.hub.specs.Record.{PARTIES, freeSlot};
 ghost use Rattle.hub.specs.Ring.{PLACES};
 
@@ -23,24 +23,13 @@ pub fn seat_index(slot: PartySlot) -> usize
     (ticket(phase) % Hub::PLACES) as usize
 }
 
-// A place for a party that has a ticket, another for one that has none.
-pub fn by_ticket(slot: PartySlot, seat: PlaceSlot, otherwise: PlaceSlot) -> PlaceSlot
-    ensures { λ r. ⌜ r ≡ byTicket otherwise (λ t. seat) (slot .phase) ⌝ }
-{
-    let phase = slot.phase;
-    if has_ticket(phase) {
-        return seat;
-    }
-    otherwise
-}
-
 // The party that waits at a place; 32, the first number past the slots, where nobody does.
 pub fn waiter_at(seat: PlaceSlot) -> u32
     ensures { λ r. ⌜ r ≡ byWaiter PARTIES (λ q. q) (seat .place) ⌝ }
 {
     let place = seat.place;
     match place {
-        Place::Waiting(q) => q,
+        Place::Waiting(q) => q as u32,
         _ => 32,
     }
 }

@@ -24,7 +24,7 @@ use Rattle.hub.specs.Look.{look}
 use Rattle.hub.specs.Moves.{Move}
 use Rattle.hub.specs.Phases.{ticketOf}
 use Rattle.hub.specs.Radios.{handOf}
-use Rattle.hub.specs.Record.{readSlot, writeSlot}
+use Rattle.hub.specs.Record.{emptySeat, readSlot, writeSlot}
 use Rattle.hub.specs.Ring.{PLACES, Ring, readSeat, writeSeat, skip, retire}
 use Rattle.hub.specs.Table.{decide, withResumed}
 use Rattle.line.specs.Frame.{opOf, frameOf, paper}
@@ -46,7 +46,6 @@ use Rattle.transition.proofs.Laws.Stored.{nobody, still, few-turns}
 use Rattle.batch.specs.Batch.{Reachable, requestsIn, replied}
 use Rattle.batch.proofs.Laws.Answered.{Admitted, is-admitted, refused-response, LetIn}
 use Rattle.batch.proofs.Laws.Answered.{let-in, call-response}
-use Rattle.batch.proofs.Laws.Placed.{orThere, with-ticket, without-ticket}
 use Rattle.batch.proofs.Laws.Responses.{Upto, requestAt, start, whole-request}
 use Rattle.batch.proofs.Laws.Responses.{whole-reply, reply-part, responded, ended}
 use Rattle.batch.proofs.answer_requests.Statement.{statement}
@@ -120,13 +119,13 @@ abbrev Woken : Type 0
 Woken = tie.Joined2 Inv-loop2 μ-loop2 Inv-loop3 μ-loop3 Inv-loop μ-loop
 
 abbrev Placed : Type 0
-Placed = tie.Joined3 Inv-loop2 μ-loop2 Inv-loop3 μ-loop3 Inv-loop μ-loop
+Placed = tie.After-put Inv-loop2 μ-loop2 Inv-loop3 μ-loop3 Inv-loop μ-loop
 
 abbrev Printing : Type 0
 Printing = tie.After-print-of Inv-loop2 μ-loop2 Inv-loop3 μ-loop3 Inv-loop μ-loop
 
 abbrev Moved : Type 0
-Moved = tie.Joined4 Inv-loop2 μ-loop2 Inv-loop3 μ-loop3 Inv-loop μ-loop
+Moved = tie.Joined3 Inv-loop2 μ-loop2 Inv-loop3 μ-loop3 Inv-loop μ-loop
 
 abbrev Settled : Type 0
 Settled = tie.After-is-untidy Inv-loop2 μ-loop2 Inv-loop3 μ-loop3 Inv-loop μ-loop
@@ -141,7 +140,7 @@ abbrev turning : Entered → Turning
 turning c = c .before .before .before .before .before
 
 abbrev entered : Seen → Entered
-entered c = c .before .before .before .before .before .before .before .before
+entered c = c .before .before .before .before .before .before
 
 abbrev seen : Decided → Seen
 seen c = c .before .before .before .before
@@ -150,7 +149,7 @@ abbrev decided : Woken → Decided
 decided c = c .before .before
 
 abbrev woken : Placed → Woken
-woken c = c .before .before .before
+woken c = c .before .before
 
 abbrev filled : Printing → Placed
 filled c = c .before .before .before
@@ -214,29 +213,29 @@ pass c = is-admitted _ _ _ _ (c .before .before .admit .ensures) (not-false _ (c
 admitted : (c : Entered) → LetIn (hub (head c)) (party (head c))
 admitted c = let-in _ _ _ (head c .loop .inv .0 .reachable) (pass c)
 
--- What the code read for it is what the party sees.
+-- What the code read for it.
+abbrev ticketAt : Seen → ℕ
+ticketAt c = c .before .before .before .before .seat-index .result
+
 abbrev seat : Seen → PlaceSlot
-seat c = c .before .before .before .by-ticket .result
+seat c = getD (hub (head (entered c)) .places) (ticketAt c) emptySeat
 
 abbrev waiter : Seen → PartySlot
 waiter c = c .slot-within .result
 
 index : (c : Seen)
-    → c .before .before .before .before .before .before .seat-index .result
+    → ticketAt c
     ≡ ticketOf (readSlot (hub (head (entered c)) .slots) (party (head (entered c))) .phase) % PLACES
 unfolding readSlot
-index c = c .before .before .before .before .before .before .seat-index .ensures
+index c = c .before .before .before .before .seat-index .ensures
 
 reading : (c : Seen)
     → Reads (hub (head (entered c))) (party (head (entered c))) (seat c)
     (c .before .before .waiter-at .result) (waiter c)
 unfolding readSlot
 reading c =
-    reads (hub (head (entered c))) (party (head (entered c))) _ (index c) _ _ _ _
-    (head (entered c) .loop .inv .1)
-    (c .before .before .before .before .empty-seat .ensures)
-    (c .before .before .before .by-ticket .ensures)
-    (c .before .before .waiter-at .ensures) (c .slot-within .ensures)
+    reads (hub (head (entered c))) (party (head (entered c))) _ (index c) _ _
+    (head (entered c) .loop .inv .1) (c .before .before .waiter-at .ensures) (c .slot-within .ensures)
 
 -- The effect is that of the call.
 abbrev op : Head → Op
@@ -303,28 +302,9 @@ turns-most c =
 abbrev untidied : Settled → Hub
 untidied s =
     let h = head (within s) in
-    hubOf (hub h .opening) (effect s .figures) (h .loop .oldest) (placed s .if3 .places)
-    (writeSlot (woken (placed s) .if2 .slots) (party h) (effect s .slot)) (moving s .if4 .pool)
-
-abbrev ticketAt : Seen → ℕ
-ticketAt c = c .before .before .before .before .before .before .seat-index .result
-
-placed-places : (s : Settled)
-    → let h = head (within s) in
-    let i = ticketAt (seen (effected s)) in
-    placed s .if3 .places
-    ≡ set (h .loop .places) i
-    (orThere (h .loop .places) i (effect s .seat) (readSlot (h .loop .slots) (party h) .phase))
-unfolding readSlot
-placed-places s =
-    let h = head (within s) in
-    let i = ticketAt (seen (effected s)) in
-    let phase = readSlot (h .loop .slots) (party h) .phase in
-    let has = placed s .before .has-ticket .ensures in
-    ⊎-elim
-    (λ w. w .2 ∙ with-ticket (h .loop .places) i (effect s .seat) phase (sym has ∙ w .0 .taken))
-    (λ w. w .1 ∙ without-ticket (h .loop .places) i (effect s .seat) phase (sym has ∙ w .0 .left))
-    (placed s .if3 .came)
+    hubOf (hub h .opening) (effect s .figures) (h .loop .oldest)
+    (set (h .loop .places) (ticketAt (seen (effected s))) (effect s .seat))
+    (writeSlot (woken (placed s) .if2 .slots) (party h) (effect s .slot)) (moving s .if3 .pool)
 
 woken-slots : (s : Settled)
     → woken (placed s) .if2 .slots
@@ -340,11 +320,11 @@ woken-slots s =
 
 -- The answer moved a radio, on a hub with radios.
 moved-pool : (s : Settled)
-    → moving s .if4 .pool
+    → moving s .if3 .pool
     ≡ radiosAfter (hub (head (within s))) (party (head (within s))) (effect s .answer)
 moved-pool s =
     ⊎-elim (λ w. with-radios _ _ _ _ _ (w .0 .taken) (w .2 ∙ w .1 .ensures))
-    (λ w. w .1 ∙ without-radios _ _ _ _ (w .0 .left)) (moving s .if4 .came)
+    (λ w. w .1 ∙ without-radios _ _ _ _ (w .0 .left)) (moving s .if3 .came)
 
 -- What is left, once it is tidied, is what the call leaves.
 leaves : (s : Settled) (u : Hub) → u ≡ tidiedBy (effect s .turns) (untidied s)
@@ -353,13 +333,9 @@ unfolding readSlot
 leaves s u e =
     let d = effected s in
     let h = head (within s) in
-    let places : List PlaceSlot → Hub = λ l.
-    hubOf (hub h .opening) (effect s .figures) (h .loop .oldest) l (untidied s .slots) (untidied s .pool) in
     e
-    ∙ ap (tidiedBy (effect s .turns))
-    (ap places (placed-places s)
-    ∙ ap (withPool (untidied s .pool))
-    (stores (hub h) (party h) _ (index (seen d)) (effect s) _ _ refl (woken-slots s)))
+    ∙ ap (λ (g : Hub). tidiedBy (effect s .turns) (withPool (untidied s .pool) g))
+    (stores (hub h) (party h) _ (index (seen d)) (effect s) _ (woken-slots s))
     ∙ left _ _ _ _ _ (reading (seen d)) (op h) (effect s) (effect-is d) (untidied s .pool) (moved-pool s)
 
 -- The ring between the tidying's loops.
@@ -514,19 +490,12 @@ seat-index-requires :
     tie.Need-seat-index-requires Inv-loop2 μ-loop2 Inv-loop3 μ-loop3 Inv-loop μ-loop
 seat-index-requires c κs = search needs
 
-mul-there : tie.Need-mul-there Inv-loop2 μ-loop2 Inv-loop3 μ-loop3 Inv-loop μ-loop
-mul-there c = search needs
+mul-seat : tie.Need-mul-seat Inv-loop2 μ-loop2 Inv-loop3 μ-loop3 Inv-loop μ-loop
+mul-seat c = search needs
 
-array-copy-out-there :
-    tie.Need-array-copy-out-there Inv-loop2 μ-loop2 Inv-loop3 μ-loop3 Inv-loop μ-loop
-array-copy-out-there c = search needs
-
-empty-seat-requires :
-    tie.Need-empty-seat-requires Inv-loop2 μ-loop2 Inv-loop3 μ-loop3 Inv-loop μ-loop
-empty-seat-requires c κs = search needs
-
-by-ticket-requires : tie.Need-by-ticket-requires Inv-loop2 μ-loop2 Inv-loop3 μ-loop3 Inv-loop μ-loop
-by-ticket-requires c κs = search needs
+array-copy-out-seat :
+    tie.Need-array-copy-out-seat Inv-loop2 μ-loop2 Inv-loop3 μ-loop3 Inv-loop μ-loop
+array-copy-out-seat c = search needs
 
 waiter-at-requires : tie.Need-waiter-at-requires Inv-loop2 μ-loop2 Inv-loop3 μ-loop3 Inv-loop μ-loop
 waiter-at-requires c κs = search needs
@@ -565,17 +534,13 @@ decide-by-requires c κs =
     let n = admitted (entered (c .before .before .before)) .counts in
     record { counter = n .counter; issued = n .issued; resumed = n .resumed }
 
-has-ticket-requires :
-    tie.Need-has-ticket-requires Inv-loop2 μ-loop2 Inv-loop3 μ-loop3 Inv-loop μ-loop
-has-ticket-requires c κs = search needs
-
 mul-places :
     tie.Need-mul-places Inv-loop2 μ-loop2 Inv-loop3 μ-loop3 Inv-loop μ-loop
-mul-places c = omega (arith, index (seen (decided (c .before .before .before .before))))
+mul-places c = omega (arith, index (seen (decided (woken c))))
 
 array-set-from-places :
     tie.Need-array-set-from-places Inv-loop2 μ-loop2 Inv-loop3 μ-loop3 Inv-loop μ-loop
-array-set-from-places c = omega (arith, index (seen (decided (c .before .before .before .before))))
+array-set-from-places c = omega (arith, index (seen (decided (woken c))))
 
 cast-slots : tie.Need-cast-slots Inv-loop2 μ-loop2 Inv-loop3 μ-loop3 Inv-loop μ-loop
 cast-slots c = search needs
@@ -621,7 +586,7 @@ put-reply-requires-2 c κs =
 move-radio-requires :
     tie.Need-move-radio-requires Inv-loop2 μ-loop2 Inv-loop3 μ-loop3 Inv-loop μ-loop
 move-radio-requires c κs =
-    admitted (entering (decided (woken (filled (c .before .before .before .before))))) .store (c .if4 .taken)
+    admitted (entering (decided (woken (filled (c .before .before .before .before))))) .store (c .if3 .taken)
 
 cast-ahead :
     tie.Need-cast-ahead Inv-loop2 μ-loop2 Inv-loop3 μ-loop3 Inv-loop μ-loop
@@ -663,7 +628,7 @@ loop-again-2 c =
     let e = within s in
     let nothing =
     tidy (effect s .turns) (ringOf (untidied s))
-    (sym (s .is-untidy .ensures) ∙ not-true _ (c .if5 .taken)) in (
+    (sym (s .is-untidy .ensures) ∙ not-true _ (c .if4 .taken)) in (
       responded _ _ _ _ _ _ _ _ _ (head e .loop .inv .0) (turning e .loop-test .taken) _ _ _
           (answered e) (replied-with s) (leaves s _ (ap (withRing (untidied s)) nothing)),
       still-32 s,
@@ -706,7 +671,7 @@ unfolding readSeat
 add-figures c =
     let s = c .before .before .before .before .before .loop2 .inv in
     let e = can-skip _ _ _ _ (s .0) _ _ (s .2) (c .before .before .can-skip .ensures) in
-    omega (arith, in-window _ _ _ _ (s .0) (e ∙ not-false _ (c .before .if6 .left)), s .3)
+    omega (arith, in-window _ _ _ _ (s .0) (e ∙ not-false _ (c .before .if5 .left)), s .3)
 
 add-n : tie.Need-add-n Inv-loop2 μ-loop2 Inv-loop3 μ-loop3 Inv-loop μ-loop
 add-n c =
@@ -728,7 +693,7 @@ loop2-again c =
     let r = l .figures .resumed in
     let on =
     skipping-on _ _ _ _ (s .0) _ (c .with-place .ensures)
-    (c .before .before .before .before .loop2-test .taken) (e ∙ not-false _ (c .before .if6 .left)) in (
+    (c .before .before .before .before .loop2-test .taken) (e ∙ not-false _ (c .before .if5 .left)) in (
       on,
       ap (withResumed (r + 1)) (s .1),
       s .2,
@@ -783,15 +748,15 @@ loop-again-4 c =
     let e = within s in
     let last =
     retiring-stop _ _ _ _ (l .loop3 .inv .0)
-    (sym (c .before .can-retire .ensures) ∙ not-true _ (c .if7 .taken)) in (
+    (sym (c .before .can-retire .ensures) ∙ not-true _ (c .if6 .taken)) in (
       responded _ _ _ _ _ _ _ _ _ (head e .loop .inv .0) (turning e .loop-test .taken) _ _ _
           (answered e) (replied-with s) (done (l .before) _ _ last),
       still-32 s,
     )
 
-empty-seat-requires-2 :
-    tie.Need-empty-seat-requires-2 Inv-loop2 μ-loop2 Inv-loop3 μ-loop3 Inv-loop μ-loop
-empty-seat-requires-2 c κs = search needs
+empty-seat-requires :
+    tie.Need-empty-seat-requires Inv-loop2 μ-loop2 Inv-loop3 μ-loop3 Inv-loop μ-loop
+empty-seat-requires c κs = search needs
 
 mul-places-3 : tie.Need-mul-places-3 Inv-loop2 μ-loop2 Inv-loop3 μ-loop3 Inv-loop μ-loop
 mul-places-3 c = search needs
@@ -821,9 +786,9 @@ unfolding readSeat writeSeat
 loop3-again c =
     let l = c .before .before .before .before .before .loop3 in
     let s = l .inv in (
-      retiring-on _ _ _ _ (s .0) _ (c .empty-seat2 .ensures)
+      retiring-on _ _ _ _ (s .0) _ (c .empty-seat .ensures)
           (c .before .before .before .before .loop3-test .taken)
-          (sym (c .before .before .can-retire .ensures) ∙ not-false _ (c .before .if7 .left)),
+          (sym (c .before .before .can-retire .ensures) ∙ not-false _ (c .before .if6 .left)),
       s .1,
     )
 
@@ -869,10 +834,8 @@ answer-requests-spec =
     mul-slot
     array-copy-out-slot
     seat-index-requires
-    mul-there
-    array-copy-out-there
-    empty-seat-requires
-    by-ticket-requires
+    mul-seat
+    array-copy-out-seat
     waiter-at-requires
     cast-near
     mul-near
@@ -888,7 +851,6 @@ answer-requests-spec =
     array-set-from-slots
     mul-slots-2
     array-set-from-slots-2
-    has-ticket-requires
     mul-places
     array-set-from-places
     sub-put-reply-2
@@ -928,7 +890,7 @@ answer-requests-spec =
     can-retire-requires
     loop-less-4
     loop-again-4
-    empty-seat-requires-2
+    empty-seat-requires
     mul-places-3
     array-set-from-places-3
     add-oldest

@@ -1,7 +1,7 @@
 -- What the definition says of a party, of a place and of the whole, from what the code has read.
 use Prim.Native.Nat.{ℕ, _≤_, _<_}
 use mathlib.Core.Path.{_≡_, refl, sym, ap, _∙_}
-use mathlib.Core.Bool.{Bool, true, false, and-false, or-true, _&&_, _||_}
+use mathlib.Core.Bool.{Bool, true, false, and-false, and-true, or-true, _&&_, _||_}
 use mathlib.Core.List.{List, [], _∷_, map}
 use lib.Dec.{leb, ltb}
 use lib.ListN.{length, length-map, getD, List·getD-eq-default}
@@ -17,7 +17,7 @@ use Rattle.hub.specs.declared.record.Place.{Place}
 use Rattle.hub.specs.declared.record.PartySlot.{PartySlot}
 use Rattle.hub.specs.declared.record.PlaceSlot.{PlaceSlot}
 use Rattle.hub.specs.Basics.{allFrom, allOf, implies}
-use Rattle.hub.specs.Fits.{figuresClauses, figuresFit, ticketFits, placeListed}
+use Rattle.hub.specs.Fits.{figuresClauses, figuresFit, inWindow, ticketFits, placeListed}
 use Rattle.hub.specs.Fits.{fits, partyFits, standsAt, placeFits, radiosFit}
 use Rattle.hub.specs.Look.{seenBy}
 use Rattle.hub.specs.Phases.{byTicket, byWaiter, isFree, isOneOf, ofRadios, ticketOf}
@@ -85,6 +85,14 @@ module _ (h : Hub) (p : ℕ) where
       && implies (ofRadios (readSlot (h .slots) p .phase)) (h .opening .named)
       → r ≡ partyFits h p
   party-test t l e i = i ∙ rw (e, sym by-clauses, lt-ltb p (h .opening .parties) l)
+
+  -- One that waits acts on no place: only its ticket is tested.
+  pub waiting-test : {r : Bool} (t : ℕ) → p < h .opening .parties
+      → readSlot (h .slots) p .phase ≡ Phase.Waiting t
+      → r ≡ inWindow (h .oldest) (h .figures .issued) t → r ≡ partyFits h p
+  unfolding ticketFits placeListed allOf isOneOf
+  waiting-test t l e i =
+      i ∙ rw (sym by-clauses, e, lt-ltb p (h .opening .parties) l) (sym (and-true _ ∙ and-true _ ∙ and-true _))
 
   -- A free party fits, whatever else is there.
   pub free-fits : readSlot (h .slots) p .phase ≡ Phase.Free → partyFits h p ≡ true

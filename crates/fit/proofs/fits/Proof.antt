@@ -3,7 +3,7 @@ use Prim.Native.Nat.{ℕ, _+_, _-_, _*_, _≤_}
 use borrow.Author.Needs.{needs}
 use borrow.Author.Tests.{not-true, not-false}
 use mathlib.Core.Path.{_≡_, refl, sym, ap, subst, _∙_}
-use mathlib.Core.Bool.{Bool, true}
+use mathlib.Core.Bool.{Bool, true, false}
 use mathlib.Core.Logic.{⊎-elim}
 use native.Mathlib.Omega.{arith}
 use lib.ListN.{length}
@@ -12,12 +12,13 @@ use Rattle.hub.specs.Basics.{allFrom}
 use Rattle.hub.specs.Fits.{figuresFit, fits, partyFits, placeFits, radiosFit, standsAt}
 use Rattle.hub.specs.Record.{readSlot}
 use Rattle.hub.specs.Ring.{readSeat}
+use Rattle.hub.proofs.Laws.Bools.{never}
 use Rattle.pool.proofs.Laws.Fits.{unnamed-fit}
 use Rattle.fit.specs.Window.{ticketAt}
 use Rattle.fit.proofs.Laws.Bools.{failed, passed}
 use Rattle.fit.proofs.Laws.Ranges.{Left, one-fails, one-passes, none-left, by-index}
 use Rattle.fit.proofs.Laws.Clauses.{oldest-small, parties-few, permits-few, mapped-size}
-use Rattle.fit.proofs.Laws.Clauses.{party-test, free-fits, past-parties}
+use Rattle.fit.proofs.Laws.Clauses.{party-test, waiting-test, free-fits, past-parties}
 use Rattle.fit.proofs.Laws.Clauses.{waited, not-waited, past-slots}
 use Rattle.fit.proofs.Laws.Clauses.{figures-fail, parties-fail, places-fail, radios-left}
 use Rattle.fit.proofs.fits.Statement.{statement}
@@ -47,11 +48,19 @@ Inv-loop2 hub oldest n p₀ free₀ p free = (n ≤ p) × Parties hub free p
 abbrev μ-loop2 : tie.MeasureT-loop2
 μ-loop2 hub oldest n p₀ free₀ p free = 32 - p
 
+-- While nobody waits at the places of a turn, they are tested.
 abbrev Inv-loop4 : tie.InvT-loop4
-Inv-loop4 hub oldest n p free j k₀ k = (k ≤ 8) × Places hub (8 * j + k)
+Inv-loop4 hub oldest n p free j anyone₀ b₀ anyone b =
+    (b ≤ 8) × (anyone ≡ false → Places hub (8 * j + b))
 
 abbrev μ-loop4 : tie.MeasureT-loop4
-μ-loop4 hub oldest n p free j k₀ k = 8 - k
+μ-loop4 hub oldest n p free j anyone₀ b₀ anyone b = 8 - b
+
+abbrev Inv-loop5 : tie.InvT-loop5
+Inv-loop5 hub oldest n p free j anyone b k₀ k = (k ≤ 8) × Places hub (8 * j + k)
+
+abbrev μ-loop5 : tie.MeasureT-loop5
+μ-loop5 hub oldest n p free j anyone b k₀ k = 8 - k
 
 abbrev Inv-loop3 : tie.InvT-loop3
 Inv-loop3 hub oldest n p free j₀ j = Places hub (8 * j)
@@ -62,9 +71,10 @@ abbrev μ-loop3 : tie.MeasureT-loop3
 -- A state or a need of the function, with these invariants and measures.
 abbrev At :
     (tie.InvT-loop → tie.MeasureT-loop → tie.InvT-loop2 → tie.MeasureT-loop2 → tie.InvT-loop4
-    → tie.MeasureT-loop4 → tie.InvT-loop3 → tie.MeasureT-loop3 → Type 0)
+    → tie.MeasureT-loop4 → tie.InvT-loop5 → tie.MeasureT-loop5 → tie.InvT-loop3
+    → tie.MeasureT-loop3 → Type 0)
     → Type 0
-At f = f Inv-loop μ-loop Inv-loop2 μ-loop2 Inv-loop4 μ-loop4 Inv-loop3 μ-loop3
+At f = f Inv-loop μ-loop Inv-loop2 μ-loop2 Inv-loop4 μ-loop4 Inv-loop5 μ-loop5 Inv-loop3 μ-loop3
 
 -- From the third loop back to the first; the start, and the record.
 abbrev loop : At tie.At-loop3 → At tie.At-loop
@@ -76,12 +86,21 @@ start c = c .before .before .before .before .before .before
 abbrev hub : At tie.At-loop → Hub
 hub c = start c .args .t1
 
--- The record and the index in the inner loop.
+-- The record and the index in the inner loops.
 abbrev hub4 : At tie.At-loop4 → Hub
 hub4 c = hub (loop (c .before .before))
 
-abbrev index : At tie.At-loop4 → ℕ
-index c = 8 * c .before .before .loop3 .j + c .loop4 .k
+abbrev index4 : At tie.At-loop4 → ℕ
+index4 c = 8 * c .before .before .loop3 .j + c .loop4 .b
+
+abbrev turn5 : At tie.At-loop5 → At tie.At-loop3
+turn5 c = c .before .before .before .before .before
+
+abbrev hub5 : At tie.At-loop5 → Hub
+hub5 c = hub (loop (turn5 c))
+
+abbrev index : At tie.At-loop5 → ℕ
+index c = 8 * turn5 c .loop3 .j + c .loop5 .k
 
 figures : (c : At tie.At-loop) → figuresFit (hub c .opening) (hub c .figures) (hub c .oldest) ≡ true
 figures c = passed (c .before .before .before .figures-fit .ensures) (c .before .before .if1 .left)
@@ -96,29 +115,40 @@ oldest c = oldest-small _ _ _ (figures c)
 size : (c : At tie.Start) → length (c .args .t1 .slots) ≡ 32
 size c = search mapped-size
 
--- The party's test is the definition's.
+-- The party's test is the definition's; that of one that waits, too.
+abbrev waits : At tie.After-in-window → At tie.In-loop
+waits c = c .before .before .before .before .before .before
+
+waiting : (c : At tie.After-in-window)
+    → c .in-window .result ≡ partyFits (hub (waits c .before)) (waits c .before .loop .p)
+unfolding readSlot
+waiting c =
+    waiting-test (hub (waits c .before)) _ _ (waits c .loop-test .taken)
+    (c .before .before .phase .given .1) (c .in-window .ensures)
+
+abbrev acts : At tie.After-party-fits → At tie.In-loop
+acts c = c .before .before .before .before .before .before
+
 told : (c : At tie.After-party-fits)
-    → c .party-fits .result
-    ≡ partyFits (hub (c .before .before .before .before .before .before))
-    (c .before .before .before .before .before .before .loop .p)
+    → c .party-fits .result ≡ partyFits (hub (acts c .before)) (acts c .before .loop .p)
 unfolding readSlot readSeat
 told c =
-    let l = c .before .before .before .before .before in
+    let l = acts c in
     party-test (hub (l .before)) _ _ (l .loop-test .taken) (c .before .before .ticket .ensures)
     (c .party-fits .ensures)
 
 -- The turn of the inner loop; the place's test is the definition's.
-abbrev turn : At tie.After-stands-at → At tie.At-loop4
+abbrev turn : At tie.After-stands-at → At tie.At-loop5
 turn c = c .before .before .before .before .before .before .before .before .before
 
 stood : (c : At tie.After-stands-at)
     → c .stands-at .result
-    ≡ placeFits (hub4 (turn c)) (ticketAt (hub4 (turn c) .oldest) (index (turn c)))
+    ≡ placeFits (hub5 (turn c)) (ticketAt (hub5 (turn c) .oldest) (index (turn c)))
 unfolding readSlot
 stood c =
     c .stands-at .ensures
     ∙ ap (standsAt _) (c .before .ticket-at .ensures)
-    ∙ waited (hub4 (turn c)) (index (turn c)) (omega arith) _
+    ∙ waited (hub5 (turn c)) (index (turn c)) (omega arith) _
     (c .before .before .before .before .before .place .given .1)
 
 figures-fit-requires : At tie.Need-figures-fit-requires
@@ -155,6 +185,31 @@ loop-again c =
     one-passes _ 32 _ true _ (l .loop .inv) _ (omega arith) (omega (arith, few l))
     (free-fits _ _ (c .enum-told .given .1))
 
+enum-known-phase : At tie.Need-enum-known-phase
+enum-known-phase c = search needs
+
+in-window-requires : At tie.Need-in-window-requires
+in-window-requires c κs = oldest (c .before .before .before .before .before .before)
+
+returns-2 : At tie.Need-returns-2
+returns-2 c =
+    let l = waits (c .before) .before in
+    parties-fail _
+    (one-fails _ 32 _ true _ (l .loop .inv) (omega (arith, few l))
+    (failed (waiting (c .before)) (c .if2 .taken)))
+
+add-p-2 : At tie.Need-add-p-2
+add-p-2 c = search needs
+
+loop-less-2 : At tie.Need-loop-less-2
+loop-less-2 c = search needs
+
+loop-again-2 : At tie.Need-loop-again-2
+loop-again-2 c =
+    let l = waits (c .before) .before in
+    one-passes _ 32 _ true _ (l .loop .inv) _ (omega arith) (omega (arith, few l))
+    (passed (waiting (c .before)) (c .if2 .left))
+
 ticket-requires : At tie.Need-ticket-requires
 ticket-requires c κs = search needs
 
@@ -168,26 +223,26 @@ element-copy-out-seat : At tie.Need-element-copy-out-seat
 element-copy-out-seat c = search needs
 
 party-fits-requires : At tie.Need-party-fits-requires
-party-fits-requires c κs = oldest (c .before .before .before .before .before)
+party-fits-requires c κs = oldest (c .before .before .before .before .before .before)
 
-returns-2 : At tie.Need-returns-2
-returns-2 c =
-    let l = c .before .before .before .before .before .before .before in
+returns-3 : At tie.Need-returns-3
+returns-3 c =
+    let l = acts (c .before) .before in
     parties-fail _
     (one-fails _ 32 _ true _ (l .loop .inv) (omega (arith, few l))
-    (failed (told (c .before)) (c .if2 .taken)))
+    (failed (told (c .before)) (c .if3 .taken)))
 
-add-p-2 : At tie.Need-add-p-2
-add-p-2 c = search needs
+add-p-3 : At tie.Need-add-p-3
+add-p-3 c = search needs
 
-loop-less-2 : At tie.Need-loop-less-2
-loop-less-2 c = search needs
+loop-less-3 : At tie.Need-loop-less-3
+loop-less-3 c = search needs
 
-loop-again-2 : At tie.Need-loop-again-2
-loop-again-2 c =
-    let l = c .before .before .before .before .before .before .before in
+loop-again-3 : At tie.Need-loop-again-3
+loop-again-3 c =
+    let l = acts (c .before) .before in
     one-passes _ 32 _ true _ (l .loop .inv) _ (omega arith) (omega (arith, few l))
-    (passed (told (c .before)) (c .if2 .left))
+    (passed (told (c .before)) (c .if3 .left))
 
 loop2-holds : At tie.Need-loop2-holds
 loop2-holds c = (omega (arith, c .loop-test .left), c .before .loop .inv)
@@ -201,8 +256,8 @@ element-copy-out-slot-2 c = search needs
 enum-told-2 : At tie.Need-enum-told-2
 enum-told-2 c = search needs
 
-add-p-3 : At tie.Need-add-p-3
-add-p-3 c = search needs
+add-p-4 : At tie.Need-add-p-4
+add-p-4 c = search needs
 
 loop2-less : At tie.Need-loop2-less
 loop2-less c = search needs
@@ -220,14 +275,14 @@ loop2-again c =
           (free-fits _ _ (w .1 .given .1))))
           (λ w. rw (w .1)
           (one-fails _ 32 _ x _ (i .1) (omega arith) (past-parties _ _ (i .0) (w .0 .keys2))))
-          (c .match2 .came),
+          (c .match3 .came),
     )
 
-returns-3 : At tie.Need-returns-3
-returns-3 c =
+returns-4 : At tie.Need-returns-4
+returns-4 c =
     let q = c .before .before in
     parties-fail _
-    (sym (not-true _ (c .if3 .taken))
+    (sym (not-true _ (c .if4 .taken))
     ∙ none-left _ 32 _ (q .loop2 .free) _ (q .loop2 .inv .1) (omega arith))
 
 loop3-holds : At tie.Need-loop3-holds
@@ -235,25 +290,25 @@ loop3-holds c = by-index (placeFits (hub (c .before .before .before .before))) _
 
 loop4-holds : At tie.Need-loop4-holds
 loop4-holds c =
-    (omega arith, moved (hub (loop (c .before))) (c .before .loop3 .inv) (omega arith))
-
-mul-i : At tie.Need-mul-i
-mul-i c = search needs
-
-add-i : At tie.Need-add-i
-add-i c = search needs
+    (omega arith, λ e. moved (hub (loop (c .before))) (c .before .loop3 .inv) (omega arith))
 
 mul-seat-2 : At tie.Need-mul-seat-2
 mul-seat-2 c = search needs
 
+add-seat : At tie.Need-add-seat
+add-seat c = search needs
+
+mul-seat-3 : At tie.Need-mul-seat-3
+mul-seat-3 c = search needs
+
 element-copy-out-seat-2 : At tie.Need-element-copy-out-seat-2
 element-copy-out-seat-2 c = search needs
 
-enum-known-place : At tie.Need-enum-known-place
-enum-known-place c = search needs
+enum-told-3 : At tie.Need-enum-told-3
+enum-told-3 c = search needs
 
-add-k : At tie.Need-add-k
-add-k c = search needs
+add-b : At tie.Need-add-b
+add-b c = search needs
 
 loop4-less : At tie.Need-loop4-less
 loop4-less c = search needs
@@ -262,17 +317,64 @@ loop4-again : At tie.Need-loop4-again
 loop4-again c =
     let k = c .before .before .before in (
       omega arith,
-      one-passes _ 256 _ true _ (k .loop4 .inv .1) _ (omega arith) (omega arith)
-          (not-waited (hub4 k) (index k) (omega arith) (c .match3 .keys2)),
+      ⊎-elim (λ w e. never (sym (w .2) ∙ e))
+          (λ w e. one-passes _ 256 _ true _ (k .loop4 .inv .1 (sym (w .1) ∙ e)) _ (omega arith) (omega arith)
+          (not-waited (hub4 k) (index4 k) (omega arith) (w .0 .keys2)))
+          (c .match4 .came),
     )
 
-returns-4 : At tie.Need-returns-4
-returns-4 c =
+add-j : At tie.Need-add-j
+add-j c = search needs
+
+loop3-less : At tie.Need-loop3-less
+loop3-less c = search needs
+
+loop3-again : At tie.Need-loop3-again
+loop3-again c =
+    let k = c .before .before in
+    moved (hub4 k) (k .loop4 .inv .1 (not-true _ (c .if5 .taken))) (omega (arith, k .loop4 .inv .0))
+
+loop5-holds : At tie.Need-loop5-holds
+loop5-holds c =
+    let k = c .before .before in
+    (omega arith, moved (hub4 k) (k .before .before .loop3 .inv) (omega arith))
+
+mul-i : At tie.Need-mul-i
+mul-i c = search needs
+
+add-i : At tie.Need-add-i
+add-i c = search needs
+
+mul-seat-4 : At tie.Need-mul-seat-4
+mul-seat-4 c = search needs
+
+element-copy-out-seat-3 : At tie.Need-element-copy-out-seat-3
+element-copy-out-seat-3 c = search needs
+
+enum-known-place : At tie.Need-enum-known-place
+enum-known-place c = search needs
+
+add-k : At tie.Need-add-k
+add-k c = search needs
+
+loop5-less : At tie.Need-loop5-less
+loop5-less c = search needs
+
+loop5-again : At tie.Need-loop5-again
+loop5-again c =
+    let k = c .before .before .before in (
+      omega arith,
+      one-passes _ 256 _ true _ (k .loop5 .inv .1) _ (omega arith) (omega arith)
+          (not-waited (hub5 k) (index k) (omega arith) (c .match5 .keys2)),
+    )
+
+returns-5 : At tie.Need-returns-5
+returns-5 c =
     let k = c .before .before .before .before .before .before in
     places-fail _
-    (one-fails _ 256 _ true _ (k .loop4 .inv .1) (omega arith)
-    (sym (waited (hub4 k) (index k) (omega arith) _ (c .before .before .place .given .1))
-    ∙ past-slots _ _ _ (size (start (loop (k .before .before)))) (c .if4 .taken)))
+    (one-fails _ 256 _ true _ (k .loop5 .inv .1) (omega arith)
+    (sym (waited (hub5 k) (index k) (omega arith) _ (c .before .before .place .given .1))
+    ∙ past-slots _ _ _ (size (start (loop (turn5 k)))) (c .if6 .taken)))
 
 cast-slot : At tie.Need-cast-slot
 cast-slot c = search needs
@@ -286,57 +388,57 @@ element-copy-out-slot-3 c = search needs
 ticket-at-requires : At tie.Need-ticket-at-requires
 ticket-at-requires c κs =
     let k = c .before .before .before .before .before .before .before in
-    (oldest (loop (k .before .before)), omega arith)
+    (oldest (loop (turn5 k)), omega arith)
 
 stands-at-requires : At tie.Need-stands-at-requires
 stands-at-requires c κs = search needs
 
-returns-5 : At tie.Need-returns-5
-returns-5 c =
+returns-6 : At tie.Need-returns-6
+returns-6 c =
     places-fail _
-    (one-fails _ 256 _ true _ (turn (c .before) .loop4 .inv .1) (omega arith)
-    (failed (stood (c .before)) (c .if5 .taken)))
+    (one-fails _ 256 _ true _ (turn (c .before) .loop5 .inv .1) (omega arith)
+    (failed (stood (c .before)) (c .if7 .taken)))
 
 add-k-2 : At tie.Need-add-k-2
 add-k-2 c = search needs
 
-loop4-less-2 : At tie.Need-loop4-less-2
-loop4-less-2 c = search needs
+loop5-less-2 : At tie.Need-loop5-less-2
+loop5-less-2 c = search needs
 
-loop4-again-2 : At tie.Need-loop4-again-2
-loop4-again-2 c = (
+loop5-again-2 : At tie.Need-loop5-again-2
+loop5-again-2 c = (
   omega arith,
-  one-passes _ 256 _ true _ (turn (c .before) .loop4 .inv .1) _ (omega arith) (omega arith)
-      (passed (stood (c .before)) (c .if5 .left)),
+  one-passes _ 256 _ true _ (turn (c .before) .loop5 .inv .1) _ (omega arith) (omega arith)
+      (passed (stood (c .before)) (c .if7 .left)),
 )
 
-add-j : At tie.Need-add-j
-add-j c = search needs
+add-j-2 : At tie.Need-add-j-2
+add-j-2 c = search needs
 
-loop3-less : At tie.Need-loop3-less
-loop3-less c = search needs
+loop3-less-2 : At tie.Need-loop3-less-2
+loop3-less-2 c = search needs
 
-loop3-again : At tie.Need-loop3-again
-loop3-again c =
-    moved (hub4 (c .before)) (c .before .loop4 .inv .1) (omega (arith, c .before .loop4 .inv .0))
+loop3-again-2 : At tie.Need-loop3-again-2
+loop3-again-2 c =
+    moved (hub5 (c .before)) (c .before .loop5 .inv .1) (omega (arith, c .before .loop5 .inv .0))
 
 -- Parties and places fit, and the radios are left.
 passes : (l : At tie.At-loop3) → 32 ≤ l .loop3 .j → {r : Bool} → r ≡ radiosFit (hub (loop l)) → r ≡ fits (hub (loop l))
 passes l i e =
     let q = l .before .before .before in
     radios-left _ (figures (loop l))
-    (sym (not-false _ (l .before .if3 .left))
+    (sym (not-false _ (l .before .if4 .left))
     ∙ none-left _ 32 _ (q .loop2 .free) _ (q .loop2 .inv .1) (omega arith))
     (none-left _ 256 _ true _ (l .loop3 .inv) (omega arith)) e
 
-returns-6 : At tie.Need-returns-6
-returns-6 c = passes (c .before .before) (search needs) (sym (unnamed-fit _ (not-true _ (c .if6 .taken))))
+returns-7 : At tie.Need-returns-7
+returns-7 c = passes (c .before .before) (search needs) (sym (unnamed-fit _ (not-true _ (c .if8 .taken))))
 
 radios-fit-requires : At tie.Need-radios-fit-requires
 radios-fit-requires c κs = permits-few _ _ _ (figures (loop (c .before .before)))
 
-returns-7 : At tie.Need-returns-7
-returns-7 c = passes (c .before .before .before) (search needs) (c .radios-fit .ensures)
+returns-8 : At tie.Need-returns-8
+returns-8 c = passes (c .before .before .before) (search needs) (c .radios-fit .ensures)
 
 pub fits-spec : {M : Type 1} → statement M
 fits-spec =
@@ -348,6 +450,8 @@ fits-spec =
     μ-loop2
     Inv-loop4
     μ-loop4
+    Inv-loop5
+    μ-loop5
     Inv-loop3
     μ-loop3
     figures-fit-requires
@@ -360,46 +464,64 @@ fits-spec =
     add-p
     loop-less
     loop-again
+    enum-known-phase
+    in-window-requires
+    returns-2
+    add-p-2
+    loop-less-2
+    loop-again-2
     ticket-requires
     cast-i
     mul-seat
     element-copy-out-seat
     party-fits-requires
-    returns-2
-    add-p-2
-    loop-less-2
-    loop-again-2
+    returns-3
+    add-p-3
+    loop-less-3
+    loop-again-3
     loop2-holds
     mul-slot-2
     element-copy-out-slot-2
     enum-told-2
-    add-p-3
+    add-p-4
     loop2-less
     loop2-again
-    returns-3
+    returns-4
     loop3-holds
     loop4-holds
-    mul-i
-    add-i
     mul-seat-2
+    add-seat
+    mul-seat-3
     element-copy-out-seat-2
-    enum-known-place
-    add-k
+    enum-told-3
+    add-b
     loop4-less
     loop4-again
-    returns-4
+    add-j
+    loop3-less
+    loop3-again
+    loop5-holds
+    mul-i
+    add-i
+    mul-seat-4
+    element-copy-out-seat-3
+    enum-known-place
+    add-k
+    loop5-less
+    loop5-again
+    returns-5
     cast-slot
     mul-slot-3
     element-copy-out-slot-3
     ticket-at-requires
     stands-at-requires
-    returns-5
-    add-k-2
-    loop4-less-2
-    loop4-again-2
-    add-j
-    loop3-less
-    loop3-again
     returns-6
+    add-k-2
+    loop5-less-2
+    loop5-again-2
+    add-j-2
+    loop3-less-2
+    loop3-again-2
+    returns-7
     radios-fit-requires
-    returns-7)
+    returns-8)

@@ -23,10 +23,12 @@ use Rattle.hub.specs.Fits.{fits, figuresClauses, figuresFit, counterFits, party
 use Rattle.hub.specs.Look.{look, seenBy}
 use Rattle.hub.specs.Moves.{Move, Refuse}
 use Rattle.hub.specs.Radios.{poolAfter}
-use Rattle.hub.specs.Record.{MAX-BEGUN, PARTIES}
-use Rattle.hub.specs.Ring.{PLACES}
+use Rattle.hub.specs.Phases.{ticketOf}
+use Rattle.hub.specs.Record.{MAX-BEGUN, PARTIES, readSlot}
+use Rattle.hub.specs.Ring.{PLACES, readSeat}
 use Rattle.hub.specs.Table.{decide}
-use Rattle.hub.proofs.Laws.Bools.{clause, first, second}
+use Rattle.hub.proofs.Laws.Bools.{clause, first, never, second}
+use Rattle.hub.proofs.Laws.Phases.{ticketed}
 use Rattle.table.specs.declared.effect.Effect.{Effect}
 use Rattle.table.specs.Effect.{effectOf}
 use Rattle.table.specs.Small.{Small}
@@ -34,6 +36,7 @@ use Rattle.transition.specs.Tidied.{tidiedBy}
 use Rattle.transition.proofs.Laws.Radios.{refused-pool}
 use Rattle.transition.proofs.Laws.Sight.{Reads, looked, sightOf}
 use Rattle.transition.proofs.Laws.Stored.{applied, stored, told}
+use Rattle.transition.proofs.Laws.Unseen.{touches, unseen}
 
 abbrev pub asks : Op → ℕ → Call
 asks o p = record { op = o; party = p }
@@ -131,13 +134,23 @@ module _ (h : Hub) (p : ℕ) (seat : PlaceSlot) (q : ℕ) (waiter : PartySlot)
     abbrev pub move : Move
     move = decide o (full h) (look h p)
 
-    effect : e ≡ effectOf move (look h p)
+    -- It is decided as from what the party looks at.
+    same : (b : Bool) → ticketed (readSlot (h .slots) p .phase) ≡ b
+        → (decide o (full h) (sightOf h p seat waiter) ≡ move)
+        × ((touches move ≡ true) → ticketed (readSlot (h .slots) p .phase) ≡ true)
+    unfolding seenBy
+    same true has = (ap (decide o (full h)) (looked h p seat q waiter r has), λ t. has)
+    same false has =
+        let u = unseen seat waiter (look h p) o (full h) has in
+        (u .0, λ t. never (sym t ∙ u .1))
+
+    effect : e ≡ effectOf move (sightOf h p (readSeat (h .places) (ticketOf (readSlot (h .slots) p .phase))) waiter)
     effect =
         is
-        ∙ ap (λ (s : Sight). effectOf (decide o (full h) s) s) (looked h p seat q waiter r)
+        ∙ ap₂ (λ (m : Move) (a : PlaceSlot). effectOf m (sightOf h p a waiter)) (same _ refl .0) (r .place)
 
     pub said : e .answer ≡ answerOf move
-    said = ap (λ (e : Effect). e .answer) effect ∙ told move (look h p)
+    said = ap (λ (e : Effect). e .answer) effect ∙ told move _
 
     -- The radios are moved by the answer, before the tidying or after it.
     pub left : (x : Pool) → x ≡ radiosAfter h p (e .answer)
@@ -146,7 +159,7 @@ module _ (h : Hub) (p : ℕ) (seat : PlaceSlot) (q : ℕ) (waiter : PartySlot)
     left x ex =
         ap₂ withPool (ex ∙ ap (radiosAfter h p) said)
         (ap (λ (e : Effect). tidiedBy (e .turns) (stored h p e)) effect
-        ∙ applied h p (r .size) move)
+        ∙ applied h p (r .size) waiter move (same _ refl .1))
 
     -- What the call answers and leaves, where the record fits and has the party.
     pub outcome-is : fits h ≡ true → ltb p (h .opening .parties) ≡ true → (x : Pool)

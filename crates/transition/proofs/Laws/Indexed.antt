@@ -11,7 +11,7 @@ use Rattle.hub.specs.declared.record.PartySlot.{PartySlot}
 use Rattle.hub.specs.declared.record.Phase.{Phase}
 use Rattle.hub.specs.declared.record.PlaceSlot.{PlaceSlot}
 use Rattle.hub.specs.Calls.{ringOf}
-use Rattle.hub.specs.Phases.{byTicket, byWaiter, ticketOf}
+use Rattle.hub.specs.Phases.{byWaiter, ticketOf}
 use Rattle.hub.specs.Record.{PARTIES, emptySeat, freeSlot, readSlot, writeSlot}
 use Rattle.hub.specs.Ring.{PLACES, Ring, readSeat, writeSeat, skip, retire}
 use Rattle.hub.specs.Table.{withResumed}
@@ -29,32 +29,19 @@ module _ (h : Hub) (p i : ℕ) (at : i ≡ ticketOf (readSlot (h .slots) p .phas
   unfolding readSeat
   there = ap (λ (j : ℕ). getD (h .places) j emptySeat) at
 
-  pub reads : (none seat : PlaceSlot) (q : ℕ) (waiter : PartySlot) → length (h .slots) ≡ PARTIES
-      → none ≡ emptySeat → seat ≡ byTicket none (λ t. getD (h .places) i emptySeat) phase
-      → q ≡ byWaiter PARTIES (λ n. n) (seat .place)
+  pub reads : (q : ℕ) (waiter : PartySlot) → length (h .slots) ≡ PARTIES
+      → q ≡ byWaiter PARTIES (λ n. n) (getD (h .places) i emptySeat .place)
       → waiter ≡ cond (ltb q PARTIES) (getD (h .slots) (q % PARTIES) freeSlot) freeSlot
-      → Reads h p seat q waiter
+      → Reads h p (getD (h .places) i emptySeat) q waiter
   unfolding readSlot
-  reads none seat q waiter size en es eq ew =
-      record {
-        size = size;
-        place =
-            es
-            ∙ ap₂ (λ (a b : PlaceSlot). byTicket a (λ t. b) phase) en there;
-        number = eq;
-        near = ew;
-      }
+  reads q waiter size eq ew = record { size = size; place = there; number = eq; near = ew }
 
-  -- The place b and the slots l are stored, the waiter's among them.
-  pub stores : (e : Effect) (b : PlaceSlot) (l : List PartySlot)
-      → b ≡ byTicket (getD (h .places) i emptySeat) (λ t. e .seat) phase
-      → l ≡ writeSlot (h .slots) (e .woken) (e .waiter)
-      → made h (e .figures) (set (h .places) i b) (writeSlot l p (e .slot)) ≡ stored h p e
+  -- The place and the slots l are stored, the waiter's among them.
+  pub stores : (e : Effect) (l : List PartySlot) → l ≡ writeSlot (h .slots) (e .woken) (e .waiter)
+      → made h (e .figures) (set (h .places) i (e .seat)) (writeSlot l p (e .slot)) ≡ stored h p e
   unfolding writeSeat
-  stores e b l eb el =
-      ap₂ (made h (e .figures))
-      (ap₂ (λ (j : ℕ) (a : PlaceSlot). set (h .places) j a) at
-      (eb ∙ ap (λ (a : PlaceSlot). byTicket a (λ t. e .seat) phase) there))
+  stores e l el =
+      ap₂ (made h (e .figures)) (ap (λ (j : ℕ). set (h .places) j (e .seat)) at)
       (ap (λ (k : List PartySlot). writeSlot k p (e .slot)) el)
 
 -- The tidying in two loops: the first moves the next ticket to resume, the second the oldest.

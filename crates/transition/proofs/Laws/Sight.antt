@@ -46,8 +46,7 @@ module _ (l : List PartySlot) (size : length l ≡ PARTIES) where
 -- The code read `there` at the index of the slot's ticket, and the waiter's slot by its number.
 pub record Reads (h : Hub) (p : ℕ) (seat : PlaceSlot) (q : ℕ) (waiter : PartySlot) : Type 0 where
   pub size : length (h .slots) ≡ PARTIES
-  pub place : let s = readSlot (h .slots) p in
-      seat ≡ byTicket emptySeat (λ t. readSeat (h .places) (ticketOf (s .phase))) (s .phase)
+  pub place : seat ≡ readSeat (h .places) (ticketOf (readSlot (h .slots) p .phase))
   pub number : q ≡ byWaiter PARTIES (λ n. n) (seat .place)
   pub near : waiter ≡ cond (ltb q PARTIES) (readSlot (h .slots) (q % PARTIES)) freeSlot
 
@@ -80,10 +79,12 @@ of-kind k s =
       stocked = s .stocked;
     }
 
+-- A party that has a ticket: that is what it looks at.
 pub looked : (h : Hub) (p : ℕ) (seat : PlaceSlot) (q : ℕ) (waiter : PartySlot)
-    → Reads h p seat q waiter → sightOf h p seat waiter ≡ look h p
+    → Reads h p seat q waiter → ticketed (readSlot (h .slots) p .phase) ≡ true
+    → sightOf h p seat waiter ≡ look h p
 unfolding seenBy
-looked h p seat q waiter r = λ i.
+looked h p seat q waiter r has = λ i.
     record {
       party = p;
       kind = kindOf p;
@@ -99,8 +100,9 @@ looked h p seat q waiter r = λ i.
     place : seat ≡ byTicket emptySeat (readSeat (h .places)) (readSlot (h .slots) p .phase)
     place =
         let f = readSlot (h .slots) p .phase in
-        r .place ∙ by-ticket emptySeat (λ t. readSeat (h .places) (ticketOf f)) f
-        ∙ sym (by-ticket emptySeat (readSeat (h .places)) f)
+        let a = readSeat (h .places) (ticketOf f) in
+        r .place
+        ∙ sym (by-ticket emptySeat (readSeat (h .places)) f ∙ ap (λ (b : Bool). cond b a emptySeat) has)
 
     stood : waiter ≡ byWaiter freeSlot (readSlot (h .slots)) (seat .place)
     stood =

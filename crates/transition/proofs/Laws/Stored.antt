@@ -24,6 +24,8 @@ use Rattle.table.specs.declared.effect.Effect.{Effect}
 use Rattle.table.specs.Effect.{effectOf, still as unmoved}
 use Rattle.transition.specs.Tidied.{tidiedBy}
 use Rattle.transition.proofs.Laws.Loops.{reclaimed-none}
+use Rattle.transition.proofs.Laws.Sight.{sightOf}
+use Rattle.transition.proofs.Laws.Unseen.{touches}
 
 -- Storing what was there changes nothing.
 pub same-seat : (l : List PlaceSlot) (t : ℕ) → writeSeat l t (readSeat l t) ≡ l
@@ -45,38 +47,12 @@ pub still : (l k : List PartySlot) (q p : ℕ) (x y : PartySlot) → k ≡ write
 unfolding writeSlot
 still l k q p x y e = length-set k p y ∙ ap length e ∙ length-set l q x
 
--- The places, with a put where the phase has a ticket, and what was there put back where not.
-abbrev pub putBack : List PlaceSlot → Phase → PlaceSlot → List PlaceSlot
-putBack l x a = writeSeat l (ticketOf x) (byTicket (readSeat l (ticketOf x)) (λ t. a) x)
-
-put-is : (l : List PlaceSlot) (x : Phase) (a : PlaceSlot)
-    → putBack l x a ≡ byTicket l (λ t. writeSeat l t a) x
-put-is l x a =
-    ap (writeSeat l (ticketOf x)) (by-ticket (readSeat l (ticketOf x)) (λ t. a) x)
-    ∙ go (ticketed x) ∙ sym (by-ticket l (λ t. writeSeat l t a) x)
-  where
-    go : (b : Bool)
-        → writeSeat l (ticketOf x) (cond b a (readSeat l (ticketOf x)))
-        ≡ cond b (writeSeat l (ticketOf x) a) l
-    go true = refl
-    go false = same-seat l (ticketOf x)
-
--- What a phase sees of its place, put there again.
-put-same : (l : List PlaceSlot) (x : Phase) → putBack l x (byTicket emptySeat (readSeat l) x) ≡ l
-put-same l x =
-    ap (λ (a : PlaceSlot). writeSeat l (ticketOf x) (byTicket (readSeat l (ticketOf x)) (λ t. a) x))
-    (by-ticket emptySeat (readSeat l) x)
-    ∙ ap (writeSeat l (ticketOf x))
-    (by-ticket (readSeat l (ticketOf x))
-    (λ t. cond (ticketed x) (readSeat l (ticketOf x)) emptySeat) x)
-    ∙ go (ticketed x)
-  where
-    go : (b : Bool)
-        → writeSeat l (ticketOf x)
-        (cond b (cond b (readSeat l (ticketOf x)) emptySeat) (readSeat l (ticketOf x)))
-        ≡ l
-    go true = same-seat l (ticketOf x)
-    go false = same-seat l (ticketOf x)
+-- A move that touches a place is one of a party that has a ticket: so storing there is putting.
+put-is : (l : List PlaceSlot) (x : Phase) (a : PlaceSlot) → ticketed x ≡ true
+    → writeSeat l (ticketOf x) a ≡ byTicket l (λ t. writeSeat l t a) x
+put-is l x a has =
+    sym (by-ticket l (λ t. writeSeat l t a) x
+    ∙ ap (λ (b : Bool). cond b (writeSeat l (ticketOf x) a) l) has)
 
 -- An effect gives the tidying at most 256 turns.
 turns-few : (m : Move) (s : Sight) → effectOf m s .turns ≤ 256
@@ -110,7 +86,7 @@ made h f a l =
 
 abbrev pub stored : Hub → ℕ → Effect → Hub
 stored h p e =
-    made h (e .figures) (putBack (h .places) (readSlot (h .slots) p .phase) (e .seat))
+    made h (e .figures) (writeSeat (h .places) (ticketOf (readSlot (h .slots) p .phase)) (e .seat))
     (writeSlot (writeSlot (h .slots) (e .woken) (e .waiter)) p (e .slot))
 
 pub tidied-all : (h : Hub) → tidiedBy PLACES h ≡ tidied h
@@ -126,32 +102,36 @@ module _ (h : Hub) (p : ℕ) (size : length (h .slots) ≡ PARTIES) where
   no-waker x s =
       ap (λ (l : List PartySlot). writeSlot l p s) (sym (nobody (h .slots) PARTIES x (omega arith)))
 
-  -- A move that changes nothing.
-  unchanged : (y : Answer) → tidiedBy 0 (stored h p (unmoved y (look h p))) ≡ h
-  unfolding seenBy
-  unchanged y =
-      tidied-none _
-      ∙ ap₂ (made h (h .figures)) (put-same (h .places) (readSlot (h .slots) p .phase))
-      (no-waker _ _ ∙ same-slot (h .slots) p)
+  -- A party that was shown the place of its ticket, which is that of ticket 0 if it has none.
+  module _ (waiter : PartySlot) where
+    abbrev x : Phase
+    x = readSlot (h .slots) p .phase
 
-  pub applied : (m : Move)
-      → let e = effectOf m (look h p) in
-      tidiedBy (e .turns) (stored h p e) ≡ apply h (look h p) m
-  unfolding seenBy apply
-  applied (Refuse r) = unchanged (Answer.Refused r)
-  applied (Tell y) = unchanged y
-  applied (Act c) =
-      tidied-all _
-      ∙ ap tidied
-      (ap₂ (made h (c .figures)) (put-same (h .places) (readSlot (h .slots) p .phase))
-      (no-waker _ _))
-  applied (Put a c) =
-      tidied-all _
-      ∙ ap tidied
-      (ap₂ (made h (c .figures)) (put-is (h .places) (readSlot (h .slots) p .phase) a)
-      (no-waker _ _))
-  applied (Wake q x a c) =
-      tidied-all _
-      ∙ ap tidied
-      (ap (λ (k : List PlaceSlot). made h (c .figures) k (writeSlot (writeSlot (h .slots) q x) p (c .slot)))
-      (put-is (h .places) (readSlot (h .slots) p .phase) a))
+    abbrev s : Sight
+    s = sightOf h p (readSeat (h .places) (ticketOf x)) waiter
+
+    -- A move that changes nothing.
+    unchanged : (y : Answer) → tidiedBy 0 (stored h p (unmoved y s)) ≡ h
+    unchanged y =
+        tidied-none _
+        ∙ ap₂ (made h (h .figures)) (same-seat (h .places) (ticketOf x))
+        (no-waker _ _ ∙ same-slot (h .slots) p)
+
+    pub applied : (m : Move) → ((touches m ≡ true) → ticketed x ≡ true)
+        → let e = effectOf m s in
+        tidiedBy (e .turns) (stored h p e) ≡ apply h (look h p) m
+    unfolding seenBy apply
+    applied (Refuse r) i = unchanged (Answer.Refused r)
+    applied (Tell y) i = unchanged y
+    applied (Act c) i =
+        tidied-all _
+        ∙ ap tidied
+        (ap₂ (made h (c .figures)) (same-seat (h .places) (ticketOf x)) (no-waker _ _))
+    applied (Put a c) i =
+        tidied-all _
+        ∙ ap tidied (ap₂ (made h (c .figures)) (put-is (h .places) x a (i refl)) (no-waker _ _))
+    applied (Wake q w a c) i =
+        tidied-all _
+        ∙ ap tidied
+        (ap (λ (k : List PlaceSlot). made h (c .figures) k (writeSlot (writeSlot (h .slots) q w) p (c .slot)))
+        (put-is (h .places) x a (i refl)))

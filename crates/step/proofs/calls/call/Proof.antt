@@ -8,7 +8,7 @@ use mathlib.Core.Logic.{⊎-elim}
 use native.Mathlib.Omega.{arith}
 use Prim.Native.Nat.{ℕ, _<_, _%_, _≤_}
 use lib.Dec.{ltb}
-use lib.ListN.{length, set}
+use lib.ListN.{length, getD, set}
 use Rattle.hub.specs.declared.moves.Op.{Op}
 use Rattle.hub.specs.declared.moves.Sight.{Sight}
 use Rattle.hub.specs.declared.record.Hub.{Hub}
@@ -21,7 +21,7 @@ use Rattle.hub.specs.Calls.{called, isFull, ringOf, withPool, withRing}
 use Rattle.hub.specs.Fits.{fits}
 use Rattle.hub.specs.Phases.{ticketOf}
 use Rattle.hub.specs.Radios.{handOf, moved}
-use Rattle.hub.specs.Record.{readSlot, writeSlot}
+use Rattle.hub.specs.Record.{emptySeat, readSlot, writeSlot}
 use Rattle.hub.specs.Ring.{PLACES, readSeat}
 use Rattle.hub.specs.Table.{decide}
 use Rattle.hub.proofs.Laws.Printed.{with-printed}
@@ -51,7 +51,7 @@ size c = search mapped-size
 
 -- The way back along the code; only these know how many steps lie between.
 abbrev tested : tie.After-slot-within → tie.Else2
-tested c = c .before .before .before .before .before .before .before .before
+tested c = c .before .before .before .before .before .before
 
 abbrev seen : tie.After-kind → tie.After-slot-within
 seen c = c .before .before .before
@@ -59,10 +59,10 @@ seen c = c .before .before .before
 abbrev kinded : tie.After-decide → tie.After-kind
 kinded c = c .before .before
 
-abbrev decided : tie.After-by-ticket2 → tie.After-decide
-decided c = c .before .before .before .before
+abbrev decided : tie.After-put → tie.After-decide
+decided c = c .before .before .before
 
-abbrev placed : tie.Joined4 → tie.After-by-ticket2
+abbrev placed : tie.Joined4 → tie.After-put
 placed c = c .before .before
 
 abbrev pooled : tie.After-first → tie.Joined4
@@ -86,26 +86,26 @@ within-slots : (c : tie.Else2) → party (c .before .before .before) < 32
 within-slots c = omega (arith, c .if2 .left, counts (c .before) .parties)
 
 -- What the code has read is what the party sees.
+abbrev ticketAt : tie.After-kind → ℕ
+ticketAt c = seen c .before .before .before .before .seat-index .result
+
 abbrev seat : tie.After-kind → PlaceSlot
-seat c = seen c .before .before .before .by-ticket .result
+seat c = getD (hub (start c) .places) (ticketAt c) emptySeat
 
 abbrev waiter : tie.After-kind → PartySlot
 waiter c = seen c .slot-within .result
 
 index : (c : tie.After-kind)
-    → seen c .before .before .before .before .before .before .seat-index .result
-    ≡ ticketOf (readSlot (hub (start c) .slots) (party (start c)) .phase) % PLACES
+    → ticketAt c ≡ ticketOf (readSlot (hub (start c) .slots) (party (start c)) .phase) % PLACES
 unfolding readSlot
-index c = seen c .before .before .before .before .before .before .seat-index .ensures
+index c = seen c .before .before .before .before .seat-index .ensures
 
 reading : (c : tie.After-kind)
     → Reads (hub (start c)) (party (start c)) (seat c) (seen c .before .before .waiter-at .result)
     (waiter c)
 unfolding readSlot
 reading c =
-    reads (hub (start c)) (party (start c)) _ (index c) _ _ _ _ (size (start c))
-    (seen c .before .before .before .before .empty-seat .ensures)
-    (seen c .before .before .before .by-ticket .ensures)
+    reads (hub (start c)) (party (start c)) _ (index c) _ _ (size (start c))
     (seen c .before .before .waiter-at .ensures) (seen c .slot-within .ensures)
 
 -- The effect is that of the call.
@@ -146,27 +146,23 @@ slots-set c =
     (c .if3 .came)
 
 -- The record after the stores.
-abbrev after : tie.After-by-ticket2 → Hub
+abbrev after : tie.After-put → Hub
 after c =
-    let g = c .before .before .before .if3 .hub in
+    let g = c .before .before .if3 .hub in
     let e = decided c .decide .result in
-    made g (e .figures)
-    (set (g .places)
-    (seen (kinded (decided c)) .before .before .before .before .before .before .seat-index .result)
-    (c .by-ticket2 .result))
+    made g (e .figures) (set (g .places) (ticketAt (kinded (decided c))) (e .seat))
     (writeSlot (g .slots) (party (begin (decided c))) (e .slot))
 
-is-stored : (c : tie.After-by-ticket2)
+is-stored : (c : tie.After-put)
     → after c ≡ stored (hub (begin (decided c))) (party (begin (decided c))) (decided c .decide .result)
 unfolding readSlot
 is-stored c =
     let d = decided c in
     let h = hub (begin d) in
     let e = d .decide .result in
-    let i = seen (kinded d) .before .before .before .before .before .before .seat-index .result in
-    ap (λ (g : Hub). made g (e .figures) (set (g .places) i (c .by-ticket2 .result))
-    (writeSlot (g .slots) (party (begin d)) (e .slot))) (slots-set (c .before .before .before))
-    ∙ stores h (party (begin d)) i (index (kinded d)) e _ _ (c .by-ticket2 .ensures) refl
+    ap (λ (g : Hub). made g (e .figures) (set (g .places) (ticketAt (kinded d)) (e .seat))
+    (writeSlot (g .slots) (party (begin d)) (e .slot))) (slots-set (c .before .before))
+    ∙ stores h (party (begin d)) _ (index (kinded d)) e _ refl
 
 -- The radio that the answer moves, on a hub with radios.
 moves : (c : tie.Joined4)
@@ -179,7 +175,7 @@ moves c =
     let h = hub (begin d) in
     let p = party (begin d) in
     let y = printed (d .decide .result .answer) in
-    let s = slots-set (placed c .before .before .before) in
+    let s = slots-set (placed c .before .before) in
     let named = sym (ap (λ (g : Hub). g .opening .named) s) in
     let pool = ap (λ (g : Hub). g .pool) s in
     ⊎-elim
@@ -226,17 +222,11 @@ element-copy-out-slot c = within-slots c
 seat-index-requires : tie.Need-seat-index-requires
 seat-index-requires c κs = search needs
 
-mul-there : tie.Need-mul-there
-mul-there c = search needs
+mul-seat : tie.Need-mul-seat
+mul-seat c = search needs
 
-element-copy-out-there : tie.Need-element-copy-out-there
-element-copy-out-there c = search needs
-
-empty-seat-requires : tie.Need-empty-seat-requires
-empty-seat-requires c κs = search needs
-
-by-ticket-requires : tie.Need-by-ticket-requires
-by-ticket-requires c κs = search needs
+element-copy-out-seat : tie.Need-element-copy-out-seat
+element-copy-out-seat c = search needs
 
 waiter-at-requires : tie.Need-waiter-at-requires
 waiter-at-requires c κs = search needs
@@ -279,20 +269,17 @@ mul-own c = omega (arith, within-slots (tested (seen (kinded (c .before .before)
 element-set-from-own : tie.Need-element-set-from-own
 element-set-from-own c = omega (arith, within-slots (tested (seen (kinded (c .before .before)))))
 
-by-ticket-requires-2 : tie.Need-by-ticket-requires-2
-by-ticket-requires-2 c κs = search needs
+mul-put : tie.Need-mul-put
+mul-put c = search needs
 
-mul-next : tie.Need-mul-next
-mul-next c = search needs
-
-element-set-from-next : tie.Need-element-set-from-next
-element-set-from-next c = search needs
+element-set-from-put : tie.Need-element-set-from-put
+element-set-from-put c = search needs
 
 move-radio-requires : tie.Need-move-radio-requires
 move-radio-requires c κs =
     let b = c .before .before .before in
     let d = decided b in
-    let s = slots-set (b .before .before .before) in
+    let s = slots-set (b .before .before) in
     omega (
       arith,
       ap (λ (g : Hub). g .pool .stored) s,
@@ -306,8 +293,8 @@ cast-r c = search needs
 cast-o : tie.Need-cast-o
 cast-o c = search needs
 
-mul-next-2 : tie.Need-mul-next-2
-mul-next-2 c = search needs
+mul-next : tie.Need-mul-next
+mul-next c = search needs
 
 element-copy-out-next : tie.Need-element-copy-out-next
 element-copy-out-next c = search needs
@@ -357,10 +344,8 @@ call-spec =
     mul-slot
     element-copy-out-slot
     seat-index-requires
-    mul-there
-    element-copy-out-there
-    empty-seat-requires
-    by-ticket-requires
+    mul-seat
+    element-copy-out-seat
     waiter-at-requires
     cast-w
     mul-near
@@ -374,13 +359,12 @@ call-spec =
     element-set-from-woke
     mul-own
     element-set-from-own
-    by-ticket-requires-2
-    mul-next
-    element-set-from-next
+    mul-put
+    element-set-from-put
     move-radio-requires
     cast-r
     cast-o
-    mul-next-2
+    mul-next
     element-copy-out-next
     mul-first
     element-copy-out-first

@@ -19,6 +19,9 @@ placed-requires c κs = search needs
 enum-known-place : tie.Need-enum-known-place
 enum-known-place c = search needs
 
+cast-resume-waiter : tie.Need-cast-resume-waiter
+cast-resume-waiter c = search needs
+
 resume-waiter-requires : tie.Need-resume-waiter-requires
 resume-waiter-requires c κs = search needs
 
@@ -73,6 +76,7 @@ step-resuming-at-spec =
     enum-told
     placed-requires
     enum-known-place
+    cast-resume-waiter
     resume-waiter-requires
     enum-told-2
     placed-requires-2

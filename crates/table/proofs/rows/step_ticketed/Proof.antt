@@ -12,9 +12,6 @@ use Rattle.table.proofs.rows.step_ticketed.Tie as tie
 enum-told : tie.Need-enum-told
 enum-told c = search needs
 
-cast-party : tie.Need-cast-party
-cast-party c = search needs
-
 placed-requires : tie.Need-placed-requires
 placed-requires c κs = search needs
 
@@ -29,7 +26,7 @@ refused-requires c κs = search needs
 
 returns : tie.Need-returns
 unfolding stepTicketed
-returns c = let e = c .before .before .enum-told .given .1 in rw e (c .placed .ensures)
+returns c = let e = c .before .enum-told .given .1 in rw e (c .placed .ensures)
 
 returns-2 : tie.Need-returns-2
 unfolding stepTicketed
@@ -50,7 +47,6 @@ step-ticketed-spec =
     tie.close
     (tie.spec
     enum-told
-    cast-party
     placed-requires
     enum-told-2
     placed-requires-2

@@ -11,6 +11,9 @@ use Rattle.transition.proofs.sight.waiter_at.Tie as tie
 enum-known-place : tie.Need-enum-known-place
 enum-known-place c = search needs
 
+cast-result : tie.Need-cast-result
+cast-result c = search needs
+
 returns : tie.Need-returns
 returns c = search needs
 
@@ -18,4 +21,4 @@ returns-2 : tie.Need-returns-2
 returns-2 c = place-arm (0 ∷ 2 ∷ 3 ∷ 4 ∷ 5 ∷ []) (byWaiter PARTIES (λ q. q)) (c .before .args .seat .place) refl (c .match .keys2)
 
 pub waiter-at-spec : {M : Type 1} → statement M
-waiter-at-spec = tie.close (tie.spec enum-known-place returns returns-2)
+waiter-at-spec = tie.close (tie.spec enum-known-place cast-result returns returns-2)

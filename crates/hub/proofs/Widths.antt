@@ -1,0 +1,283 @@
+-- No call writes a party that is not below n, so that on parties up to 255 a byte does what 32 bits did.
+use Prim.Native.Nat.{ℕ, zero, suc, _%_, _≤_}
+use mathlib.Core.Bool.{Bool, true, false, cond, _&&_}
+use mathlib.Core.List.{List, [], _∷_, map}
+use mathlib.Core.Path.{_≡_, refl, sym, ap, ap₂, subst, _∙_}
+use native.Mathlib.Omega.{arith}
+use borrow.Author.Tests.{leb-true, le-leb, ltb-true}
+use lib.Dec.{leb, ltb}
+use lib.ListN.{getD, set}
+use Rattle.hub.specs.declared.moves.Call.{Call}
+use Rattle.hub.specs.declared.moves.Op.{Op}
+use Rattle.hub.specs.declared.moves.Sight.{Sight}
+use Rattle.hub.specs.declared.record.Hub.{Hub}
+use Rattle.hub.specs.declared.record.Phase.{Phase}
+use Rattle.hub.specs.declared.record.Place.{Place}
+use Rattle.hub.specs.declared.record.PlaceSlot.{PlaceSlot}
+use Rattle.hub.specs.Basics.{allFrom}
+use Rattle.hub.specs.Calls.{apply, called, checked, isFull, moveOf, tidied}
+use Rattle.hub.specs.Fits.{figuresClauses, figuresFit, fits, partyFits, placeFits, radiosFit}
+use Rattle.hub.specs.Look.{look, seenBy}
+use Rattle.hub.specs.Moves.{Move, Refuse, Tell, Act, Put, Wake}
+use Rattle.hub.specs.Phases.{byTicket, byWaiter, ticketOf}
+use Rattle.hub.specs.Record.{PARTIES, emptySeat, withPlace}
+use Rattle.hub.specs.Ring.{PLACES, Ring, canRetire, canSkip, retire, retired, skip, skipped, writeSeat}
+use Rattle.hub.specs.Table.{acquire, cancel, decide, release, resumeWaiter, stepAborting, stepAcquiring}
+use Rattle.hub.specs.Table.{stepCancelling, stepFetching, stepIn, stepRefusing, stepReleasing}
+use Rattle.hub.specs.Table.{stepResuming, stepResumingAt, stepStoring, stepSuspending, stepTicketed}
+use Rattle.hub.specs.Table.{tellRadio}
+use Rattle.hub.specs.Widths.{BYTE, NoLarger, SameCalls, SameIn, UpTo, WORD, calledIn, keptIn, writtenIn}
+use Rattle.hub.proofs.Laws.Bools.{clause, first, second}
+use Rattle.hub.proofs.Laws.Phases.{by-ticket, every-place, ticketed}
+
+-- A place with a party up to 255; all places of a list.
+abbrev Small : Place → Type 0
+Small a = byWaiter true (λ q. leb q 255) a ≡ true
+
+abbrev AllSmall : List PlaceSlot → Type 0
+AllSmall l = (i : ℕ) → Small (getD l i emptySeat .place)
+
+-- Of a place with a party up to 255 a width that has room for it keeps all.
+module _ (n : ℕ) (room : (q : ℕ) → q ≤ 255 → q % n ≡ q) where
+  same-place : (a : Place) → Small a → writtenIn n a ≡ a
+  same-place Place.Empty s = refl
+  same-place (Place.Waiting q) s = ap Place.Waiting (room q (leb-true q 255 s))
+  same-place Place.Permit s = refl
+  same-place Place.Cancelled s = refl
+  same-place Place.Refused s = refl
+  same-place Place.Done s = refl
+
+  same-places : (l : List PlaceSlot) → AllSmall l → map (λ s. withPlace (writtenIn n (s .place)) s) l ≡ l
+  same-places [] s = refl
+  same-places (x ∷ l) s =
+      ap₂ (λ (a : Place) (k : List PlaceSlot). record { place = a } ∷ k) (same-place (x .place) (s zero))
+      (same-places l (λ i. s (suc i)))
+
+  same-hub : (h : Hub) → UpTo 255 h → keptIn n h ≡ h
+  same-hub h s =
+      ap (λ (l : List PlaceSlot). record {
+        opening = h .opening;
+        figures = h .figures;
+        oldest = h .oldest;
+        places = l;
+        slots = h .slots;
+        pool = h .pool;
+      }) (same-places (h .places) s)
+
+-- Storing a small place.
+set-small : (l : List PlaceSlot) (k : ℕ) (a : PlaceSlot) → AllSmall l → Small (a .place)
+    → AllSmall (set l k a)
+set-small [] k a s m i = s i
+set-small (x ∷ l) zero a s m zero = m
+set-small (x ∷ l) zero a s m (suc i) = s (suc i)
+set-small (x ∷ l) (suc k) a s m zero = s zero
+set-small (x ∷ l) (suc k) a s m (suc i) = set-small l k a (λ j. s (suc j)) m i
+
+seat-small : (l : List PlaceSlot) (t : ℕ) (a : PlaceSlot) → AllSmall l → Small (a .place)
+    → AllSmall (writeSeat l t a)
+unfolding writeSeat
+seat-small l t a s m = set-small l (t % PLACES) a s m
+
+-- The tidying writes done and empty.
+either : (b : Bool) (r s : Ring) → AllSmall (r .places) → AllSmall (s .places)
+    → AllSmall (cond b r s .places)
+either true r s x y = x
+either false r s x y = y
+
+skip-small : (n : ℕ) (r : Ring) → AllSmall (r .places) → AllSmall (skip n r .places)
+unfolding skip
+skip-small zero r s = s
+skip-small (suc n) r s =
+    either (canSkip r) (skip n (skipped r)) r
+    (skip-small n (skipped r) (seat-small (r .places) (r .resumed) _ s refl)) s
+
+retire-small : (n : ℕ) (r : Ring) → AllSmall (r .places) → AllSmall (retire n r .places)
+unfolding retire
+retire-small zero r s = s
+retire-small (suc n) r s =
+    either (canRetire r) (retire n (retired r)) r
+    (retire-small n (retired r) (seat-small (r .places) (r .oldest) _ s refl)) s
+
+tidied-small : (h : Hub) → UpTo 255 h → UpTo 255 (tidied h)
+unfolding tidied
+tidied-small h s = retire-small PLACES _ (skip-small PLACES _ s)
+
+-- The place that a move writes, if it writes one.
+abbrev Writes : Move → Type 0
+Writes (Refuse r) = Unit {0}
+Writes (Tell y) = Unit {0}
+Writes (Act c) = Unit {0}
+Writes (Put a c) = Small (a .place)
+Writes (Wake q x a c) = Small (a .place)
+
+put-small : (l : List PlaceSlot) (f : Phase) (a : PlaceSlot) → AllSmall l → Small (a .place)
+    → AllSmall (byTicket l (λ t. writeSeat l t a) f)
+put-small l f a s m =
+    subst AllSmall (sym (by-ticket l (λ t. writeSeat l t a) f)) (go (ticketed f))
+  where
+    go : (b : Bool) → AllSmall (cond b (writeSeat l (ticketOf f) a) l)
+    go true = seat-small l (ticketOf f) a s m
+    go false = s
+
+applied-small : (h : Hub) (s : Sight) (m : Move) → UpTo 255 h → Writes m → UpTo 255 (apply h s m)
+unfolding apply
+applied-small h s (Refuse r) u w = u
+applied-small h s (Tell y) u w = u
+applied-small h s (Act c) u w = tidied-small _ u
+applied-small h s (Put a c) u w = tidied-small _ (put-small (h .places) (s .slot .phase) a u w)
+applied-small h s (Wake q x a c) u w = tidied-small _ (put-small (h .places) (s .slot .phase) a u w)
+
+-- The table writes no party but the caller's.
+module _ (s : Sight) (few : s .party ≤ 255) where
+  acquiring : (x : Phase) (b : Bool) → Writes (stepAcquiring x b s)
+  unfolding stepAcquiring
+  acquiring x true = tt
+  acquiring x false = tt
+
+  ticketing : (x : Phase) (t : ℕ) (a : Place) → Writes (stepTicketed x t a s)
+  unfolding stepTicketed
+  ticketing x t =
+      every-place (λ a. Writes (stepTicketed x t a s))
+      (λ q. (le-leb (s .party) 255 few, (tt, (refl, (tt, (tt, (tt, tt)))))))
+
+  aborting : (t : ℕ) (b : Bool) → Writes (stepAborting t b s)
+  unfolding stepAborting
+  aborting t true = tt
+  aborting t false = tt
+
+  cancelling : (t : ℕ) (a : Place) → Writes (stepCancelling t a s)
+  unfolding stepCancelling
+  cancelling t = every-place (λ a. Writes (stepCancelling t a s)) (λ q. (tt, (refl, (refl, (tt, (tt, (tt, tt)))))))
+
+  refusing : (t : ℕ) (a : Place) → Writes (stepRefusing t a s)
+  unfolding stepRefusing
+  refusing t = every-place (λ a. Writes (stepRefusing t a s)) (λ q. (tt, (refl, (refl, (tt, (tt, (tt, tt)))))))
+
+  releasing : (b : Bool) → Writes (stepReleasing b s)
+  unfolding stepReleasing
+  releasing true = tt
+  releasing false = tt
+
+  resumed : (b : Bool) (q t : ℕ) → Writes (resumeWaiter b q t s)
+  unfolding resumeWaiter
+  resumed true q t = refl
+  resumed false q t = refl
+
+  resuming : (t : ℕ) (a : Place) → Writes (stepResumingAt t a s)
+  unfolding stepResumingAt
+  resuming t =
+      every-place (λ a. Writes (stepResumingAt t a s)) (λ q. (refl, (resumed _ q t, (tt, (refl, (refl, (tt, tt)))))))
+
+  fetching : (b : Bool) → Writes (stepFetching b s)
+  unfolding stepFetching
+  fetching true = tt
+  fetching false = tt
+
+  stepping : (f : Phase) → Writes (stepIn f s)
+  unfolding stepIn stepSuspending stepResuming stepStoring
+  stepping Phase.Free = tt
+  stepping Phase.Holding = tt
+  stepping (Phase.Waiting t) = tt
+  stepping Phase.Acquiring = acquiring _ _
+  stepping Phase.Suspending = tt
+  stepping (Phase.Ticketed t) = ticketing _ t _
+  stepping (Phase.Aborting t) = aborting t _
+  stepping (Phase.Cancelling t) = cancelling t _
+  stepping (Phase.Refusing t) = refusing t _
+  stepping Phase.Releasing = releasing _
+  stepping Phase.Resuming = tt
+  stepping (Phase.ResumingAt t) = resuming t _
+  stepping Phase.Fetching = fetching _
+  stepping Phase.Storing = tt
+  stepping Phase.AcquiringMarked = acquiring _ _
+  stepping Phase.SuspendingMarked = tt
+  stepping (Phase.TicketedMarked t) = ticketing _ t _
+
+  asking : (f e full : Bool) → Writes (acquire f e full s)
+  unfolding acquire
+  asking false e full = tt
+  asking true true full = tt
+  asking true false true = tt
+  asking true false false = tt
+
+  giving-up : (c k : Bool) (x : Phase) → Writes (cancel c k x s)
+  unfolding cancel
+  giving-up false k x = tt
+  giving-up true true x = tt
+  giving-up true false x = tt
+
+  giving-back : (b : Bool) → Writes (release b s)
+  unfolding release
+  giving-back false = tt
+  giving-back true = tt
+
+  telling : (b : Bool) → Writes (tellRadio b s)
+  unfolding tellRadio
+  telling true = tt
+  telling false = tt
+
+  decided : (o : Op) (full : Bool) → Writes (decide o full s)
+  unfolding decide
+  decided Op.Acquire full = asking _ _ full
+  decided Op.Step full = stepping _
+  decided Op.Cancel full = giving-up _ _ _
+  decided Op.Release full = giving-back _
+  decided Op.Radio full = telling _
+
+-- A caller that is not refused is below n, and n is at most 32.
+few-parties : (h : Hub) → fits h ≡ true → h .opening .parties ≤ 32
+unfolding fits figuresFit
+few-parties h e =
+    let parties = allFrom (partyFits h) 0 PARTIES in
+    let places = allFrom (placeFits h) (h .oldest) PLACES in
+    let f = figuresFit (h .opening) (h .figures) (h .oldest) in
+    let all = first f parties (first (f && parties) places (first (f && parties && places) (radiosFit h) e)) in
+    let n = clause 1 (figuresClauses (h .opening) (h .figures) (h .oldest)) all in
+    leb-true (h .opening .parties) 32 (second (leb 1 (h .opening .parties)) _ n)
+
+moved-small : (h : Hub) (c : Call) → Writes (moveOf h c)
+unfolding checked seenBy
+moved-small h c = go (fits h) refl (ltb (c .party) (h .opening .parties)) refl
+  where
+    go : (a : Bool) → fits h ≡ a → (b : Bool) → ltb (c .party) (h .opening .parties) ≡ b
+        → Writes (checked a b
+        (decide (c .op) (isFull (h .oldest) (h .figures .issued) (h .slots)) (look h (c .party))))
+    go false e b f = tt
+    go true e false f = tt
+    go true e true f =
+        decided (look h (c .party))
+        (omega (arith, few-parties h e, ltb-true (c .party) (h .opening .parties) f)) (c .op) _
+
+called-small : (h : Hub) (c : Call) → UpTo 255 h → UpTo 255 (called h c .hub)
+called-small h c u = applied-small h (look h (c .party)) (moveOf h c) u (moved-small h c)
+
+module _ (n : ℕ) (room : (q : ℕ) → q ≤ 255 → q % n ≡ q) (h : Hub) (u : UpTo 255 h) (c : Call) where
+  same-call : calledIn n h c ≡ called h c
+  same-call =
+      ap (λ (g : Hub). record { answer = called g c .answer; hub = keptIn n (called g c .hub) })
+      (same-hub n room h u)
+      ∙ ap (λ (g : Hub). record { answer = called h c .answer; hub = g })
+      (same-hub n room (called h c .hub) (called-small h c u))
+
+pub same-calls : SameCalls
+unfolding SameCalls
+same-calls h u c =
+    record {
+      word = same-call WORD (λ q l. omega arith) h u c;
+      byte = same-call BYTE (λ q l. omega arith) h u c;
+      again = called-small h c u;
+    }
+
+written-small : (a : Place) → Small (writtenIn BYTE a)
+written-small =
+    every-place (λ a. Small (writtenIn BYTE a))
+    (λ q. (refl, (le-leb (q % BYTE) 255 (omega arith), (refl, (refl, (refl, (refl, tt)))))))
+
+pub no-larger : NoLarger
+unfolding NoLarger
+no-larger h = go (h .places)
+  where
+    go : (l : List PlaceSlot) → AllSmall (map (λ s. withPlace (writtenIn BYTE (s .place)) s) l)
+    go [] i = refl
+    go (x ∷ l) zero = written-small (x .place)
+    go (x ∷ l) (suc i) = go l i
