@@ -2,4 +2,3 @@
 pub mod Bytes
 pub mod Ending
 pub mod Rested
-pub mod Plan  -- what an operation comes to, as the code decides and stores it

@@ -1,8 +1,6 @@
 // Whole operations on a hub just opened: ask, give up, give back, each with the steps that it takes until
 // everybody is at rest again. The steps are not walked: what they come to is stored in place.
 
-mod plan; // what an operation comes to
-
 use hub::kinds;
 use hub::opening::open_hub;
 use hub::record::Hub;

@@ -7,7 +7,7 @@ use lib.Dec.{eqb}
 use Rattle.line.specs.Frame.{opOf}
 use Rattle.operations.specs.AtRest.{isOperation}
 use Rattle.operate.specs.Bytes.{isOperationCode}
-use Rattle.operate.specs.Plan.{operationOf}
+use Rattle.plan.specs.Plan.{operationOf}
 
 -- What holds of the three holds of each that passes the test.
 pub among-three : (P : ℕ → Type 0) → P 0x10 → P 0x12 → P 0x13

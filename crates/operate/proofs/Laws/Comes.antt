@@ -31,11 +31,11 @@ use Rattle.operations.specs.declared.Operated.{Operated}
 use Rattle.operations.specs.AtRest.{acquired, byMove, cancelled, operatedAtRest, released}
 use Rattle.transition.specs.Tidied.{tidiedBy}
 use Rattle.transition.proofs.Laws.Stored.{nobody, same-seat, same-slot, tidied-all, tidied-none}
-use Rattle.operate.specs.declared.plan.Plan.{Plan}
-use Rattle.operate.specs.declared.plan.Seen.{Seen}
+use Rattle.plan.specs.declared.Plan.{Plan}
+use Rattle.plan.specs.declared.Seen.{Seen}
 use Rattle.operate.specs.Bytes.{isOperationCode}
-use Rattle.operate.specs.Plan.{asked, given, planAcquire, planCancel, planOf, planRelease, radioBy}
-use Rattle.operate.specs.Plan.{refusedBy, ticketFor}
+use Rattle.plan.specs.Plan.{asked, given, planAcquire, planCancel, planOf, planRelease, radioBy}
+use Rattle.plan.specs.Plan.{refusedBy, ticketFor}
 use Rattle.operate.proofs.Laws.Codes.{among-three}
 
 -- At rest only a wait can be given up.

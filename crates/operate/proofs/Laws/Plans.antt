@@ -9,9 +9,9 @@ use Rattle.hub.specs.Phases.{isFree, isHolding, isWaiting}
 use Rattle.hub.specs.Record.{MAX-BEGUN}
 use Rattle.hub.specs.Table.{aboveZero, belowZero}
 use Rattle.transition.specs.Room.{fullFor}
-use Rattle.operate.specs.declared.plan.Plan.{Plan}
-use Rattle.operate.specs.declared.plan.Seen.{Seen}
-use Rattle.operate.specs.Plan.{byCode, operationOf, planAcquire, planCancel, planOf, planRelease}
+use Rattle.plan.specs.declared.Plan.{Plan}
+use Rattle.plan.specs.declared.Seen.{Seen}
+use Rattle.plan.specs.Plan.{byCode, operationOf, planAcquire, planCancel, planOf, planRelease}
 
 -- What holds of the three plans holds of the one that the code chooses.
 by-code : {A : Type 0} (P : A → Type 0) {a b d : A} → P a → P b → P d → (c : ℕ) → P (byCode a b d c)

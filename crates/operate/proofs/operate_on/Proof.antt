@@ -40,10 +40,10 @@ use Rattle.transition.proofs.Laws.Loops.{skipping-stop, skipping-end}
 use Rattle.transition.proofs.Laws.Loops.{Retiring, retiring, retiring-on, retiring-stop, retiring-end}
 use Rattle.transition.proofs.Laws.Radios.{few-stored, with-radios, without-radios}
 use Rattle.transition.proofs.Laws.Stored.{nobody, still}
-use Rattle.operate.specs.declared.plan.Plan.{Plan}
-use Rattle.operate.specs.declared.plan.Seen.{Seen}
+use Rattle.plan.specs.declared.Plan.{Plan}
+use Rattle.plan.specs.declared.Seen.{Seen}
 use Rattle.operate.specs.Bytes.{answerBytes, isOperationCode}
-use Rattle.operate.specs.Plan.{planOf, radioBy, ticketFor}
+use Rattle.plan.specs.Plan.{planOf, radioBy, ticketFor}
 use Rattle.operate.proofs.Laws.Answers.{Upto, answer-part, answered, callAt, code-here, codeAt, ended, start}
 use Rattle.operate.proofs.Laws.Answers.{whole-answer, whole-operation}
 use Rattle.operate.proofs.Laws.Codes.{an-operation}

@@ -5,8 +5,8 @@ use lib.IntN.{ℤ}
 use Rattle.hub.specs.declared.record.Figures.{Figures}
 use Rattle.table.proofs.Laws.Counter.{less, less-fits}
 use borrow.Author.Needs.{needs}
-use Rattle.operate.proofs.plan.asked.Statement.{statement}
-use Rattle.operate.proofs.plan.asked.Tie as tie
+use Rattle.plan.proofs.asked.Statement.{statement}
+use Rattle.plan.proofs.asked.Tie as tie
 
 sub-counter : tie.Need-sub-counter
 sub-counter c = less-fits (c .before .before .args .figures .counter) (c .before .before .pre .0)

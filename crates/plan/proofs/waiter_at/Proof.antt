@@ -4,8 +4,8 @@ use mathlib.Core.List.{[], _∷_}
 use Rattle.hub.proofs.Laws.Phases.{place-arm}
 use Rattle.hub.specs.Phases.{byWaiter}
 use borrow.Author.Needs.{needs}
-use Rattle.operate.proofs.plan.waiter_at.Statement.{statement}
-use Rattle.operate.proofs.plan.waiter_at.Tie as tie
+use Rattle.plan.proofs.waiter_at.Statement.{statement}
+use Rattle.plan.proofs.waiter_at.Tie as tie
 
 enum-known-place : tie.Need-enum-known-place
 enum-known-place c = search needs

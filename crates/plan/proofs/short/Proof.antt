@@ -1,8 +1,8 @@
 -- `short` meets its contract, by those of the steps and the slot.
 use mathlib.Core.Path.{_≡_}
 use borrow.Author.Needs.{needs}
-use Rattle.operate.proofs.plan.short.Statement.{statement}
-use Rattle.operate.proofs.plan.short.Tie as tie
+use Rattle.plan.proofs.short.Statement.{statement}
+use Rattle.plan.proofs.short.Tie as tie
 
 one-step-requires : tie.Need-one-step-requires
 one-step-requires c κs = search needs

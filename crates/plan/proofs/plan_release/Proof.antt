@@ -9,10 +9,10 @@ use Rattle.hub.specs.Phases.{isHolding, isOneOf}
 use Rattle.hub.specs.Ring.{PLACES}
 use Rattle.hub.specs.Table.{belowZero}
 use Rattle.table.proofs.Laws.Counter.{sign}
-use Rattle.operate.specs.Plan.{planRelease, short}
+use Rattle.plan.specs.Plan.{planRelease, short}
 use borrow.Author.Needs.{needs}
-use Rattle.operate.proofs.plan.plan_release.Statement.{statement}
-use Rattle.operate.proofs.plan.plan_release.Tie as tie
+use Rattle.plan.proofs.plan_release.Statement.{statement}
+use Rattle.plan.proofs.plan_release.Tie as tie
 
 enum-told : tie.Need-enum-told
 enum-told c = search needs

@@ -12,8 +12,8 @@ use Rattle.hub.specs.Phases.{byWaiter, isFree, isHolding, isWaiting, ticketOf}
 use Rattle.hub.specs.Record.{MAX-BEGUN, withPhase, withPlace}
 use Rattle.hub.specs.Ring.{PLACES}
 use Rattle.hub.specs.Table.{aboveZero, belowZero}
-use Rattle.operate.specs.declared.plan.Plan.{Plan}
-use Rattle.operate.specs.declared.plan.Seen.{Seen}
+use Rattle.plan.specs.declared.Plan.{Plan}
+use Rattle.plan.specs.declared.Seen.{Seen}
 
 -- By the code of an operation: 10, 12, and what is left of the three.
 abbrev pub byCode : {A : Type 0} → A → A → A → ℕ → A

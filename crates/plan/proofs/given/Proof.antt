@@ -3,8 +3,8 @@ use mathlib.Core.Path.{ap}
 use lib.IntN.{ℤ}
 use Rattle.hub.specs.declared.record.Figures.{Figures}
 use Rattle.table.proofs.Laws.Counter.{more, more-fits}
-use Rattle.operate.proofs.plan.given.Statement.{statement}
-use Rattle.operate.proofs.plan.given.Tie as tie
+use Rattle.plan.proofs.given.Statement.{statement}
+use Rattle.plan.proofs.given.Tie as tie
 
 add-counter : tie.Need-add-counter
 add-counter c = more-fits (c .before .before .args .figures .counter) (c .before .before .pre)

@@ -6,10 +6,10 @@ use mathlib.Core.List.{[], _∷_}
 use Rattle.hub.proofs.Laws.Phases.{allBut, phase-arm}
 use Rattle.hub.specs.Phases.{isOneOf, isWaiting}
 use Rattle.hub.specs.Ring.{PLACES}
-use Rattle.operate.specs.Plan.{planCancel}
+use Rattle.plan.specs.Plan.{planCancel}
 use borrow.Author.Needs.{needs}
-use Rattle.operate.proofs.plan.plan_cancel.Statement.{statement}
-use Rattle.operate.proofs.plan.plan_cancel.Tie as tie
+use Rattle.plan.proofs.plan_cancel.Statement.{statement}
+use Rattle.plan.proofs.plan_cancel.Tie as tie
 
 enum-told : tie.Need-enum-told
 enum-told c = search needs

@@ -21,8 +21,8 @@ ghost use Rattle.hub.specs.Phases.{byWaiter, isFree, isHolding, isWaiting};
 ghost use Rattle.hub.specs.Record.{MAX-BEGUN, withPlace};
 ghost use Rattle.hub.specs.Table.{aboveZero, belowZero};
 ghost use Rattle.table.specs.Small.{CounterFits};
-ghost use Rattle.operate.specs.Plan.{asked, given, operationOf, planAcquire, planCancel, planOf};
-ghost use Rattle.operate.specs.Plan.{planRelease, radioBy, refusedBy, short, ticketFor};
+ghost use Rattle.plan.specs.Plan.{asked, given, operationOf, planAcquire, planCancel, planOf};
+ghost use Rattle.plan.specs.Plan.{planRelease, radioBy, refusedBy, short, ticketFor};
 
 // What an operation looks at.
 pub struct Seen {
@@ -46,7 +46,7 @@ pub struct Plan {
 }
 
 // The operation of a code; give back is what is left of the three.
-pub(crate) fn operation_of(code: u8) -> Op
+pub fn operation_of(code: u8) -> Op
     ensures { λ r. ⌜ r ≡ operationOf code ⌝ }
 {
     if code == 0x10 {
@@ -59,7 +59,7 @@ pub(crate) fn operation_of(code: u8) -> Op
 }
 
 // The ticket whose place it is about: the next that is drawn, the party's own, the next that is resumed.
-pub(crate) fn ticket_for(code: u8, slot: PartySlot, figures: Figures) -> u32
+pub fn ticket_for(code: u8, slot: PartySlot, figures: Figures) -> u32
     ensures { λ r. ⌜ r ≡ ticketFor code (slot .phase) figures ⌝ }
 {
     if code == 0x10 {
@@ -244,7 +244,7 @@ fn plan_release(s: Seen) -> Plan
 }
 
 // `full`: is there no place for one more ticket? Only an ask looks at it.
-pub(crate) fn plan_for(code: u8, full: bool, s: Seen) -> Plan
+pub fn plan_for(code: u8, full: bool, s: Seen) -> Plan
     requires { ⌜ CounterFits (s .figures .counter) × (s .figures .issued ≤ 1000000) × (s .figures .resumed ≤ 1000000) ⌝ }
     ensures { λ r. ⌜ r ≡ planOf code full s ⌝ }
 {
@@ -258,7 +258,7 @@ pub(crate) fn plan_for(code: u8, full: bool, s: Seen) -> Plan
 }
 
 // On a hub with radios: the answer that the radio goes by.
-pub(crate) fn radio_by(code: u8, steps: u8, woken: u32) -> Answer
+pub fn radio_by(code: u8, steps: u8, woken: u32) -> Answer
     ensures { λ r. ⌜ r ≡ radioBy code steps woken ⌝ }
 {
     if code == 0x10 {

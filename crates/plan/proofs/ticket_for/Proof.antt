@@ -1,8 +1,8 @@
 -- `ticket_for` meets its contract: its tests, in order, are those of the definition.
 use borrow.Author.Tests.{eq-eqb, ne-eqb}
 use borrow.Author.Needs.{needs}
-use Rattle.operate.proofs.plan.ticket_for.Statement.{statement}
-use Rattle.operate.proofs.plan.ticket_for.Tie as tie
+use Rattle.plan.proofs.ticket_for.Statement.{statement}
+use Rattle.plan.proofs.ticket_for.Tie as tie
 
 returns : tie.Need-returns
 returns c = simp (eq-eqb _ _ (c .if1 .taken))

@@ -1,7 +1,7 @@
 -- `operation_of` meets its contract: its tests, in order, are those of the definition.
 use borrow.Author.Tests.{eq-eqb, ne-eqb}
-use Rattle.operate.proofs.plan.operation_of.Statement.{statement}
-use Rattle.operate.proofs.plan.operation_of.Tie as tie
+use Rattle.plan.proofs.operation_of.Statement.{statement}
+use Rattle.plan.proofs.operation_of.Tie as tie
 
 returns : tie.Need-returns
 returns c = simp (eq-eqb _ _ (c .if1 .taken))

@@ -11,10 +11,10 @@ use Rattle.hub.specs.Phases.{isFree, isOneOf}
 use Rattle.hub.specs.Record.{MAX-BEGUN}
 use Rattle.hub.specs.Table.{aboveZero}
 use Rattle.table.proofs.Laws.Counter.{sign}
-use Rattle.operate.specs.Plan.{planAcquire, short}
+use Rattle.plan.specs.Plan.{planAcquire, short}
 use borrow.Author.Needs.{needs}
-use Rattle.operate.proofs.plan.plan_acquire.Statement.{statement}
-use Rattle.operate.proofs.plan.plan_acquire.Tie as tie
+use Rattle.plan.proofs.plan_acquire.Statement.{statement}
+use Rattle.plan.proofs.plan_acquire.Tie as tie
 
 enum-told : tie.Need-enum-told
 enum-told c = search needs

@@ -1,7 +1,7 @@
 -- `radio_by` meets its contract: its tests, in order, are those of the definition.
 use borrow.Author.Tests.{eq-eqb, ne-eqb}
-use Rattle.operate.proofs.plan.radio_by.Statement.{statement}
-use Rattle.operate.proofs.plan.radio_by.Tie as tie
+use Rattle.plan.proofs.radio_by.Statement.{statement}
+use Rattle.plan.proofs.radio_by.Tie as tie
 
 returns : tie.Need-returns
 returns c = simp (eq-eqb _ _ (c .before .if1 .taken), eq-eqb _ _ (c .if2 .taken))

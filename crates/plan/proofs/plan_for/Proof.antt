@@ -1,8 +1,8 @@
 -- `plan_for` meets its contract: its tests, in order, are those of the definition.
 use borrow.Author.Tests.{eq-eqb, ne-eqb}
 use borrow.Author.Needs.{needs}
-use Rattle.operate.proofs.plan.plan_for.Statement.{statement}
-use Rattle.operate.proofs.plan.plan_for.Tie as tie
+use Rattle.plan.proofs.plan_for.Statement.{statement}
+use Rattle.plan.proofs.plan_for.Tie as tie
 
 plan-acquire-requires : tie.Need-plan-acquire-requires
 plan-acquire-requires c κs = search needs
