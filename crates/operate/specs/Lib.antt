@@ -1,4 +1,2 @@
--- Whole operations from bytes to bytes: two for each operation, three for each answer.
-pub mod Bytes
+-- A run of whole operations from bytes to bytes.
 pub mod Ending
-pub mod Rested

@@ -17,7 +17,7 @@ use Rattle.batch.proofs.Laws.Reachable.{reachable-fits, opening-reachable}
 use Rattle.operations.specs.AtRest.{ComesTo, EndsAtRest, isOperation, operatedAtRest}
 use Rattle.operations.specs.Operation.{operated, stepsAfter}
 use Rattle.operations.proofs.Operations.{comes-to, ends-at-rest}
-use Rattle.operate.specs.Rested.{Rested}
+use Rattle.perform.specs.Rested.{Rested}
 
 run-on : (h : Hub) (cs ds : List Call) → run (run h cs) ds ≡ run h (cs ++ ds)
 unfolding run

@@ -1,4 +1,4 @@
--- `operate_on` meets its contract: the record made of the locals is that of the operations so far, and what is
+-- `perform_operations` meets its contract: the record made of the locals is that of the operations so far, and what is
 -- written with what is still to come is the whole.
 use borrow.Author.Needs.{needs}
 use borrow.Author.Tests.{le-ltb, lt-ltb, not-true, not-false}
@@ -42,17 +42,17 @@ use Rattle.transition.proofs.Laws.Radios.{few-stored, with-radios, without-radi
 use Rattle.transition.proofs.Laws.Stored.{nobody, still}
 use Rattle.plan.specs.declared.Plan.{Plan}
 use Rattle.plan.specs.declared.Seen.{Seen}
-use Rattle.operate.specs.Bytes.{answerBytes, isOperationCode}
+use Rattle.perform.specs.Bytes.{answerBytes, isOperationCode}
 use Rattle.plan.specs.Plan.{planOf, radioBy, ticketFor}
-use Rattle.operate.proofs.Laws.Answers.{Upto, answer-part, answered, callAt, code-here, codeAt, ended, start}
-use Rattle.operate.proofs.Laws.Answers.{whole-answer, whole-operation}
-use Rattle.operate.proofs.Laws.Codes.{an-operation}
-use Rattle.operate.proofs.Laws.Comes.{Comes, as-planned, no-such-party, planAt, radiosBy, slotsBy, storedBy}
-use Rattle.operate.proofs.Laws.Comes.{full, seenOf, ticketAt}
-use Rattle.operate.proofs.Laws.Plans.{as-asked, few-turns}
-use Rattle.operate.proofs.Laws.Rested.{closed, rested-fits}
-use Rattle.operate.proofs.operate_on.Statement.{statement}
-use Rattle.operate.proofs.operate_on.Tie as tie
+use Rattle.perform.proofs.Laws.Answers.{Upto, answer-part, answered, callAt, code-here, codeAt, ended, start}
+use Rattle.perform.proofs.Laws.Answers.{whole-answer, whole-operation}
+use Rattle.perform.proofs.Laws.Codes.{an-operation}
+use Rattle.perform.proofs.Laws.Comes.{Comes, as-planned, no-such-party, planAt, radiosBy, slotsBy, storedBy}
+use Rattle.perform.proofs.Laws.Comes.{full, seenOf, ticketAt}
+use Rattle.perform.proofs.Laws.Plans.{as-asked, few-turns}
+use Rattle.perform.proofs.Laws.Rested.{closed, rested-fits}
+use Rattle.perform.proofs.perform_operations.Statement.{statement}
+use Rattle.perform.proofs.perform_operations.Tie as tie
 
 -- The record that the locals make, and the ring of the tidying.
 abbrev hubOf : Opening → Figures → ℕ → List PlaceSlot → List PartySlot → Pool → Hub
@@ -666,8 +666,8 @@ same-length c = c .before .loop .inv .0 .length
 returns : tie.Need-returns Inv-loop2 μ-loop2 Inv-loop3 μ-loop3 Inv-loop μ-loop
 returns c = ended _ _ _ _ _ _ (c .before .loop .inv .0) (c .loop-test .left)
 
-pub operate-on-spec : {M : Type 1} → statement M
-operate-on-spec =
+pub perform-operations-spec : {M : Type 1} → statement M
+perform-operations-spec =
     tie.close
     (tie.spec
     Inv-loop2

@@ -6,7 +6,7 @@ use borrow.Author.Tests.{eqb-true}
 use lib.Dec.{eqb}
 use Rattle.line.specs.Frame.{opOf}
 use Rattle.operations.specs.AtRest.{isOperation}
-use Rattle.operate.specs.Bytes.{isOperationCode}
+use Rattle.perform.specs.Bytes.{isOperationCode}
 use Rattle.plan.specs.Plan.{operationOf}
 
 -- What holds of the three holds of each that passes the test.

@@ -33,10 +33,10 @@ use Rattle.transition.specs.Tidied.{tidiedBy}
 use Rattle.transition.proofs.Laws.Stored.{nobody, same-seat, same-slot, tidied-all, tidied-none}
 use Rattle.plan.specs.declared.Plan.{Plan}
 use Rattle.plan.specs.declared.Seen.{Seen}
-use Rattle.operate.specs.Bytes.{isOperationCode}
+use Rattle.perform.specs.Bytes.{isOperationCode}
 use Rattle.plan.specs.Plan.{asked, given, planAcquire, planCancel, planOf, planRelease, radioBy}
 use Rattle.plan.specs.Plan.{refusedBy, ticketFor}
-use Rattle.operate.proofs.Laws.Codes.{among-three}
+use Rattle.perform.proofs.Laws.Codes.{among-three}
 
 -- At rest only a wait can be given up.
 gives-up : (x : Phase) → atRest x ≡ true → canCancel x ≡ isWaiting x

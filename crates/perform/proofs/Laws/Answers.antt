@@ -16,10 +16,10 @@ use Rattle.operations.specs.declared.Operated.{Operated}
 use Rattle.operations.specs.Operation.{operated}
 use Rattle.run.specs.Bytes.{callsOf, wellFormed}
 use Rattle.run.proofs.Laws.Pairs.{one-formed, pair}
-use Rattle.operate.specs.Bytes.{answerBytes, answersTo, isOperationCode, written}
-use Rattle.operate.specs.Rested.{Rested}
-use Rattle.operate.proofs.Laws.Codes.{an-operation}
-use Rattle.operate.proofs.Laws.Rested.{rested-again}
+use Rattle.perform.specs.Bytes.{answerBytes, answersTo, isOperationCode, written}
+use Rattle.perform.specs.Rested.{Rested}
+use Rattle.perform.proofs.Laws.Codes.{an-operation}
+use Rattle.perform.proofs.Laws.Rested.{rested-again}
 
 -- The operation of the i-th two bytes.
 abbrev pub codeAt : List ℕ → ℕ → ℕ
