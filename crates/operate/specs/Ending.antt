@@ -10,7 +10,7 @@ use Rattle.hub.specs.Answers.{printed}
 use Rattle.hub.specs.Opening.{opening}
 use Rattle.line.specs.Requests.{Request, malformed, toOpen, toCall}
 use Rattle.run.specs.Bytes.{wellFormed}
-use Rattle.operate.specs.Bytes.{isOperationCode, written}
+use Rattle.perform.specs.Bytes.{isOperationCode, written}
 
 -- 0 done, else why not, as a number for callers in other languages.
 pub record Ended : Type 0 where

@@ -1,5 +1,2 @@
--- Whole operations from bytes to bytes: two for each operation, three for each answer.
-pub mod Bytes
+-- A run of whole operations from bytes to bytes.
 pub mod Ending
-pub mod Rested
-pub mod Plan  -- what an operation comes to, as the code decides and stores it

@@ -1,134 +1,26 @@
-// Whole operations on a hub just opened: ask, give up, give back, each with the steps that it takes until
-// everybody is at rest again. The steps are not walked: what they come to is stored in place.
+// Runs a whole list of operations on a hub just opened, and leaves the answers in the caller's buffer.
 
-mod plan; // what an operation comes to
-
-use hub::kinds;
 use hub::opening::open_hub;
-use hub::record::Hub;
-use hub::record::Phase;
-use hub::record::Place;
-use hub::slots::empty_seat;
-use hub::slots::with_phase;
-use hub::slots::with_place;
 use line::answer::print_of;
 use line::openings::is_opening_frame;
 use line::openings::opening_in;
-use plan::Seen;
-use plan::operation_of;
-use plan::plan_for;
-use plan::radio_by;
-use plan::ticket_for;
-use pool::moving::move_radio;
-use transition::room::full_for;
-use transition::tidy::can_retire;
-use transition::tidy::can_skip;
+use perform::perform_operations;
 ghost use mathlib.Core.Path.{_≡_};
-ghost use mathlib.Core.Bool.{true};
-ghost use mathlib.Core.List.{[], _∷_};
-ghost use Prim.Native.Nat.{_*_, _/_, _%_, _≤_};
-ghost use lib.ListN.{length};
-ghost use Rattle.hub.specs.Answers.{printed};
 ghost use Rattle.line.specs.Requests.{requested};
+ghost use Rattle.perform.specs.Bytes.{isOperationCode};
 ghost use Rattle.run.specs.Bytes.{wellFormed};
-ghost use Rattle.operate.specs.Bytes.{isOperationCode, written};
 ghost use Rattle.operate.specs.Ending.{framedRun};
-ghost use Rattle.operate.specs.Rested.{Rested};
 
-// The three bytes of one answer.
-fn put(out: &mut [u8], code: u8, woken: u32, steps: u8)
-    requires { ⌜ length (now out) ≡ 3 ⌝ }
-    ensures { λ r. ⌜ now (out .exit) ≡ code ∷ woken % 256 ∷ steps ∷ [] ⌝ }
+fn is_operation(code: u8) -> bool
+    ensures { λ r. ⌜ r ≡ isOperationCode code ⌝ }
 {
-    out[0] = code;
-    out[1] = (woken % 256) as u8;
-    out[2] = steps;
-}
-
-// Makes the operations, on a record that is altered in place.
-fn operate_on(hub: Hub, operations: &[u8], out: &mut [u8])
-    requires { ⌜ Rested hub ⌝ }
-    requires { ⌜ wellFormed isOperationCode (now operations) ≡ true ⌝ }
-    requires { ⌜ 3 * (length (now operations) / 2) ≤ length (now out) ⌝ }
-    ensures { λ r. ⌜ now (out .exit) ≡ written hub (now (operations .entry)) (now (out .entry)) ⌝ }
-{
-    let opening = hub.opening;
-    let mut figures = hub.figures;
-    let mut oldest = hub.oldest;
-    let mut places = hub.places;
-    let mut slots = hub.slots;
-    let mut pool = hub.pool;
-    let kinds = kinds::table();
-    let count = operations.len() / 2;
-    let mut i: usize = 0;
-    while i < count {
-        let from = 2 * i;
-        let code = operations[from];
-        let party = operations[from + 1];
-        let at = 3 * i;
-        let end = at + 3;
-        i += 1;
-        if opening.parties <= party {
-            put(&mut out[at..end], 4, 0xFF, 0);
-            continue;
-        }
-        let own = party as usize;
-        let slot = slots[own];
-        let t = (ticket_for(code, slot, figures) % Hub::PLACES) as usize;
-        let seat = places[t];
-        let kind = kinds[own];
-        let full = full_for(operation_of(code), oldest, figures.issued, slots);
-        let s = Seen {
-            party,
-            kind,
-            named: opening.named,
-            slot,
-            seat,
-            figures,
-        };
-        let plan = plan_for(code, full, s);
-        let next = plan.figures;
-        figures = next;
-        let woken = plan.woken;
-        if woken < 32 {
-            let q = woken as usize;
-            let waiter = slots[q];
-            slots[q] = with_phase(Phase::Holding, waiter);
-        }
-        let becomes = plan.slot;
-        slots[own] = becomes;
-        let left = plan.seat;
-        places[t] = left;
-        put(&mut out[at..end], plan.code, woken, plan.steps);
-        if opening.named {
-            pool = move_radio(radio_by(code, plan.steps, woken), party, pool);
-        }
-        let turns = plan.turns;
-        let limit = oldest + Hub::PLACES;
-        let mut n: u32 = 0;
-        while n < turns {
-            let r = figures.resumed;
-            let a = (r % Hub::PLACES) as usize;
-            let head = places[a];
-            if !can_skip(head, r, limit) {
-                break;
-            }
-            places[a] = with_place(Place::Done, head);
-            figures.resumed = r + 1;
-            n += 1;
-        }
-        let mut m: u32 = 0;
-        while m < turns {
-            let a = (oldest % Hub::PLACES) as usize;
-            let head = places[a];
-            if !can_retire(head) {
-                break;
-            }
-            places[a] = empty_seat();
-            oldest += 1;
-            m += 1;
-        }
+    if code == 0x10 {
+        return true;
     }
+    if code == 0x12 {
+        return true;
+    }
+    code == 0x13
 }
 
 // Is each pair of bytes an operation?
@@ -149,19 +41,7 @@ fn well_formed(operations: &[u8]) -> bool
     true
 }
 
-fn is_operation(code: u8) -> bool
-    ensures { λ r. ⌜ r ≡ isOperationCode code ⌝ }
-{
-    if code == 0x10 {
-        return true;
-    }
-    if code == 0x12 {
-        return true;
-    }
-    code == 0x13
-}
-
-// Opens a hub, and makes the operations if they are well formed and there is room for the answers: 0 done, 12 a
+// Opens a hub, and performs the operations if they are well formed and there is room for the answers: 0 done, 12 a
 // malformed opening, 2, 3 or 14 not opened, 254 malformed operations, 255 no room.
 #[no_mangle]
 pub extern "C" fn hub_operate(opening: &[u8], operations: &[u8], out: &mut [u8]) -> u8
@@ -184,6 +64,6 @@ pub extern "C" fn hub_operate(opening: &[u8], operations: &[u8], out: &mut [u8])
         return 255;
     }
     let hub = opened.hub;
-    operate_on(hub, operations, out);
+    perform_operations(hub, operations, out);
     0
 }

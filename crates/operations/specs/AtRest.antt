@@ -108,7 +108,7 @@ cancelled h p =
     (figuresTo
     (record { counter = sucℤ (f .counter); issued = f .issued; resumed = f .resumed; begun = f .begun }) h))))
 
--- Give back: does nobody wait? 26, and 38; else 27, 28, 2A, and the next in line holds.
+-- Give back: does somebody wait? 27, 28, 2A, and the next in line holds; else 26, and 38.
 unfoldable pub released : Bool → Hub → ℕ → Operated
 released false h p =
     let f = h .figures in
@@ -130,7 +130,7 @@ released true h p =
     (figuresTo
     (record { counter = sucℤ (f .counter); issued = f .issued; resumed = t + 1; begun = f .begun }) h))))))
 
--- An accepted operation; a step and call 14 are none.
+-- An operation that is not refused. A step and call 14 are none, and nothing is claimed of them.
 abbrev pub acceptedAt : Op → Hub → ℕ → Operated
 acceptedAt Op.Acquire h p = acquired (aboveZero (h .figures .counter)) h p
 acceptedAt Op.Cancel h p = cancelled h p

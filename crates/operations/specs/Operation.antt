@@ -1,5 +1,5 @@
--- A whole operation: a call (ask, give up, give back), then steps until nobody is busy. On a hub at rest only
--- the calling party can be.
+-- A whole operation: a call (ask, give up, give back), then the party's own steps until it is at rest, three at
+-- most. On a hub at rest that is until nobody is busy: AtRest.antt claims it.
 use Prim.Native.Nat.{ℕ, zero, suc}
 use mathlib.Core.Bool.{cond}
 use mathlib.Core.List.{List, [], _∷_}
@@ -17,7 +17,7 @@ unfoldable pub stepsOf : ℕ → Hub → ℕ → List Call
 stepsOf zero h p = []
 stepsOf (suc n) h p = cond (rests h p) [] (stepBy p ∷ stepsOf n (called h (stepBy p) .hub) p)
 
--- No operation takes more.
+-- On a hub at rest no operation takes more.
 abbrev pub MOST-STEPS : ℕ
 MOST-STEPS = 3
 

@@ -157,3 +157,7 @@ operated-by h c o w r e g f =
     ∙ ap (λ (x : Outcome).
     let y = walked MOST-STEPS (x .hub) (c .party) in
     from x (firstOf (printed (x .answer) .woken) (y .woken)) y) e
+
+-- A promise that gives what an operation came to gives what is printed for it.
+pub with-printed : {r d : Operated} → r ≡ d → (r ≡ d) × (printed (r .answer) ≡ printed (d .answer))
+with-printed e = (e, ap (λ (x : Operated). printed (x .answer)) e)

@@ -75,7 +75,8 @@ fn walk(mut hub: Hub, party: u8) -> Walked
 // Ask, give up or give back on a hub at rest, and its steps. It takes any record, any call and any party byte; a
 // refusal hands the record back as it came.
 pub fn operate(hub: Hub, op: Op, party: u8) -> Operated
-    ensures { λ r. ⌜ r ≡ operated hub (record { op = op; party = party }) ⌝ }
+    ensures { λ r. ⌜ (r ≡ operated hub (record { op = op; party = party }))
+        × (printed (r .answer) ≡ printed (operated hub (record { op = op; party = party }) .answer)) ⌝ }
 {
     let first = call(hub, op, party);
     let answer = first.answer;

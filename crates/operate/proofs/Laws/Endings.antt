@@ -19,9 +19,9 @@ use Rattle.hub.specs.Record.{PARTIES, freeSlot, readSlot}
 use Rattle.line.specs.Requests.{Request, malformed, toOpen, toCall, isOpening}
 use Rattle.batch.proofs.Laws.Reachable.{opening-reachable}
 use Rattle.run.specs.Bytes.{wellFormed}
-use Rattle.operate.specs.Bytes.{isOperationCode, written}
+use Rattle.perform.specs.Bytes.{isOperationCode, written}
 use Rattle.operate.specs.Ending.{Ended, framedRun, operatedFrom}
-use Rattle.operate.specs.Rested.{Rested}
+use Rattle.perform.specs.Rested.{Rested}
 
 -- A run gave r and left l in the buffer.
 abbrev pub Ends : Ended → ℕ → List ℕ → Type 0

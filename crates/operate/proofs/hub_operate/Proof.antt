@@ -87,8 +87,8 @@ returns-4 c =
     framed d (no-room (opened d) (a .operations .now) (a .out .now) (sym (coded d) ∙ w .before .if2 .left)
     (sym (w .well-formed .ensures) ∙ not-false _ (c .before .if3 .left)) (c .if4 .taken))
 
-operate-on-requires : tie.Need-operate-on-requires
-operate-on-requires c κs =
+perform-operations-requires : tie.Need-perform-operations-requires
+perform-operations-requires c κs =
     let e = c .before .before in
     let w = e .before .before in
     let d = w .before .before in (
@@ -107,7 +107,7 @@ returns-5 c =
     let d = w .before .before in
     let a = begun d .args in
     framed d (done (opened d) (a .operations .now) (a .out .now) (sym (coded d) ∙ w .before .if2 .left) _
-    (sym (w .well-formed .ensures) ∙ not-false _ (e .before .if3 .left)) (e .if4 .left) (o .operate-on .ensures))
+    (sym (w .well-formed .ensures) ∙ not-false _ (e .before .if3 .left)) (e .if4 .left) (o .perform-operations .ensures))
 
 pub hub-operate-spec : {M : Type 1} → statement M
 hub-operate-spec =
@@ -122,6 +122,6 @@ hub-operate-spec =
     well-formed-requires
     returns-3
     returns-4
-    operate-on-requires
+    perform-operations-requires
     same-length
     returns-5)

@@ -4,7 +4,7 @@ use mathlib.Core.Path.{_≡_, sym, ap, _∙_}
 use Prim.Native.Nat.{ℕ}
 use Rattle.hub.specs.declared.record.Outcome.{Outcome}
 use Rattle.operations.specs.declared.Operated.{Operated}
-use Rattle.torest.proofs.Laws.{firstOf, operated-by}
+use Rattle.torest.proofs.Laws.{firstOf, operated-by, with-printed}
 use Rattle.torest.proofs.operate.Statement.{statement}
 use Rattle.torest.proofs.operate.Tie as tie
 
@@ -24,10 +24,11 @@ returns : tie.Need-returns
 returns c =
     let w = c .before .before .before in
     let o = w .before .before in
-    operated-by (o .before .args .hub) _ (o .call .result) _ (w .walk .result) (o .call .ensures .0)
+    with-printed
+    (operated-by (o .before .args .hub) _ (o .call .result) _ (w .walk .result) (o .call .ensures .0)
     (c .first-of .ensures
     ∙ ap (λ (v : ℕ). firstOf v (w .walk .result .woken)) (c .before .woken-by .ensures))
-    (w .walk .ensures)
+    (w .walk .ensures))
 
 pub operate-spec : {M : Type 1} → statement M
 operate-spec =

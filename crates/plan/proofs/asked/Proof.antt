@@ -1,0 +1,26 @@
+-- `asked` meets its contract: a counter that fits still fits an `i32` once one is taken off it.
+use Prim.Native.Nat.{_+_}
+use mathlib.Core.Path.{ap}
+use lib.IntN.{ℤ}
+use Rattle.hub.specs.declared.record.Figures.{Figures}
+use Rattle.table.proofs.Laws.Counter.{less, less-fits}
+use borrow.Author.Needs.{needs}
+use Rattle.plan.proofs.asked.Statement.{statement}
+use Rattle.plan.proofs.asked.Tie as tie
+
+sub-counter : tie.Need-sub-counter
+sub-counter c = less-fits (c .before .before .args .figures .counter) (c .before .before .pre .0)
+
+add-t4 : tie.Need-add-t4
+add-t4 c = search needs
+
+returns : tie.Need-returns
+returns c =
+    let b = c .before .before .before in
+    let f = b .args .figures in
+    ap (λ (z : ℤ).
+    record { counter = z; issued = b .args .issued; resumed = f .resumed; begun = f .begun + 1 })
+    (less (f .counter) (b .pre .0))
+
+pub asked-spec : {M : Type 1} → statement M
+asked-spec = tie.close (tie.spec sub-counter add-t4 returns)

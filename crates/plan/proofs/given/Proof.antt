@@ -1,0 +1,21 @@
+-- `given` meets its contract: a counter that fits still fits an `i32` once one is added to it.
+use mathlib.Core.Path.{ap}
+use lib.IntN.{ℤ}
+use Rattle.hub.specs.declared.record.Figures.{Figures}
+use Rattle.table.proofs.Laws.Counter.{more, more-fits}
+use Rattle.plan.proofs.given.Statement.{statement}
+use Rattle.plan.proofs.given.Tie as tie
+
+add-counter : tie.Need-add-counter
+add-counter c = more-fits (c .before .before .args .figures .counter) (c .before .before .pre)
+
+returns : tie.Need-returns
+returns c =
+    let b = c .before .before in
+    let f = b .args .figures in
+    ap (λ (z : ℤ).
+    record { counter = z; issued = f .issued; resumed = b .args .resumed; begun = f .begun })
+    (more (f .counter) (b .pre))
+
+pub given-spec : {M : Type 1} → statement M
+given-spec = tie.close (tie.spec add-counter returns)
