@@ -10,6 +10,7 @@ use Rattle.line.specs.Program.{linesOf}
 use Rattle.line.specs.Requests.{Request, requestOf}
 use Rattle.screen.specs.declared.record.Line.{Line}
 use Rattle.screen.specs.Moves.{noLine}
+use Rattle.screen.specs.Reached.{IsLine}
 use Rattle.deskline.specs.declared.session.Session.{Session}
 use Rattle.deskline.specs.Replies.{askedBy, respond}
 use Rattle.deskline.specs.Text.{lineText}
@@ -50,8 +51,13 @@ toldAll s (p ∷ ps) = told s p ++ toldAll (fed s p) ps
 unfoldable pub InPieces : Type 0
 InPieces = (pieces : List (List ℕ)) → toldAll atStart pieces ≡ outputOf (joined pieces)
 
+-- A line that can be printed: at most 32 wait.
+pub record Printable (l : Line) : Type 0 where
+  pub arrays : IsLine l
+  pub few : l .waiting ≤ 32
+
 -- What `feed` and `finish` ask of a session, and what every input leads to.
 pub record Sound (s : Session) : Type 0 where
-  pub few : s .line .waiting ≤ 32
+  pub line : Printable (s .line)
   pub size : length (s .reader .line) ≡ KEPT
   pub short : s .reader .len ≤ KEPT

@@ -5,6 +5,7 @@ use mathlib.Core.List.{List, [], _∷_, _++_}
 use lib.Dec.{eqb, ltb}
 use lib.ListN.{length, take, drop}
 use Rattle.line.specs.Hex.{hexOf}
+use Rattle.screen.specs.declared.record.Line.{Line}
 use Rattle.screen.specs.Line.{holders, waiters}
 use Rattle.deskline.specs.declared.reply.Reply.{Reply}
 
@@ -37,15 +38,21 @@ HELD = 0x68 ∷ 0x65 ∷ 0x6C ∷ 0x64 ∷ []
 abbrev pub WAITING : List ℕ
 WAITING = 0x77 ∷ 0x61 ∷ 0x69 ∷ 0x74 ∷ 0x69 ∷ 0x6E ∷ 0x67 ∷ []
 
+-- The code, the party and the steps; then who holds and who waits.
+unfoldable pub headText : ℕ → ℕ → ℕ → List ℕ
+headText code party steps =
+    hexOf (code ∷ []) ++ SPACE ∷ (hexOf (party ∷ []) ++ SPACE ∷ stepsText code steps)
+
+unfoldable pub partiesText : Line → List ℕ
+partiesText l =
+    SPACE ∷ (HELD ++ (numbers (holders l) ++ SPACE ∷ (WAITING ++ (numbers (waiters l) ++ 0x0A ∷ []))))
+
 unfoldable pub lineText : Reply → List ℕ
-lineText r =
-    hexOf (r .code ∷ []) ++ SPACE ∷ (hexOf (r .party ∷ []) ++ SPACE ∷ (stepsText (r .code) (r .steps)
-    ++ SPACE ∷ (HELD ++ (numbers (holders (r .line))
-    ++ SPACE ∷ (WAITING ++ (numbers (waiters (r .line)) ++ 0x0A ∷ []))))))
+lineText r = headText (r .code) (r .party) (r .steps) ++ partiesText (r .line)
 
 -- No line is longer.
 abbrev pub LONGEST-TEXT : ℕ
-LONGEST-TEXT = 288
+LONGEST-TEXT = 279
 
 -- A text at a place of a buffer; the rest of the buffer is as it was.
 unfoldable pub placed : ℕ → List ℕ → List ℕ → List ℕ

@@ -7,15 +7,31 @@ ghost use lib.ListN.{length};
 ghost use Rattle.line.specs.Hex.{charOf, hexOf};
 ghost use Rattle.deskline.specs.Text.{decimal, digitChar, placed};
 
+const DIGITS: [u8; 16] = [
+    0x30,
+    0x31,
+    0x32,
+    0x33,
+    0x34,
+    0x35,
+    0x36,
+    0x37,
+    0x38,
+    0x39,
+    0x41,
+    0x42,
+    0x43,
+    0x44,
+    0x45,
+    0x46,
+];
+
 // A hexadecimal digit.
 fn hex_char(d: u8) -> u8
     requires { ⌜ d < 16 ⌝ }
     ensures { λ r. ⌜ r ≡ charOf d ⌝ }
 {
-    if d < 10 {
-        return 0x30 + d;
-    }
-    0x37 + d
+    DIGITS[d as usize]
 }
 
 // The last digit of a number in base ten.

@@ -10,7 +10,8 @@ ghost use mathlib.Core.List.{[], _∷_, _++_};
 ghost use Prim.Native.Nat.{_+_, _≤_};
 ghost use lib.ListN.{length};
 ghost use Rattle.screen.specs.Line.{holders, waiters};
-ghost use Rattle.deskline.specs.Text.{HELD, LONGEST-TEXT, SPACE, WAITING, lineText, numbers, placed, stepsText};
+ghost use Rattle.deskline.specs.Text.{HELD, LONGEST-TEXT, SPACE, WAITING, headText, lineText, numbers, partiesText, placed};
+ghost use Rattle.deskline.specs.Text.{stepsText};
 
 const SPACE: u8 = 0x20;
 
@@ -29,6 +30,7 @@ fn put_holders(out: &mut [u8], at: usize, line: Line) -> usize
     requires { ⌜ at + 128 ≤ length (now out) ⌝ }
     ensures { λ r. ⌜ (r ≡ at + length (numbers (holders line)))
         × (now (out .exit) ≡ placed at (numbers (holders line)) (now (out .entry))) ⌝ }
+    ensures short { λ r. ⌜ r ≤ at + 128 ⌝ }
 {
     let holding = line.holding;
     let mut end = at;
@@ -50,6 +52,7 @@ fn put_waiters(out: &mut [u8], at: usize, line: Line) -> usize
     requires { ⌜ at + 128 ≤ length (now out) ⌝ }
     ensures { λ r. ⌜ (r ≡ at + length (numbers (waiters line)))
         × (now (out .exit) ≡ placed at (numbers (waiters line)) (now (out .entry))) ⌝ }
+    ensures short { λ r. ⌜ r ≤ at + 128 ⌝ }
 {
     let queue = line.queue;
     let waiting = line.waiting as usize;
@@ -101,22 +104,44 @@ fn put_waiting(out: &mut [u8], at: usize) -> usize
     put_char(out, g, 0x67)
 }
 
+// The code, the party and the steps.
+fn put_head(out: &mut [u8], at: usize, code: u8, party: u8, steps: u8) -> usize
+    requires { ⌜ at + 9 ≤ length (now out) ⌝ }
+    ensures { λ r. ⌜ (r ≡ at + length (headText code party steps))
+        × (now (out .exit) ≡ placed at (headText code party steps) (now (out .entry))) ⌝ }
+    ensures short { λ r. ⌜ r ≤ at + 9 ⌝ }
+{
+    let a = put_hex(out, at, code);
+    let b = put_char(out, a, SPACE);
+    let c = put_hex(out, b, party);
+    let d = put_char(out, c, SPACE);
+    put_steps(out, d, code, steps)
+}
+
+// Who holds and who waits.
+fn put_parties(out: &mut [u8], at: usize, line: Line) -> usize
+    requires { ⌜ line .waiting ≤ 32 ⌝ }
+    requires { ⌜ at + 270 ≤ length (now out) ⌝ }
+    ensures { λ r. ⌜ (r ≡ at + length (partiesText line))
+        × (now (out .exit) ≡ placed at (partiesText line) (now (out .entry))) ⌝ }
+    ensures short { λ r. ⌜ r ≤ at + 270 ⌝ }
+{
+    let a = put_held(out, at);
+    let b = put_holders(out, a, line);
+    let c = put_waiting(out, b);
+    let d = put_waiters(out, c, line);
+    put_char(out, d, 0x0A)
+}
+
 // The whole line.
 pub fn put_line(out: &mut [u8], at: usize, r: Reply) -> usize
     requires { ⌜ r .line .waiting ≤ 32 ⌝ }
     requires { ⌜ at + LONGEST-TEXT ≤ length (now out) ⌝ }
     ensures { λ s. ⌜ (s ≡ at + length (lineText r))
         × (now (out .exit) ≡ placed at (lineText r) (now (out .entry))) ⌝ }
+    ensures short { λ s. ⌜ s ≤ at + LONGEST-TEXT ⌝ }
 {
     let line = r.line;
-    let a = put_hex(out, at, r.code);
-    let b = put_char(out, a, SPACE);
-    let c = put_hex(out, b, r.party);
-    let d = put_char(out, c, SPACE);
-    let e = put_steps(out, d, r.code, r.steps);
-    let f = put_held(out, e);
-    let g = put_holders(out, f, line);
-    let h = put_waiting(out, g);
-    let i = put_waiters(out, h, line);
-    put_char(out, i, 0x0A)
+    let next = put_head(out, at, r.code, r.party, r.steps);
+    put_parties(out, next, line)
 }

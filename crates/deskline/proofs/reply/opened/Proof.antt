@@ -1,11 +1,9 @@
+-- `opened` meets its contract: the code of the answer, and the line.
 use borrow.Author.Needs.{needs}
+use mathlib.Core.Path.{_∙_}
+use Rattle.deskline.proofs.Laws.Replies.{opens}
 use Rattle.deskline.proofs.reply.opened.Statement.{statement}
 use Rattle.deskline.proofs.reply.opened.Tie as tie
-use Rattle.deskline.proofs.reply.opened.Reads as reads
-use Rattle.deskline.proofs.reply.opened.Lts as lts
-use Rattle.deskline.proofs.reply.told.Reads as told-reads
-use Rattle.line.proofs.answer.print_of.Reads as print-of-reads
-use Rattle.screen.proofs.calls.open_line.Reads as open-line-reads
 
 open-line-requires : tie.Need-open-line-requires
 open-line-requires c κs = search needs
@@ -17,7 +15,7 @@ told-requires : tie.Need-told-requires
 told-requires c κs = search needs
 
 returns : tie.Need-returns
-returns c = ?
+returns c = c .told .ensures ∙ opens _ _ _ (c .before .before .before .open-line .ensures .0) (c .before .before .print-of .ensures)
 
 pub opened-spec : {M : Type 1} → statement M
 opened-spec = tie.close (tie.spec open-line-requires print-of-requires told-requires returns)

@@ -1,13 +1,10 @@
+-- `operated` meets its contract: 13, or the operation's own.
 use borrow.Author.Needs.{needs}
+use borrow.Author.Tests.{not-false, not-true}
+use mathlib.Core.Path.{sym, _∙_}
+use Rattle.deskline.proofs.Laws.Replies.{does, not-yet}
 use Rattle.deskline.proofs.reply.operated.Statement.{statement}
 use Rattle.deskline.proofs.reply.operated.Tie as tie
-use Rattle.deskline.proofs.reply.operated.Reads as reads
-use Rattle.deskline.proofs.reply.operated.Lts as lts
-use Rattle.deskline.proofs.reply.is_open.Reads as is-open-reads
-use Rattle.deskline.proofs.reply.told.Reads as told-reads
-use Rattle.line.proofs.answer.print_of.Reads as print-of-reads
-use Rattle.screen.proofs.calls.call.Reads as call-reads
-use Rattle.screen.proofs.steps.steps_to_rest.Reads as steps-to-rest-reads
 
 is-open-requires : tie.Need-is-open-requires
 is-open-requires c κs = search needs
@@ -16,7 +13,7 @@ told-requires : tie.Need-told-requires
 told-requires c κs = search needs
 
 returns : tie.Need-returns
-returns c = ?
+returns c = c .told .ensures ∙ sym (not-yet _ _ _ (sym (c .before .before .is-open .ensures) ∙ not-true _ (c .before .if1 .taken)))
 
 steps-to-rest-requires : tie.Need-steps-to-rest-requires
 steps-to-rest-requires c κs = search needs
@@ -28,7 +25,9 @@ print-of-requires : tie.Need-print-of-requires
 print-of-requires c κs = search needs
 
 returns-2 : tie.Need-returns-2
-returns-2 c = ?
+returns-2 c =
+    does _ _ _ _ _ _ (sym (c .before .before .before .before .before .is-open .ensures) ∙ not-false _ (c .before .before .before .before .if1 .left))
+    (c .before .before .before .steps-to-rest .ensures) (c .before .before .call .ensures .0) (c .before .print-of .ensures)
 
 pub operated-spec : {M : Type 1} → statement M
 operated-spec =
