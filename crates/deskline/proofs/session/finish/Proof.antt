@@ -13,7 +13,7 @@ slice-aggregate-feed c = search needs
 feed-requires : tie.Need-feed-requires
 feed-requires c κs =
     let s = c .before .before .before .before in
-    (s .pre .0, last-room (s .args .session) _ (s .pre .1))
+    (s .pre .0, last-room (s .args .session) (s .args .out .now) (s .pre .1))
 
 same-length : tie.Need-same-length
 same-length c = search needs
