@@ -104,8 +104,14 @@ module _ (l : Line) (hs : List Bool) (g : Good l hs []) where
         below = λ p i. g .below p (ap (λ (x : List Bool). getD x p false) (sym e) ∙ held-front front rest (length rest) p i);
         waits = waits-none _ _;
         few =
-            omega (arith, weight-append bit front (replicate (length rest) false),
-            weight-replicate bit false refl (length rest), weight-append bit front rest, ap (weight bit) e, g .few);
+            omega (
+              arith,
+              weight-append bit front (replicate (length rest) false),
+              weight-replicate bit false refl (length rest),
+              weight-append bit front rest,
+              ap (weight bit) e,
+              g .few,
+            );
         full = λ i. absurd (omega arith);
       }
 
@@ -133,8 +139,14 @@ module _ (l : Line) (hs : List Bool) (g : Good l hs []) where
       (ask-holds l _ [] (length front) f b
       (getD-append-seam front false (replicate (length rest) false) false)
       refl
-      (omega (arith, weight-append bit front (false ∷ replicate (length rest) false),
-      weight-replicate bit false refl (length rest), weight-append bit front (true ∷ rest), ap (weight bit) e, g .few))
+      (omega (
+        arith,
+        weight-append bit front (false ∷ replicate (length rest) false),
+        weight-replicate bit false refl (length rest),
+        weight-append bit front (true ∷ rest),
+        ap (weight bit) e,
+        g .few,
+      ))
       ∙ ap (λ (x : List Bool). lineOf l x [])
       (set-append-seam front false (replicate (length rest) false) true
       ∙ sym (append-assoc front (true ∷ []) (replicate (length rest) false))))

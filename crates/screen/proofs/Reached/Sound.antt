@@ -294,8 +294,12 @@ good-handed l hs w p q g i e =
   where
     small : q < length hs
     small =
-        omega (arith, g .waits .below q (among-here w q q refl), g .size,
-        leb-true (l .parties) 32 (second (leb 1 (l .parties)) _ (g .parties)))
+        omega (
+          arith,
+          g .waits .below q (among-here w q q refl),
+          g .size,
+          leb-true (l .parties) 32 (second (leb 1 (l .parties)) _ (g .parties)),
+        )
 
     in-range : q < length (set hs p false)
     in-range = omega (arith, length-set hs p false, small)

@@ -1,0 +1,42 @@
+-- `operated` meets its contract: 13, or the operation's own.
+use borrow.Author.Needs.{needs}
+use borrow.Author.Tests.{not-false, not-true}
+use mathlib.Core.Path.{sym, _∙_}
+use Rattle.deskline.proofs.Laws.Replies.{does, not-yet}
+use Rattle.deskline.proofs.reply.operated.Statement.{statement}
+use Rattle.deskline.proofs.reply.operated.Tie as tie
+
+is-open-requires : tie.Need-is-open-requires
+is-open-requires c κs = search needs
+
+told-requires : tie.Need-told-requires
+told-requires c κs = search needs
+
+returns : tie.Need-returns
+returns c = c .told .ensures ∙ sym (not-yet _ _ _ (sym (c .before .before .is-open .ensures) ∙ not-true _ (c .before .if1 .taken)))
+
+steps-to-rest-requires : tie.Need-steps-to-rest-requires
+steps-to-rest-requires c κs = search needs
+
+call-requires : tie.Need-call-requires
+call-requires c κs = search needs
+
+print-of-requires : tie.Need-print-of-requires
+print-of-requires c κs = search needs
+
+returns-2 : tie.Need-returns-2
+returns-2 c =
+    does _ _ _ _ _ _ (sym (c .before .before .before .before .before .is-open .ensures) ∙ not-false _ (c .before .before .before .before .if1 .left))
+    (c .before .before .before .steps-to-rest .ensures) (c .before .before .call .ensures .0) (c .before .print-of .ensures)
+
+pub operated-spec : {M : Type 1} → statement M
+operated-spec =
+    tie.close
+    (tie.spec
+    is-open-requires
+    told-requires
+    returns
+    steps-to-rest-requires
+    call-requires
+    print-of-requires
+    returns-2)

@@ -1,0 +1,108 @@
+-- `feed` meets its contract: what is printed and what is still to come are the whole.
+use borrow.Author.Needs.{needs}
+use mathlib.Core.Path.{ap, _∙_}
+use mathlib.Core.List.{List}
+use Prim.Native.Nat.{ℕ, _-_}
+use lib.ListN.{length}
+use Rattle.reader.proofs.Laws.Pieces.{whole}
+use Rattle.line.specs.Requests.{requestOf}
+use Rattle.deskline.specs.Replies.{askedBy, respond}
+use Rattle.deskline.proofs.Laws.Feeding.{Upto, char-kept, char-lost, finished, line-end, line-room}
+use Rattle.deskline.proofs.Laws.Feeding.{reply-printable, start}
+use Rattle.deskline.proofs.session.feed.Statement.{statement}
+use Rattle.deskline.proofs.session.feed.Tie as tie
+
+abbrev Inv-loop : tie.InvT-loop
+Inv-loop piece out₀ line₀ text₀ len₀ at₀ i₀ out line text len at i =
+    Upto line₀ (record { line = text₀; len = len₀ }) piece out₀ line (record { line = text; len = len }) out at i
+
+abbrev μ-loop : tie.MeasureT-loop
+μ-loop piece out₀ line₀ text₀ len₀ at₀ i₀ out line text len at i = length piece - i
+
+loop-holds : tie.Need-loop-holds Inv-loop μ-loop
+loop-holds c = start (c .before .before .before .before .before .args .session) _ _ (c .before .before .before .before .before .pre .0) (c .before .before .before .before .before .pre .1)
+
+shared-slice-read-c : tie.Need-shared-slice-read-c Inv-loop μ-loop
+shared-slice-read-c c = search needs
+
+add-i : tie.Need-add-i Inv-loop μ-loop
+add-i c = search needs
+
+loop-less : tie.Need-loop-less Inv-loop μ-loop
+loop-less c = search needs
+
+loop-again : tie.Need-loop-again Inv-loop μ-loop
+loop-again c =
+    char-lost (c .before .before .before .before .loop .inv) (c .before .before .before .loop-test .taken) (c .before .if1 .taken) (c .if2 .taken)
+
+array-write-text : tie.Need-array-write-text Inv-loop μ-loop
+array-write-text c = search needs
+
+add-len : tie.Need-add-len Inv-loop μ-loop
+add-len c = search needs
+
+loop-less-2 : tie.Need-loop-less-2 Inv-loop μ-loop
+loop-less-2 c = search needs
+
+loop-again-2 : tie.Need-loop-again-2 Inv-loop μ-loop
+loop-again-2 c =
+    char-kept (c .before .before .before .before .loop .inv) (c .before .before .before .loop-test .taken) (c .before .if1 .taken) (c .if2 .left)
+
+sub-respond : tie.Need-sub-respond Inv-loop μ-loop
+sub-respond c = search needs
+
+part-respond-start : tie.Need-part-respond-start Inv-loop μ-loop
+part-respond-start c = search needs
+
+part-respond-end : tie.Need-part-respond-end Inv-loop μ-loop
+part-respond-end c = search needs
+
+respond-requires : tie.Need-respond-requires Inv-loop μ-loop
+respond-requires c κs = search needs
+
+put-line-requires : tie.Need-put-line-requires Inv-loop μ-loop
+put-line-requires c κs =
+    let u = (c .before .before .before .before .before .before .before .loop .inv) in (
+      reply-printable _ _ _ (u .printed) (c .before .respond .ensures) .few,
+      line-room u (c .before .before .before .before .before .before .loop-test .taken) (c .before .before .before .before .if1 .left),
+    )
+
+loop-less-3 : tie.Need-loop-less-3 Inv-loop μ-loop
+loop-less-3 c = search needs
+
+loop-again-3 : tie.Need-loop-again-3 Inv-loop μ-loop
+loop-again-3 c =
+    line-end (c .before .before .before .before .before .before .before .before .before .before .before .loop .inv) (c .before .before .before .before .before .before .before .before .before .before .loop-test .taken) (c .before .before .before .before .before .before .before .before .if1 .left) _
+    (c .before .before .before .before .before .respond .ensures ∙ ap (λ (x : List ℕ). respond (c .before .before .before .before .before .before .before .before .before .before .before .loop .line) (askedBy (requestOf x))) (whole (record { line = c .before .before .before .before .before .before .before .before .before .before .before .loop .text; len = c .before .before .before .before .before .before .before .before .before .before .before .loop .len }))) _ _
+    (c .before .before .before .put-line .ensures .0 .0) (c .before .before .before .put-line .ensures .0 .1) (c .before .before .before .put-line .ensures .1)
+
+same-length : tie.Need-same-length Inv-loop μ-loop
+same-length c = search needs
+
+returns : tie.Need-returns Inv-loop μ-loop
+returns c = finished (c .before .before .before .before .before .before .before .args .session) _ _ (c .before .loop .inv) (c .loop-test .left)
+
+pub feed-spec : {M : Type 1} → statement M
+feed-spec =
+    tie.close
+    (tie.spec
+    Inv-loop
+    μ-loop
+    loop-holds
+    shared-slice-read-c
+    add-i
+    loop-less
+    loop-again
+    array-write-text
+    add-len
+    loop-less-2
+    loop-again-2
+    sub-respond
+    part-respond-start
+    part-respond-end
+    respond-requires
+    put-line-requires
+    loop-less-3
+    loop-again-3
+    same-length
+    returns)
