@@ -1,0 +1,4 @@
+-- Laws that several proofs cite.
+pub mod Slots
+pub mod Others
+pub mod Ops
