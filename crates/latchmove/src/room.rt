@@ -17,10 +17,8 @@ fn drawing(phase: Phase) -> u32
     ensures { λ r. ⌜ r ≡ bit (drawsTicket phase) ⌝ }
 {
     match phase {
-        Phase::Acquiring
-        | Phase::Suspending
-        | Phase::AcquiringMarked
-        | Phase::SuspendingMarked => 1,
+        Phase::Acquiring | Phase::Suspending | Phase::AcquiringMarked | Phase::SuspendingMarked =>
+            1,
         _ => 0,
     }
 }
