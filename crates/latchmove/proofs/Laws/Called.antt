@@ -8,6 +8,7 @@ use lib.Dec.{leb, ltb}
 use Rattle.hub.specs.declared.answers.Answer.{Answer}
 use Rattle.hub.specs.declared.answers.Refusal.{Refusal}
 use Rattle.hub.specs.declared.record.PlaceSlot.{PlaceSlot}
+use Rattle.hub.specs.Answers.{printed}
 use Rattle.hub.specs.Basics.{allFrom}
 use Rattle.hub.specs.Record.{MAX-BEGUN, PARTIES}
 use Rattle.hub.specs.Ring.{PLACES}
@@ -32,6 +33,11 @@ use Rattle.latchmove.proofs.Laws.Stored.{applied, stored, told}
 
 abbrev pub asks : LatchOp → ℕ → LatchCall
 asks o p = record { op = o; party = p }
+
+-- A promise that gives the outcome gives what is printed for it.
+pub with-printed : {o d : LatchOutcome} → o ≡ d
+    → (o ≡ d) × (printed (o .answer) ≡ printed (d .answer))
+with-printed e = (e, ap (λ (o : LatchOutcome). printed (o .answer)) e)
 
 -- What a move answers and leaves.
 abbrev outcome : Latch → ℕ → Move → LatchOutcome
