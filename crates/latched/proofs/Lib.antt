@@ -1,0 +1,2 @@
+-- Why what is claimed of every schedule of a latch holds.
+pub mod Invariant  -- of the unbounded queue
