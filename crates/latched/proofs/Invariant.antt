@@ -3,3 +3,5 @@ pub mod Weights
 pub mod Keep
 pub mod Rows
 pub mod Walk
+pub mod Schedules
+pub mod Rest

@@ -1,0 +1,3 @@
+-- Why the latch answers as the unbounded queue does, and why every record that it reaches fits.
+pub mod Shown
+pub mod Moved
