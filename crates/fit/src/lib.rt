@@ -126,7 +126,7 @@ fn phase_fits(phase: Phase, named: bool) -> bool
 }
 
 // The clauses of one of the n parties, over its phase and what lies at the place of its ticket.
-fn party_fits(phase: Phase, place: Place, figures: Figures, oldest: u32, named: bool) -> bool
+pub fn party_fits(phase: Phase, place: Place, figures: Figures, oldest: u32, named: bool) -> bool
     requires { ⌜ oldest ≤ 1000000 ⌝ }
     ensures { λ r. ⌜ r ≡ ticketFits figures oldest phase && placeListed phase place
         && implies (ofRadios phase) named ⌝ }
@@ -141,7 +141,7 @@ fn party_fits(phase: Phase, place: Place, figures: Figures, oldest: u32, named: 
 }
 
 // Is the phase one of a party that stands at ticket t?
-fn stands_at(phase: Phase, t: u32) -> bool
+pub fn stands_at(phase: Phase, t: u32) -> bool
     ensures { λ r. ⌜ r ≡ standsAt phase t ⌝ }
 {
     // mostly it waits
@@ -155,7 +155,7 @@ fn stands_at(phase: Phase, t: u32) -> bool
 }
 
 // The ticket whose place is at index i.
-fn ticket_at(oldest: u32, i: usize) -> u32
+pub fn ticket_at(oldest: u32, i: usize) -> u32
     requires { ⌜ (oldest ≤ 1000000) × (i < 256) ⌝ }
     ensures { λ r. ⌜ r ≡ ticketAt oldest i ⌝ }
 {

@@ -58,7 +58,7 @@ module _ (x : Opening) (f : Figures) (o : ℕ) (e : figuresFit x f o ≡ true) w
       (second (leb 1 (x .parties)) _ (clause 1 (figuresClauses x f o) e))
 
 -- A phase without a ticket is listed at any place.
-listed-any : (g : ℕ → PlaceSlot) (f : Phase)
+pub listed-any : (g : ℕ → PlaceSlot) (f : Phase)
     → placeListed f (g (ticketOf f) .place) ≡ placeListed f (byTicket emptySeat g f .place)
 unfolding placeListed allOf isOneOf
 listed-any g =

@@ -1,0 +1,41 @@
+-- How a party's slot is read and written, and what it is made of.
+use Prim.Native.Nat.{ℕ, zero, suc}
+use mathlib.Core.Bool.{Bool, true, false}
+use mathlib.Core.List.{List, map}
+use lib.ListN.{getD, set}
+use Rattle.hub.specs.declared.record.Phase.{Phase}
+use Rattle.latch.specs.declared.record.LatchSlot.{LatchSlot}
+
+-- A slot whose party neither raises nor has a hand-over left; raising, with a mark or without; with h hand-overs left.
+abbrev pub inPhase : Phase → LatchSlot
+inPhase x = record { phase = x; raising = false; left = 0 }
+
+abbrev pub toRaise : Phase → LatchSlot
+toRaise x = record { phase = x; raising = true; left = 0 }
+
+abbrev pub withLeft : Phase → ℕ → LatchSlot
+withLeft x h = record { phase = x; raising = false; left = h }
+
+-- The phase alone changes.
+abbrev pub withPhase : Phase → LatchSlot → LatchSlot
+withPhase x s = record { phase = x; raising = s .raising; left = s .left }
+
+-- A slot at an opening.
+abbrev pub freeSlot : LatchSlot
+freeSlot = inPhase Phase.Free
+
+-- Carrying while hand-overs are left, else free.
+abbrev pub carryOn : ℕ → LatchSlot
+carryOn zero = freeSlot
+carryOn (suc h) = withLeft Phase.Resuming (suc h)
+
+-- A number past the 32 slots reads as free, and writing there changes nothing.
+unfoldable pub readSlot : List LatchSlot → ℕ → LatchSlot
+readSlot l p = getD l p freeSlot
+
+unfoldable pub writeSlot : List LatchSlot → ℕ → LatchSlot → List LatchSlot
+writeSlot l p s = set l p s
+
+-- Everybody's phase, in the order of the parties.
+abbrev pub phasesOf : List LatchSlot → List Phase
+phasesOf l = map (λ s. s .phase) l

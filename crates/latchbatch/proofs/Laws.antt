@@ -1,0 +1,3 @@
+-- Laws that the loop's proof cites.
+pub mod Answered
+pub mod Upto

@@ -1,0 +1,8 @@
+-- Laws that several proofs cite.
+pub mod Ops
+pub mod Counting
+pub mod Sight
+pub mod Places
+pub mod Stored
+pub mod Indexed
+pub mod Called

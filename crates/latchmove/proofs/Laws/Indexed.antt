@@ -1,0 +1,85 @@
+-- From the indices by which the code reads and stores to the definitions' reading and writing.
+use Prim.Native.Nat.{ℕ, _%_}
+use mathlib.Core.Path.{_≡_, refl, sym, ap, ap₂, _∙_}
+use mathlib.Core.Bool.{cond}
+use mathlib.Core.List.{List}
+use lib.Dec.{ltb}
+use lib.ListN.{length, getD, set}
+use Rattle.hub.specs.declared.record.Phase.{Phase}
+use Rattle.hub.specs.declared.record.PlaceSlot.{PlaceSlot}
+use Rattle.hub.specs.Phases.{byTicket, byWaiter, ticketOf}
+use Rattle.hub.specs.Record.{PARTIES, emptySeat}
+use Rattle.hub.specs.Ring.{PLACES, Ring, readSeat, writeSeat, skip, retire}
+use Rattle.latch.specs.declared.record.Latch.{Latch}
+use Rattle.latch.specs.declared.record.LatchFigures.{LatchFigures}
+use Rattle.latch.specs.declared.record.LatchSlot.{LatchSlot}
+use Rattle.latch.specs.Calls.{ringOf}
+use Rattle.latch.specs.Record.{freeSlot, readSlot, writeSlot}
+use Rattle.latch.specs.Table.{withResumed}
+use Rattle.latchtable.specs.declared.effect.LatchEffect.{LatchEffect}
+use Rattle.latchmove.specs.Tidied.{tidiedBy}
+use Rattle.latchmove.proofs.Laws.Sight.{Reads}
+use Rattle.latchmove.proofs.Laws.Stored.{made, stored}
+
+module _ (h : Latch) (p i : ℕ) (at : i ≡ ticketOf (readSlot (h .slots) p .phase) % PLACES) where
+  abbrev phase : Phase
+  phase = readSlot (h .slots) p .phase
+
+  -- What lies at the index of the party's ticket.
+  there : getD (h .places) i emptySeat ≡ readSeat (h .places) (ticketOf phase)
+  unfolding readSeat
+  there = ap (λ (j : ℕ). getD (h .places) j emptySeat) at
+
+  pub reads : (none seat : PlaceSlot) (q : ℕ) (waiter : LatchSlot) → length (h .slots) ≡ PARTIES
+      → none ≡ emptySeat → seat ≡ byTicket none (λ t. getD (h .places) i emptySeat) phase
+      → q ≡ byWaiter PARTIES (λ n. n) (seat .place)
+      → waiter ≡ cond (ltb q PARTIES) (getD (h .slots) (q % PARTIES) freeSlot) freeSlot
+      → Reads h p seat q waiter
+  unfolding readSlot
+  reads none seat q waiter size en es eq ew =
+      record {
+        size = size;
+        place =
+            es
+            ∙ ap₂ (λ (a b : PlaceSlot). byTicket a (λ t. b) phase) en there;
+        number = eq;
+        near = ew;
+      }
+
+  -- The place b and the slots l are stored, the waiter's among them.
+  pub stores : (e : LatchEffect) (b : PlaceSlot) (l : List LatchSlot)
+      → b ≡ byTicket (getD (h .places) i emptySeat) (λ t. e .seat) phase
+      → l ≡ writeSlot (h .slots) (e .woken) (e .waiter)
+      → made h (e .figures) (set (h .places) i b) (writeSlot l p (e .slot)) ≡ stored h p e
+  unfolding writeSeat
+  stores e b l eb el =
+      ap₂ (made h (e .figures))
+      (ap₂ (λ (j : ℕ) (a : PlaceSlot). set (h .places) j a) at
+      (eb ∙ ap (λ (a : PlaceSlot). byTicket a (λ t. e .seat) phase) there))
+      (ap (λ (k : List LatchSlot). writeSlot k p (e .slot)) el)
+
+-- The tidying in two loops: the first moves the next ticket to resume, the second the oldest.
+pub tidies : (u : Latch) (k : ℕ) (f : LatchFigures) (s t : Ring) → f ≡ withResumed (t .resumed) (u .figures)
+    → s ≡ skip k (ringOf u) → t ≡ retire k s
+    → record {
+      parties = u .parties;
+      figures = f;
+      oldest = t .oldest;
+      places = t .places;
+      slots = u .slots;
+    } ≡ tidiedBy k u
+tidies u k f s t ef es et =
+    ap (λ (f : LatchFigures). record {
+      parties = u .parties;
+      figures = f;
+      oldest = t .oldest;
+      places = t .places;
+      slots = u .slots;
+    }) ef
+    ∙ ap (λ (t : Ring). record {
+      parties = u .parties;
+      figures = withResumed (t .resumed) (u .figures);
+      oldest = t .oldest;
+      places = t .places;
+      slots = u .slots;
+    }) (et ∙ ap (retire k) es)

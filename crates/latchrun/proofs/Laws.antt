@@ -1,0 +1,4 @@
+-- What the proofs of this crate share.
+pub mod Codes
+pub mod Pairs
+pub mod Endings

@@ -1,0 +1,123 @@
+// The calls by value: a record in, the answer and the record out, for every record and
+// every party byte. A refusal hands the record back as it came.
+
+use crate::reclaim::reclaim;
+use hub::answers::Answer;
+use hub::answers::Refusal;
+use hub::kinds::kind;
+use hub::record::Hub;
+use hub::slots::empty_seat;
+use latch::moves::LatchOp;
+use latch::moves::LatchSight;
+use latch::record::Latch;
+use latch::record::LatchOutcome;
+use latchfit::fits;
+use latchmove::effect::decide;
+use latchmove::sight::by_ticket;
+use latchmove::sight::phase_only;
+use latchmove::sight::slot_within;
+use transition::sight::seat_index;
+use transition::sight::waiter_at;
+use transition::tidy::is_untidy;
+ghost use mathlib.Core.Path.{_≡_};
+ghost use Rattle.hub.specs.Answers.{printed};
+ghost use Rattle.latch.specs.Calls.{called};
+
+// Any of them. Check, look, store and tidy stand in one function, as the hub's, since a record that is
+// handed on is copied. A refused call stores what was there.
+pub fn call(mut latch: Latch, op: LatchOp, party: u8) -> LatchOutcome
+    ensures { λ r. ⌜ (r ≡ called latch (record { op = op; party = party }))
+        × (printed (r .answer) ≡ printed (called latch (record { op = op; party = party }) .answer)) ⌝ }
+{
+    if !fits(latch) {
+        return LatchOutcome {
+            answer: Answer::Refused(Refusal::Unfit),
+            latch,
+        };
+    }
+    if latch.parties <= party {
+        return LatchOutcome {
+            answer: Answer::Refused(Refusal::NoSuchParty),
+            latch,
+        };
+    }
+    let p = party as usize;
+    let slot = latch.slots[p];
+    let own = phase_only(slot);
+    let t = seat_index(own);
+    let there = latch.places[t];
+    let seat = by_ticket(own, there, empty_seat());
+    let q = waiter_at(seat);
+    let w = (q % 32) as usize;
+    let near = latch.slots[w];
+    let waiter = slot_within(q, near);
+    let figures = latch.figures;
+    let s = LatchSight {
+        party,
+        kind: kind(party),
+        slot,
+        seat,
+        waiter,
+        figures,
+    };
+    let slots = latch.slots;
+    let e = decide(op, latch.oldest, slots, s);
+    let woken = e.woken;
+    if woken < 32 {
+        let v = woken as usize;
+        let woke = e.waiter;
+        latch.slots[v] = woke;
+    }
+    let becomes = e.slot;
+    latch.slots[p] = becomes;
+    let put = e.seat;
+    latch.places[t] = by_ticket(own, put, there);
+    let after = e.figures;
+    latch.figures = after;
+    let answer = e.answer;
+    // the tidying, if there is any
+    let r = (latch.figures.resumed % Hub::PLACES) as usize;
+    let o = (latch.oldest % Hub::PLACES) as usize;
+    let next = latch.places[r];
+    let first = latch.places[o];
+    if !is_untidy(next, first) {
+        return LatchOutcome { answer, latch };
+    }
+    let tidied = reclaim(latch, e.turns);
+    LatchOutcome {
+        answer,
+        latch: tidied,
+    }
+}
+
+// Await (10): a keyword, so it has a longer name.
+pub fn await_zero(latch: Latch, party: u8) -> LatchOutcome
+    ensures { λ r. ⌜ (r ≡ called latch (record { op = LatchOp.Await; party = party }))
+        × (printed (r .answer) ≡ printed (called latch (record { op = LatchOp.Await; party = party }) .answer)) ⌝ }
+{
+    call(latch, LatchOp::Await, party)
+}
+
+// Step (11).
+pub fn step(latch: Latch, party: u8) -> LatchOutcome
+    ensures { λ r. ⌜ (r ≡ called latch (record { op = LatchOp.Step; party = party }))
+        × (printed (r .answer) ≡ printed (called latch (record { op = LatchOp.Step; party = party }) .answer)) ⌝ }
+{
+    call(latch, LatchOp::Step, party)
+}
+
+// Give up (12).
+pub fn cancel(latch: Latch, party: u8) -> LatchOutcome
+    ensures { λ r. ⌜ (r ≡ called latch (record { op = LatchOp.Cancel; party = party }))
+        × (printed (r .answer) ≡ printed (called latch (record { op = LatchOp.Cancel; party = party }) .answer)) ⌝ }
+{
+    call(latch, LatchOp::Cancel, party)
+}
+
+// Count down (13).
+pub fn count_down(latch: Latch, party: u8) -> LatchOutcome
+    ensures { λ r. ⌜ (r ≡ called latch (record { op = LatchOp.CountDown; party = party }))
+        × (printed (r .answer) ≡ printed (called latch (record { op = LatchOp.CountDown; party = party }) .answer)) ⌝ }
+{
+    call(latch, LatchOp::CountDown, party)
+}
