@@ -1,4 +1,5 @@
-//! `hub_run` of librun.a and `hub_operate` of liboperate.a, as Rust sees them.
+//! `hub_run` of librun.a, `hub_operate` of liboperate.a and `latch_run` of liblatchrun.a, as Rust sees
+//! them.
 
 // whoever links one of them calls no other
 #![allow(dead_code)]
@@ -19,6 +20,15 @@ mod linked {
             opening_len: usize,
             operations: *const u8,
             operations_len: usize,
+            out: *mut u8,
+            out_len: usize,
+        ) -> u8;
+
+        pub fn latch_run(
+            count: u8,
+            parties: u8,
+            calls: *const u8,
+            calls_len: usize,
             out: *mut u8,
             out_len: usize,
         ) -> u8;
@@ -52,5 +62,12 @@ pub fn hub_operate(opening: &[u8], operations: &[u8], out: &mut [u8]) -> u8 {
             out.as_mut_ptr(),
             out.len(),
         )
+    }
+}
+
+pub fn latch_run(count: u8, parties: u8, calls: &[u8], out: &mut [u8]) -> u8 {
+    // SAFETY: each address goes with the length of what it points to.
+    unsafe {
+        linked::latch_run(count, parties, calls.as_ptr(), calls.len(), out.as_mut_ptr(), out.len())
     }
 }
