@@ -229,7 +229,7 @@ fn clauses(random: &mut Random) -> Vec<(String, bool, Record)> {
         r.set(HANDED, o + 12);
         r.party(11, HANDING, o + 11);
     });
-    for party in [0, 6, 13, 31, 32, 256 + 2, 65_536 + 2, (1 << 24) + 2, u32::MAX] {
+    for party in [0, 6, 13, 31, 32, 32 + 2, 64 + 2, 128 + 2, 224 + 2, 255] {
         say(format!("a place waits for {party}"), false, &|r| r.place(o + 11, IN_WAIT, party));
     }
     for t in [o + 10, o + 12 + 8, o + 255] {
@@ -306,6 +306,11 @@ fn damage(random: &mut Random, record: &mut Record) {
             8 => record.0[MARKS_AT + party] = byte,
             _ => record.0[random.below(RECORD as u64) as usize] = byte,
         }
+    }
+    // a place has a byte for its party
+    let places = record.0[PLACES_AT..PHASES_AT].chunks_mut(5);
+    for place in places.filter(|place| place[0] % 6 == IN_WAIT) {
+        place[1..4].fill(0);
     }
 }
 
