@@ -48,9 +48,9 @@ use Rattle.perform.proofs.Laws.Answers.{Upto, answer-part, answered, ca
 use Rattle.perform.proofs.Laws.Answers.{whole-answer, whole-operation}
 use Rattle.perform.proofs.Laws.Codes.{an-operation}
 use Rattle.perform.proofs.Laws.Comes.{Comes, as-planned, no-such-party, planAt, radiosBy, slotsBy, storedBy}
-use Rattle.perform.proofs.Laws.Comes.{full, seenOf, ticketAt}
+use Rattle.perform.proofs.Laws.Comes.{full, seenOf, ticketAt, woken-byte}
 use Rattle.perform.proofs.Laws.Plans.{as-asked, few-turns}
-use Rattle.perform.proofs.Laws.Rested.{closed, rested-fits}
+use Rattle.perform.proofs.Laws.Rested.{closed, next-in-line, rested-fits}
 use Rattle.perform.proofs.perform_operations.Statement.{statement}
 use Rattle.perform.proofs.perform_operations.Tie as tie
 
@@ -257,6 +257,14 @@ turns-most c =
     let h = head (entered c) in
     omega (arith, ap (λ (p : Plan). p .turns) (plan-is c), few-turns (seenOf (hub h) (party h) (code h)) (code h) (full (hub h) (party h)))
 
+byte : (c : Planned) → plan c .woken % 256 ≡ plan c .woken
+byte c =
+    let e = entered c in
+    let h = head e in
+    let small =
+    woken-byte (hub h) (party h) (next-in-line (hub h) (h .loop .inv .0 .rested)) (code h) (valid (turning e)) in
+    omega (arith, small, ap (λ (p : Plan). p .woken) (plan-is c))
+
 -- The record that the tidying starts from.
 abbrev decided : Settled → Plan
 decided s = plan (planned (woken s))
@@ -357,7 +365,7 @@ worded : (s : Settled)
     said (decided s) ≡ answerBytes (operated (hub h) (call h))
 worded s =
     let e = comes (planned (woken s)) in
-    (λ i. sym (e .code) i ∷ sym (e .woken) i % 256 ∷ sym (e .steps) i ∷ [])
+    (λ i. sym (e .code) i ∷ (byte (planned (woken s)) ∙ sym (e .woken)) i ∷ sym (e .steps) i ∷ [])
 
 -- A party that there is not is refused at once.
 turned-down : (c : Turning) → hub (c .before) .opening .parties ≤ party (c .before)
