@@ -1,12 +1,10 @@
 -- Everybody is at rest on a hub just opened, and again after every operation.
 use Prim.Native.Nat.{ℕ, _≤_}
-use mathlib.Core.Path.{_≡_, refl, sym, ap, subst, _∙_}
+use mathlib.Core.Path.{_≡_, sym, ap, subst, _∙_}
 use mathlib.Core.Bool.{true}
 use native.Mathlib.Omega.{arith}
-use mathlib.Core.List.{List, [], _∷_, _++_}
-use Rattle.hub.specs.declared.answers.Answer.{Answer}
+use mathlib.Core.List.{_∷_, _++_}
 use Rattle.hub.specs.declared.moves.Call.{Call}
-use Rattle.hub.specs.declared.opening.Opening.{Opening}
 use Rattle.hub.specs.declared.record.Hub.{Hub}
 use Rattle.hub.specs.Calm.{rests}
 use Rattle.hub.specs.Fits.{fits}
@@ -16,7 +14,7 @@ use Rattle.hub.specs.Ring.{readPlace}
 use Rattle.hub.specs.Schedule.{run}
 use Rattle.hub.specs.Table.{belowZero}
 use Rattle.batch.specs.Batch.{Reachable}
-use Rattle.batch.proofs.Laws.Reachable.{reachable-fits, opening-reachable}
+use Rattle.batch.proofs.Laws.Reachable.{reachable-fits}
 use Rattle.operations.specs.AtRest.{ComesTo, EndsAtRest, isOperation, operatedAtRest}
 use Rattle.operations.specs.Operation.{operated, stepsAfter}
 use Rattle.operations.proofs.Operations.{comes-to, ends-at-rest}

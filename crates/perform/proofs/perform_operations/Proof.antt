@@ -43,11 +43,11 @@ use Rattle.transition.proofs.Laws.Stored.{nobody, still}
 use Rattle.plan.specs.declared.Plan.{Plan}
 use Rattle.plan.specs.declared.Seen.{Seen}
 use Rattle.perform.specs.Bytes.{answerBytes, isOperationCode}
-use Rattle.plan.specs.Plan.{planOf, radioBy, ticketFor}
+use Rattle.plan.specs.Plan.{planOf}
 use Rattle.perform.proofs.Laws.Answers.{Upto, answer-part, answered, callAt, code-here, codeAt, ended, start}
 use Rattle.perform.proofs.Laws.Answers.{whole-answer, whole-operation}
 use Rattle.perform.proofs.Laws.Codes.{an-operation}
-use Rattle.perform.proofs.Laws.Comes.{Comes, as-planned, no-such-party, planAt, radiosBy, slotsBy, storedBy}
+use Rattle.perform.proofs.Laws.Comes.{Comes, as-planned, no-such-party, planAt, radiosBy, storedBy}
 use Rattle.perform.proofs.Laws.Comes.{full, seenOf, ticketAt, woken-byte}
 use Rattle.perform.proofs.Laws.Plans.{as-asked, few-turns}
 use Rattle.perform.proofs.Laws.Rested.{closed, next-in-line, rested-fits}
