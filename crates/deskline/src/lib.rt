@@ -3,4 +3,3 @@
 pub mod reply; // what a line is answered
 mod digits; // numbers as characters
 pub mod text; // an answer as a line
-pub mod session; // a run over an input that comes in pieces

@@ -14,13 +14,13 @@ use Rattle.line.specs.Program.{linesOf}
 use Rattle.line.specs.Requests.{Request, requestOf}
 use Rattle.screen.specs.declared.record.Line.{Line}
 use Rattle.screen.specs.Moves.{noLine}
-use Rattle.deskline.specs.declared.session.Fed.{Fed}
-use Rattle.deskline.specs.declared.session.Session.{Session}
+use Rattle.deskfeed.specs.declared.session.Fed.{Fed}
+use Rattle.deskfeed.specs.declared.session.Session.{Session}
 use Rattle.deskline.specs.Replies.{askedBy, respond}
-use Rattle.deskline.specs.Session.{InPieces, Printable, Sound, atStart, fed, finished, left, outputOf, said}
-use Rattle.deskline.specs.Session.{told, toldAll}
+use Rattle.deskfeed.specs.Session.{InPieces, Printable, Sound, atStart, fed, finished, left, outputOf, said}
+use Rattle.deskfeed.specs.Session.{told, toldAll}
 use Rattle.deskline.specs.Text.{LONGEST-TEXT, lineText}
-use Rattle.deskline.proofs.Laws.Feeding.{opened-printable, printable}
+use Rattle.deskfeed.proofs.Laws.Feeding.{opened-printable, printable}
 
 pub start-sound : Sound atStart
 start-sound =

@@ -24,13 +24,13 @@ use Rattle.screen.specs.Reached.{IsLine}
 use Rattle.screen.proofs.Laws.Answers.{unfit}
 use Rattle.screen.proofs.Laws.Fit.{fit}
 use Rattle.screen.proofs.Reached.Moved.{moved-sound}
 use Rattle.deskline.specs.declared.reply.Reply.{Reply}
-use Rattle.deskline.specs.declared.session.Fed.{Fed}
-use Rattle.deskline.specs.declared.session.Session.{Session}
+use Rattle.deskfeed.specs.declared.session.Fed.{Fed}
+use Rattle.deskfeed.specs.declared.session.Session.{Session}
 use Rattle.deskline.specs.Replies.{Asked, anOpening, anOperation, askedBy, isOpen, nothing, opened, operated, respond}
-use Rattle.deskline.specs.Session.{Printable, Sound, fed, left, said, told}
+use Rattle.deskfeed.specs.Session.{Printable, Sound, fed, left, said, told}
 use Rattle.deskline.specs.Text.{LONGEST-TEXT, lineText, placed}
 use Rattle.deskline.proofs.Laws.Placed.{Written, from-start, next as then, none, placed-length}
 
 -- Every answer leaves a line that can be printed.
 pub opened-printable : (k n : ℕ) (b : Bool) → Printable (openedLine k n b)

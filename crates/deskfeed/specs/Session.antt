@@ -11,9 +11,9 @@ use Rattle.line.specs.Requests.{Request, requestOf}
 use Rattle.screen.specs.declared.record.Line.{Line}
 use Rattle.screen.specs.Moves.{noLine}
 use Rattle.screen.specs.Reached.{IsLine}
-use Rattle.deskline.specs.declared.session.Session.{Session}
+use Rattle.deskfeed.specs.declared.session.Session.{Session}
 use Rattle.deskline.specs.Replies.{askedBy, respond}
 use Rattle.deskline.specs.Text.{lineText}
 
 -- What is printed for requests from a line on, and the line that they leave.
 unfoldable pub said : Line → List Request → List ℕ
