@@ -3,7 +3,6 @@ use Prim.Native.Nat.{ℕ, _≤_}
 use mathlib.Core.Path.{_≡_}
 use mathlib.Core.List.{List, [], _∷_, _++_, map}
 use lib.ListN.{length, replicate}
-use Rattle.frame.specs.declared.reader.Reader.{Reader}
 use Rattle.frame.specs.Reading.{KEPT, asked, past}
 use Rattle.frame.specs.Session.{joined, rest}
 use Rattle.line.specs.Program.{linesOf}

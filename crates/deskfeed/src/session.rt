@@ -10,7 +10,6 @@ ghost use mathlib.Core.List.{_++_};
 ghost use Prim.Native.Nat.{_*_, _≤_};
 ghost use lib.ListN.{length, drop};
 ghost use Rattle.frame.specs.Reading.{asked};
-ghost use Rattle.frame.specs.Session.{rest};
 ghost use Rattle.deskfeed.specs.Session.{Sound, atStart, fed, finished, told};
 ghost use Rattle.deskline.specs.Text.{LONGEST-TEXT};
 

@@ -7,7 +7,7 @@ use crate::digits::put_word;
 use crate::reply::Reply;
 use screen::Line;
 ghost use mathlib.Core.Path.{_≡_};
-ghost use mathlib.Core.List.{[], _∷_, _++_};
+ghost use mathlib.Core.List.{[], _∷_};
 ghost use Prim.Native.Nat.{_+_, _≤_};
 ghost use lib.ListN.{length};
 ghost use Rattle.screen.specs.Line.{holders, waiters};

@@ -1,16 +1,15 @@
 -- Sessions stay sound, and pieces one after the other are the whole input.
 use Prim.Native.Nat.{ℕ, _*_, _≤_}
 use mathlib.Core.Path.{_≡_, refl, sym, ap, _∙_}
-use mathlib.Core.List.{List, [], _∷_, _++_, append-assoc, map}
+use mathlib.Core.List.{List, [], _∷_, _++_, append-assoc}
 use native.Mathlib.Omega.{arith}
 use borrow.Author.Tests.{eq-eqb, ne-eqb}
 use lib.ListN.{drop, length, length-replicate}
 use Rattle.frame.specs.Reading.{KEPT, asked, lineIn, past}
 use Rattle.frame.specs.Session.{joined, rest}
 use Rattle.frame.proofs.Laws.Lines.{lines-read}
-use Rattle.frame.proofs.Laws.Pieces.{asked-end, past-kept}
+use Rattle.frame.proofs.Laws.Pieces.{past-kept}
 use Rattle.frame.proofs.Laws.Sessions.{asked-append, past-append}
-use Rattle.line.specs.Program.{linesOf}
 use Rattle.line.specs.Requests.{Request, requestOf}
 use Rattle.screen.specs.declared.record.Line.{Line}
 use Rattle.screen.specs.Moves.{noLine}
