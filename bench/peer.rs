@@ -1,8 +1,9 @@
-//! What a wait costs in process: the hub (librun.a) or tokio's fair semaphore. One permit, which
-//! is held, and WAITERS that stand in line for it. `give-up`: the last of them asks, waits and
-//! gives up. `hand-over`: the holder gives back, the first in line gets the permit, and the old
-//! holder asks and waits. Every turn leaves as many in line as it found, and is checked.
-//! Usage: peer hub|tokio give-up|hand-over WAITERS TURNS
+//! What a wait costs in process: the hub, by steps (librun.a) or by whole operations (liboperate.a),
+//! or tokio's fair semaphore. One permit, which is held, and WAITERS that stand in line for it.
+//! `give-up`: the last of them asks, waits and gives up. `hand-over`: the holder gives back, the
+//! first in line gets the permit, and the old holder asks and waits. Every turn leaves as many in
+//! line as it found, and is checked.
+//! Usage: peer steps|operations|tokio give-up|hand-over WAITERS TURNS
 
 #[path = "../tests/compare/library.rs"]
 mod library;
@@ -18,65 +19,81 @@ enum Turn {
 }
 
 mod hub {
-    use super::library::hub_run;
+    use super::library::{hub_operate, hub_run};
     use super::{Turn, VecDeque};
 
-    /// Calls, and the code that each must be answered by.
-    #[derive(Default)]
-    struct Schedule {
-        calls: Vec<[u8; 2]>,
-        codes: Vec<u8>,
+    const ASK: u8 = 0x10;
+    const STEP: u8 = 0x11;
+    const GIVE_UP: u8 = 0x12;
+    const GIVE_BACK: u8 = 0x13;
+    const ACCEPTED: u8 = 0x20;
+    const NOBODY: u8 = 0xFF;
+
+    /// An operation, the codes of its steps, and the party that it must wake.
+    struct Operation {
+        call: [u8; 2],
+        steps: &'static [u8],
+        woken: u8,
     }
 
-    impl Schedule {
-        fn call(&mut self, call: u8, party: u8, code: u8) {
-            self.calls.push([call, party]);
-            self.codes.push(code);
-        }
+    const HOLDS: &[u8] = &[0x21];
+    const WAITS: &[u8] = &[0x22, 0x23, 0x24];
+    const LEAVES: &[u8] = &[0x2E, 0x30];
+    const HANDS_OVER: &[u8] = &[0x27, 0x28, 0x2A];
 
-        fn ask_and_wait(&mut self, party: u8) {
-            self.call(0x10, party, 0x20);
-            for code in [0x22, 0x23, 0x24] {
-                self.call(0x11, party, code);
-            }
-        }
-    }
-
-    pub fn run(turn: Turn, waiters: u8, turns: usize) {
-        let holder = waiters;
+    fn operations(turn: Turn, waiters: u8, turns: usize) -> Vec<Operation> {
+        let mut made = Vec::new();
+        let mut make = |code, party, steps, woken| made.push(Operation { call: [code, party], steps, woken });
+        let mut holder = waiters;
         let mut line: VecDeque<u8> = match turn {
             Turn::GiveUp => (1..waiters).collect(), // the last in line is party 0
             Turn::HandOver => (0..waiters).collect(),
         };
-        let mut schedule = Schedule::default();
-        schedule.call(0x10, holder, 0x20);
-        schedule.call(0x11, holder, 0x21);
+        make(ASK, holder, HOLDS, NOBODY);
         for &party in &line {
-            schedule.ask_and_wait(party);
+            make(ASK, party, WAITS, NOBODY);
         }
-        let mut holder = holder;
         for _ in 0..turns {
             if turn == Turn::GiveUp {
-                schedule.ask_and_wait(0);
-                schedule.call(0x12, 0, 0x20);
-                schedule.call(0x11, 0, 0x2E);
-                schedule.call(0x11, 0, 0x30);
+                make(ASK, 0, WAITS, NOBODY);
+                make(GIVE_UP, 0, LEAVES, NOBODY);
             } else {
-                schedule.call(0x13, holder, 0x20);
-                for code in [0x27, 0x28, 0x2A] {
-                    schedule.call(0x11, holder, code);
-                }
-                schedule.ask_and_wait(holder);
+                let next = line.pop_front().expect("somebody waits");
+                make(GIVE_BACK, holder, HANDS_OVER, next);
+                make(ASK, holder, WAITS, NOBODY);
                 line.push_back(holder);
-                holder = line.pop_front().expect("somebody waits");
+                holder = next;
             }
         }
-        let calls = schedule.calls.as_flattened();
-        let mut out = vec![[0; 7]; schedule.calls.len()];
-        let code = hub_run(&[0x01, 1, waiters + 1], calls, out.as_flattened_mut());
-        assert_eq!(code, 0);
-        let codes: Vec<u8> = out.iter().map(|answer| answer[0]).collect();
-        assert_eq!(codes, schedule.codes);
+        made
+    }
+
+    /// Every step a call of its own.
+    pub fn step(turn: Turn, waiters: u8, turns: usize) {
+        let mut calls = Vec::new();
+        let mut codes = Vec::new();
+        for operation in operations(turn, waiters, turns) {
+            calls.push(operation.call);
+            codes.push(ACCEPTED);
+            for &code in operation.steps {
+                calls.push([STEP, operation.call[1]]);
+                codes.push(code);
+            }
+        }
+        let mut out = vec![[0; 7]; calls.len()];
+        let result = hub_run(&[0x01, 1, waiters + 1], calls.as_flattened(), out.as_flattened_mut());
+        assert_eq!(result, 0);
+        assert!(out.iter().map(|answer| answer[0]).eq(codes));
+    }
+
+    pub fn operate(turn: Turn, waiters: u8, turns: usize) {
+        let made = operations(turn, waiters, turns);
+        let calls: Vec<[u8; 2]> = made.iter().map(|operation| operation.call).collect();
+        let mut out = vec![[0; 3]; calls.len()];
+        let result = hub_operate(&[0x01, 1, waiters + 1], calls.as_flattened(), out.as_flattened_mut());
+        assert_eq!(result, 0);
+        let answer = |operation: &Operation| [ACCEPTED, operation.woken, operation.steps.len() as u8];
+        assert!(out.into_iter().eq(made.iter().map(answer)));
     }
 }
 
@@ -153,14 +170,15 @@ mod peer {
 fn main() -> ExitCode {
     let arguments: Vec<String> = env::args().collect();
     let [_, which, turn, waiters, turns] = &arguments[..] else {
-        eprintln!("usage: peer hub|tokio give-up|hand-over WAITERS TURNS");
+        eprintln!("usage: peer steps|operations|tokio give-up|hand-over WAITERS TURNS");
         return ExitCode::FAILURE;
     };
     let turn = if turn == "give-up" { Turn::GiveUp } else { Turn::HandOver };
     let waiters: u8 = waiters.parse().expect("WAITERS is a number");
     let turns: usize = turns.parse().expect("TURNS is a number");
     match which.as_str() {
-        "hub" => hub::run(turn, waiters, turns),
+        "steps" => hub::step(turn, waiters, turns),
+        "operations" => hub::operate(turn, waiters, turns),
         "tokio" => peer::run(turn, waiters, turns),
         _ => {
             eprintln!("peer: no {which} here");

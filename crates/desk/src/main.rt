@@ -1,15 +1,15 @@
 // The desk program: standard input to standard output, in constant memory.
 
-use deskline::session::Session;
-use deskline::session::begin;
-use deskline::session::feed;
-use deskline::session::finish;
+use deskfeed::session::Session;
+use deskfeed::session::begin;
+use deskfeed::session::feed;
+use deskfeed::session::finish;
 use libc::STDERR_FILENO;
 use libc::STDIN_FILENO;
 use libc::STDOUT_FILENO;
 ghost use Prim.Native.Nat.{_*_, _≤_};
 ghost use lib.ListN.{length};
-ghost use Rattle.deskline.specs.Session.{Sound};
+ghost use Rattle.deskfeed.specs.Session.{Sound};
 ghost use Rattle.deskline.specs.Text.{LONGEST-TEXT};
 
 // The session past a piece. Without more there is nothing to read; a run is whole as long as

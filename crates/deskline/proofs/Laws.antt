@@ -2,5 +2,3 @@
 pub mod Placed
 pub mod Numbers
 pub mod Replies
-pub mod Feeding
-pub mod Sessions

@@ -1,4 +1,3 @@
--- M-110, the desk program: a line of output for each line of input.
+-- M-110, the desk program: a line of output for a line of input.
 pub mod Replies  -- what a line is answered
 pub mod Text  -- how that is printed
-pub mod Session  -- the whole output, and an input in pieces

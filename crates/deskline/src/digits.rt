@@ -1,4 +1,4 @@
-// Numbers as characters. Each function writes at a place of a buffer and gives the place past what it wrote.
+// Words and numbers as characters. Each function writes at a place of a buffer and gives the place past what it wrote.
 
 ghost use mathlib.Core.Path.{_≡_};
 ghost use mathlib.Core.List.{[], _∷_};
@@ -47,6 +47,19 @@ pub(crate) fn put_char(out: &mut [u8], at: usize, c: u8) -> usize
 {
     out[at] = c;
     at + 1
+}
+
+pub(crate) fn put_word(out: &mut [u8], at: usize, word: &[u8]) -> usize
+    requires { ⌜ at + length (now word) ≤ length (now out) ⌝ }
+    ensures { λ r. ⌜ (r ≡ at + length (now (word .entry)))
+        × (now (out .exit) ≡ placed at (now (word .entry)) (now (out .entry))) ⌝ }
+{
+    let mut i: usize = 0;
+    while i < word.len() {
+        out[at + i] = word[i];
+        i += 1;
+    }
+    at + i
 }
 
 pub(crate) fn put_hex(out: &mut [u8], at: usize, byte: u8) -> usize

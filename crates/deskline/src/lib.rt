@@ -1,6 +1,5 @@
 // The desk program's lines: what each line of its input is answered, and how that is printed.
 
 pub mod reply; // what a line is answered
-mod digits; // numbers as characters
+mod digits; // words and numbers as characters
 pub mod text; // an answer as a line
-pub mod session; // a run over an input that comes in pieces

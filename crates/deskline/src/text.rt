@@ -3,14 +3,15 @@
 use crate::digits::put_char;
 use crate::digits::put_decimal;
 use crate::digits::put_hex;
+use crate::digits::put_word;
 use crate::reply::Reply;
 use screen::Line;
 ghost use mathlib.Core.Path.{_≡_};
-ghost use mathlib.Core.List.{[], _∷_, _++_};
+ghost use mathlib.Core.List.{[], _∷_};
 ghost use Prim.Native.Nat.{_+_, _≤_};
 ghost use lib.ListN.{length};
 ghost use Rattle.screen.specs.Line.{holders, waiters};
-ghost use Rattle.deskline.specs.Text.{HELD, LONGEST-TEXT, SPACE, WAITING, headText, lineText, numbers, partiesText, placed};
+ghost use Rattle.deskline.specs.Text.{LONGEST-TEXT, headText, lineText, numbers, partiesText, placed};
 ghost use Rattle.deskline.specs.Text.{stepsText};
 
 const SPACE: u8 = 0x20;
@@ -77,33 +78,6 @@ fn put_steps(out: &mut [u8], at: usize, code: u8, steps: u8) -> usize
     put_char(out, at, 0x2D)
 }
 
-// The word "held".
-fn put_held(out: &mut [u8], at: usize) -> usize
-    requires { ⌜ at + 5 ≤ length (now out) ⌝ }
-    ensures { λ r. ⌜ (r ≡ at + 5) × (now (out .exit) ≡ placed at (SPACE ∷ HELD) (now (out .entry))) ⌝ }
-{
-    let a = put_char(out, at, SPACE);
-    let b = put_char(out, a, 0x68);
-    let c = put_char(out, b, 0x65);
-    let d = put_char(out, c, 0x6C);
-    put_char(out, d, 0x64)
-}
-
-// The word "waiting".
-fn put_waiting(out: &mut [u8], at: usize) -> usize
-    requires { ⌜ at + 8 ≤ length (now out) ⌝ }
-    ensures { λ r. ⌜ (r ≡ at + 8) × (now (out .exit) ≡ placed at (SPACE ∷ WAITING) (now (out .entry))) ⌝ }
-{
-    let a = put_char(out, at, SPACE);
-    let b = put_char(out, a, 0x77);
-    let c = put_char(out, b, 0x61);
-    let d = put_char(out, c, 0x69);
-    let e = put_char(out, d, 0x74);
-    let f = put_char(out, e, 0x69);
-    let g = put_char(out, f, 0x6E);
-    put_char(out, g, 0x67)
-}
-
 // The code, the party and the steps.
 fn put_head(out: &mut [u8], at: usize, code: u8, party: u8, steps: u8) -> usize
     requires { ⌜ at + 9 ≤ length (now out) ⌝ }
@@ -126,9 +100,9 @@ fn put_parties(out: &mut [u8], at: usize, line: Line) -> usize
         × (now (out .exit) ≡ placed at (partiesText line) (now (out .entry))) ⌝ }
     ensures short { λ r. ⌜ r ≤ at + 270 ⌝ }
 {
-    let a = put_held(out, at);
+    let a = put_word(out, at, b" held");
     let b = put_holders(out, a, line);
-    let c = put_waiting(out, b);
+    let c = put_word(out, b, b" waiting");
     let d = put_waiters(out, c, line);
     put_char(out, d, 0x0A)
 }

@@ -26,7 +26,7 @@ use Rattle.hub.specs.Table.{acquire, cancel, decide, release, resumeWait
 use Rattle.hub.specs.Table.{stepCancelling, stepFetching, stepIn, stepRefusing, stepReleasing}
 use Rattle.hub.specs.Table.{stepResuming, stepResumingAt, stepStoring, stepSuspending, stepTicketed}
 use Rattle.hub.specs.Table.{tellRadio}
-use Rattle.hub.specs.Widths.{BYTE, NoLarger, SameCalls, SameIn, UpTo, WORD, calledIn, keptIn, writtenIn}
+use Rattle.hub.specs.Widths.{BYTE, NoLarger, SameCalls, UpTo, WORD, calledIn, keptIn, writtenIn}
 use Rattle.hub.proofs.Laws.Bools.{clause, first, second}
 use Rattle.hub.proofs.Laws.Phases.{by-ticket, every-place, ticketed}
 

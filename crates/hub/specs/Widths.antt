@@ -1,6 +1,7 @@
--- "Smaller records on the boards": a place keeps its party in a byte, where it had 32 bits. The definitions of
--- the calls know numbers alone, and no width. Here a record is written to places of a width and read from
--- them.
+-- "Smaller records on the boards": a place keeps its party in a byte, where it had 32 bits. The width is that
+-- of the type in src/, which can hold no other record. The definitions of the calls know numbers alone and no
+-- width, so that they are the same before and after. Here a record is written to places of a width and read
+-- from them.
 use Prim.Native.Nat.{ℕ, _%_}
 use mathlib.Core.Bool.{true}
 use mathlib.Core.List.{map}

@@ -1,10 +1,9 @@
 -- How a run of operations ends, and what it leaves in the buffer.
 use Prim.Native.Nat.{ℕ, _/_}
-use mathlib.Core.Bool.{cond}
+use mathlib.Core.Bool.{Bool, true, false}
 use mathlib.Core.List.{List}
 use lib.Dec.{eqb, leb}
 use lib.ListN.{length}
-use Rattle.hub.specs.declared.opening.Opening.{Opening}
 use Rattle.hub.specs.declared.record.Outcome.{Outcome}
 use Rattle.hub.specs.Answers.{printed}
 use Rattle.hub.specs.Opening.{opening}
@@ -21,17 +20,20 @@ pub record Ended : Type 0 where
 abbrev pub unmade : ℕ → List ℕ → Ended
 unmade c out = record { result = c; out = out }
 
--- The opening's refusal, malformed operations, fewer than three bytes of room for each, in that order.
-unfoldable pub operatedFrom : Outcome → List ℕ → List ℕ → Ended
+-- The opening's refusal, malformed operations, no room, in that order; a run that is done writes three bytes for
+-- each operation and leaves the rest alone.
+unfoldable pub operatedIf : Bool → Bool → Bool → Outcome → List ℕ → List ℕ → Ended
+operatedIf false w m o operations out = unmade (printed (o .answer) .code) out
+operatedIf true false m o operations out = unmade 254 out
+operatedIf true true false o operations out = unmade 255 out
+operatedIf true true true o operations out =
+    record { result = 0; out = written (o .hub) operations out }
+
+-- From what an opening is answered, 1F if it is made.
+abbrev pub operatedFrom : Outcome → List ℕ → List ℕ → Ended
 operatedFrom o operations out =
-    let code = printed (o .answer) .code in
-    cond (eqb code 0x1F)
-    (cond (wellFormed isOperationCode operations)
-    (cond (leb (length operations / 2) (length out / 3))
-    (record { result = 0; out = written (o .hub) operations out })
-    (unmade 255 out))
-    (unmade 254 out))
-    (unmade code out)
+    operatedIf (eqb (printed (o .answer) .code) 0x1F) (wellFormed isOperationCode operations)
+    (leb (length operations / 2) (length out / 3)) o operations out
 
 -- The opening as a frame; one that is malformed, or a call, opens nothing.
 abbrev pub framedRun : Request → List ℕ → List ℕ → Ended

@@ -1,5 +1,5 @@
 -- A list of operations as bytes, and the answers to it.
-use Prim.Native.Nat.{ℕ, _*_, _/_, _%_}
+use Prim.Native.Nat.{ℕ, _*_, _/_}
 use mathlib.Core.Bool.{Bool}
 use mathlib.Core.List.{List, [], _∷_, _++_}
 use lib.ListN.{length, drop}
@@ -17,7 +17,7 @@ isOperationCode c = among (0x10 ∷ 0x12 ∷ 0x13 ∷ []) c
 
 -- The three bytes of an answer: 20 or the refusal, the party that was woken, the steps taken.
 abbrev pub answerBytes : Operated → List ℕ
-answerBytes r = printed (r .answer) .code ∷ r .woken % 256 ∷ r .steps ∷ []
+answerBytes r = printed (r .answer) .code ∷ r .woken ∷ r .steps ∷ []
 
 -- The answers to operations, each on the record that the one before it left.
 unfoldable pub answersTo : Hub → List Call → List ℕ

@@ -10,12 +10,11 @@ use hub::slots::empty_seat;
 use hub::slots::with_phase;
 use hub::slots::with_place;
 use plan::Seen;
-use plan::operation_of;
+use plan::is_full_for;
+use plan::place_for;
 use plan::plan_for;
 use plan::radio_by;
-use plan::ticket_for;
 use pool::moving::move_radio;
-use transition::room::full_for;
 use transition::tidy::can_retire;
 use transition::tidy::can_skip;
 ghost use mathlib.Core.Path.{_≡_};
@@ -54,9 +53,8 @@ pub fn perform_operations(hub: Hub, operations: &[u8], out: &mut [u8])
     let count = operations.len() / 2;
     let mut i: usize = 0;
     while i < count {
-        let from = 2 * i;
-        let code = operations[from];
-        let party = operations[from + 1];
+        let code = operations[2 * i];
+        let party = operations[2 * i + 1];
         let at = 3 * i;
         let end = at + 3;
         i += 1;
@@ -66,10 +64,10 @@ pub fn perform_operations(hub: Hub, operations: &[u8], out: &mut [u8])
         }
         let own = party as usize;
         let slot = slots[own];
-        let t = (ticket_for(code, slot, figures) % Hub::PLACES) as usize;
+        let t = place_for(code, slot, figures);
         let seat = places[t];
         let kind = kinds[own];
-        let full = full_for(operation_of(code), oldest, figures.issued, slots);
+        let full = is_full_for(code, oldest, figures.issued, slots);
         let s = Seen {
             party,
             kind,

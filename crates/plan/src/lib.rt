@@ -13,14 +13,18 @@ use hub::slots::with_phase;
 use hub::slots::with_place;
 use table::counter::above_zero;
 use table::counter::below_zero;
+use transition::room::full_for;
 ghost use mathlib.Core.Path.{_≡_};
 ghost use mathlib.Core.Bool.{cond};
 ghost use lib.Dec.{eqb, leb};
-ghost use Prim.Native.Nat.{_<_, _≤_};
+ghost use Prim.Native.Nat.{_%_, _<_, _≤_};
+ghost use Rattle.hub.specs.Calls.{isFull};
 ghost use Rattle.hub.specs.Phases.{byWaiter, isFree, isHolding, isWaiting};
 ghost use Rattle.hub.specs.Record.{MAX-BEGUN, withPlace};
+ghost use Rattle.hub.specs.Ring.{PLACES};
 ghost use Rattle.hub.specs.Table.{aboveZero, belowZero};
 ghost use Rattle.table.specs.Small.{CounterFits};
+ghost use Rattle.transition.specs.Room.{fullFor};
 ghost use Rattle.plan.specs.Plan.{asked, given, operationOf, planAcquire, planCancel, planOf};
 ghost use Rattle.plan.specs.Plan.{planRelease, radioBy, refusedBy, short, ticketFor};
 
@@ -46,7 +50,7 @@ pub struct Plan {
 }
 
 // The operation of a code; give back is what is left of the three.
-pub fn operation_of(code: u8) -> Op
+fn operation_of(code: u8) -> Op
     ensures { λ r. ⌜ r ≡ operationOf code ⌝ }
 {
     if code == 0x10 {
@@ -58,8 +62,16 @@ pub fn operation_of(code: u8) -> Op
     Op::Release
 }
 
+// Is there no place for one more ticket? Asked for an ask alone.
+pub fn is_full_for(code: u8, oldest: u32, issued: u32, slots: [PartySlot; 32]) -> bool
+    requires { ⌜ (oldest ≤ 1000000) × (issued ≤ 1000000) ⌝ }
+    ensures { λ r. ⌜ r ≡ fullFor (operationOf code) (isFull oldest issued slots) ⌝ }
+{
+    full_for(operation_of(code), oldest, issued, slots)
+}
+
 // The ticket whose place it is about: the next that is drawn, the party's own, the next that is resumed.
-pub fn ticket_for(code: u8, slot: PartySlot, figures: Figures) -> u32
+fn ticket_for(code: u8, slot: PartySlot, figures: Figures) -> u32
     ensures { λ r. ⌜ r ≡ ticketFor code (slot .phase) figures ⌝ }
 {
     if code == 0x10 {
@@ -70,6 +82,13 @@ pub fn ticket_for(code: u8, slot: PartySlot, figures: Figures) -> u32
         return ticket(phase);
     }
     figures.resumed
+}
+
+// Where that place lies in the ring.
+pub fn place_for(code: u8, slot: PartySlot, figures: Figures) -> usize
+    ensures { λ r. ⌜ r ≡ ticketFor code (slot .phase) figures % PLACES ⌝ }
+{
+    (ticket_for(code, slot, figures) % Hub::PLACES) as usize
 }
 
 fn asked(issued: u32, figures: Figures) -> Figures

@@ -1,6 +1,6 @@
 -- "How many steps the hub would take to come to rest", from the line alone; the call's own 20 is not counted.
 use Prim.Native.Nat.{ℕ}
-use mathlib.Core.Bool.{Bool, true, false, cond}
+use mathlib.Core.Bool.{Bool, cond}
 use Rattle.screen.specs.declared.record.Line.{Line}
 use Rattle.screen.specs.declared.record.Operation.{Operation}
 use Rattle.screen.specs.Moves.{hasPermit, hasWaiter, isAccepted, moved, nextWaiter}

@@ -21,7 +21,7 @@ ghost use Prim.Native.Nat.{_<_};
 ghost use Rattle.hub.specs.Answers.{printed};
 ghost use Rattle.screen.specs.Fits.{lineFits};
 ghost use Rattle.screen.specs.Line.{openedLine};
-ghost use Rattle.screen.specs.Moves.{accepted, lineOpening, moved, noLine, ownMove, refused};
+ghost use Rattle.screen.specs.Moves.{accepted, lineOpening, moved, ownMove, refused};
 
 impl Line {
     // The line of a hub that was just opened; nothing is checked here.

@@ -5,9 +5,9 @@ use Prim.Native.Nat.{_-_, _≤_}
 use mathlib.Core.Path.{_≡_, sym, subst}
 use lib.ListN.{length, take}
 use Rattle.frame.proofs.Laws.Sizes.{asked-few, take-few}
-use Rattle.deskline.specs.declared.session.Fed.{Fed}
-use Rattle.deskline.specs.Session.{Sound}
-use Rattle.deskline.proofs.Laws.Sessions.{fed-sound}
+use Rattle.deskfeed.specs.declared.session.Fed.{Fed}
+use Rattle.deskfeed.specs.Session.{Sound}
+use Rattle.deskfeed.proofs.Laws.Sessions.{fed-sound}
 use Rattle.desk.proofs.take_piece.Statement.{statement}
 use Rattle.desk.proofs.take_piece.Tie as tie
 

@@ -1,15 +1,14 @@
 -- The characters of numbers.
-use Prim.Native.Nat.{ℕ, zero, suc, _+_, _*_, _/_, _≤_, _<_}
+use Prim.Native.Nat.{ℕ, _+_, _*_, _/_, _≤_, _<_}
 use mathlib.Core.Path.{_≡_, refl, sym, ap, _∙_}
 use mathlib.Core.Bool.{Bool, true, false, cond}
 use mathlib.Core.List.{List, [], _∷_, _++_, append-assoc, append-nil}
-use native.Mathlib.Decide.{decLe}
 use native.Mathlib.Numerals.{add-one}
 use native.Mathlib.Omega.{arith}
-use borrow.Author.Tests.{eq-eqb, le-ltb, lt-ltb, ne-eqb}
+use borrow.Author.Tests.{le-ltb, lt-ltb}
 use lib.Dec.{eqb, ltb}
 use lib.ListN.{length, getD, take, drop, drop-of-length-le, length-append}
-use lib.Seq.{drop-cons, getD-take, length-take-le, take-suc}
+use lib.Seq.{drop-cons, getD-take, length-take-le}
 use Rattle.screen.specs.Line.{holdersFrom}
 use Rattle.deskline.specs.Text.{HELD, SPACE, WAITING, decimal, digitChar, numbers, placed, stepsText}
 use Rattle.deskline.proofs.Laws.Placed.{Written, gives, next, none, placed-length, text-is}

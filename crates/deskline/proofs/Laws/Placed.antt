@@ -1,11 +1,11 @@
 -- Texts written one behind the other.
 use Prim.Native.Nat.{ℕ, suc, _+_, _-_, _≤_, _<_}
 use mathlib.Core.Path.{_≡_, refl, sym, ap, subst, _∙_}
-use mathlib.Core.List.{List, [], _∷_, _++_, append-assoc, append-nil}
+use mathlib.Core.List.{List, [], _∷_, _++_, append-assoc}
 use native.Mathlib.Numerals.{add-one}
 use native.Mathlib.Omega.{arith}
-use lib.ListN.{length, take, drop, set, length-append, length-drop, take-append-drop}
-use lib.Seq.{drop-append-add, drop-at, drop-drop, length-take-le, set-split, take-at}
+use lib.ListN.{length, getD, take, drop, set, length-append, length-drop, length-set, take-append-drop}
+use lib.Seq.{drop-at, drop-drop, length-take-le, set-split, take-all, take-at, take-suc}
 use Rattle.deskline.specs.Text.{placed}
 
 pub placed-one : (out : List ℕ) (at c : ℕ) → at < length out → set out at c ≡ placed at (c ∷ []) out
@@ -87,3 +87,40 @@ text-is {at} {end} {t} {u} {out₀} {out} e w = subst (λ (x : List ℕ). Writte
 pub from-start : (out t : List ℕ) → placed 0 t out ≡ t ++ drop (length t) out
 unfolding placed
 from-start out t = let e : 0 + length t ≡ length t = omega arith in ap (λ (n : ℕ). t ++ drop n out) e
+
+-- A word, character by character: the first i of them are written.
+pub record Copied (at : ℕ) (word out₀ : List ℕ) (i : ℕ) (out : List ℕ) : Type 0 where
+  pub within : i ≤ length word
+  pub room : at + length word ≤ length out₀
+  pub long : length out ≡ length out₀
+  pub done : Written at (take i word) out₀ (at + i) out
+
+pub copied-none : (at : ℕ) (word out : List ℕ) → at + length word ≤ length out → Copied at word out 0 out
+copied-none at word out h =
+    let e : at + 0 ≡ at = omega arith in
+    record {
+      within = omega arith;
+      room = h;
+      long = refl;
+      done = subst (λ (n : ℕ). Written at [] out n out) (sym e) (none at out (omega arith));
+    }
+
+module _ {at : ℕ} {word out₀ : List ℕ} {i : ℕ} {out : List ℕ} (c : Copied at word out₀ i out) where
+  pub copied-one : i < length word → Copied at word out₀ (i + 1) (set out (at + i) (getD word i 0))
+  copied-one h =
+      let x = getD word i 0 in
+      let e : take i word ++ (x ∷ []) ≡ take (i + 1) word = rw (add-one, take-suc word i 0 h) in
+      record {
+        within = omega arith;
+        room = c .room;
+        long = length-set out (at + i) x ∙ c .long;
+        done =
+            text-is e
+            (next (c .done) (x ∷ []) (omega arith) (placed-one out (at + i) x (omega (arith, c .room, c .long)))
+            (omega (arith, c .room)));
+      }
+
+  pub copied-all : length word ≤ i → (at + i ≡ at + length word) × (out ≡ placed at word out₀)
+  copied-all h =
+      let e : i ≡ length word = omega (arith, c .within) in
+      (ap (λ (n : ℕ). at + n) e, gives (text-is (take-all i word h) (c .done)) .1)

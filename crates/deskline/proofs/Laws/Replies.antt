@@ -1,24 +1,21 @@
 -- What a line asks, told by its header, and what it is answered.
-use Prim.Native.Nat.{ℕ, _≤_}
-use mathlib.Core.Path.{_≡_, refl, sym, ap, subst, _∙_}
-use mathlib.Core.Bool.{Bool, true, false, cond}
+use Prim.Native.Nat.{ℕ}
+use mathlib.Core.Path.{_≡_, refl, sym, ap, _∙_}
+use mathlib.Core.Bool.{true, false}
 use native.Mathlib.Omega.{arith}
-use Rattle.hub.specs.declared.moves.Call.{Call}
 use Rattle.hub.specs.declared.moves.Op.{Op}
 use Rattle.hub.specs.declared.opening.Opening.{Opening}
 use Rattle.hub.specs.Answers.{Printed, printed}
 use Rattle.line.specs.declared.answer.Print.{Print}
-use Rattle.line.specs.declared.request.Header.{Header}
 use Rattle.line.specs.Frame.{paper}
 use Rattle.line.specs.Requests.{Request, headerOf, isOpening, malformed, toCall, toOpen}
 use Rattle.screen.specs.declared.record.Line.{Line}
 use Rattle.screen.specs.declared.record.Moved.{Moved}
 use Rattle.screen.specs.declared.record.Operation.{Operation}
-use Rattle.screen.specs.Fits.{lineFits}
 use Rattle.screen.specs.Moves.{lineOpening, moved}
 use Rattle.screen.specs.Steps.{stepsToRest}
 use Rattle.deskline.specs.declared.reply.Reply.{Reply}
-use Rattle.deskline.specs.Replies.{anOperation, anOpening, askedBy, isOpen, nothing, opened, operated, respond}
+use Rattle.deskline.specs.Replies.{askedBy, isOpen, opened, operated, respond}
 use Rattle.deskline.specs.Replies.{told}
 
 -- An opening.

@@ -1,7 +1,7 @@
 -- The loop over the operations: what is written and what is still to come are the whole.
 use Prim.Native.Nat.{ℕ, _+_, _-_, _*_, _/_, _≤_, _<_}
 use mathlib.Core.Path.{_≡_, refl, sym, ap, subst, _∙_}
-use mathlib.Core.Bool.{Bool, true, false, true≢false}
+use mathlib.Core.Bool.{true, false, true≢false}
 use mathlib.Core.List.{List, [], _∷_, _++_, append-assoc, append-nil}
 use native.Mathlib.Omega.{arith}
 use borrow.Rule.Slice.PartMut.{putMid}
@@ -12,7 +12,6 @@ use Rattle.hub.specs.declared.record.Hub.{Hub}
 use Rattle.hub.proofs.Laws.Bools.{first, second}
 use Rattle.line.specs.Frame.{opOf}
 use Rattle.line.proofs.Laws.Parts.{put-length, put-take, put-drop}
-use Rattle.operations.specs.declared.Operated.{Operated}
 use Rattle.operations.specs.Operation.{operated}
 use Rattle.run.specs.Bytes.{callsOf, wellFormed}
 use Rattle.run.proofs.Laws.Pairs.{one-formed, pair}

@@ -7,7 +7,6 @@ use lib.Dec.{eqb}
 use Rattle.line.specs.Frame.{opOf}
 use Rattle.operations.specs.AtRest.{isOperation}
 use Rattle.perform.specs.Bytes.{isOperationCode}
-use Rattle.plan.specs.Plan.{operationOf}
 
 -- What holds of the three holds of each that passes the test.
 pub among-three : (P : ℕ → Type 0) → P 0x10 → P 0x12 → P 0x13
@@ -23,6 +22,3 @@ among-three P a b d c = go (eqb c 0x10) refl (eqb c 0x12) refl (eqb c 0x13) refl
 
 pub an-operation : (c : ℕ) → isOperationCode c ≡ true → isOperation (opOf c) ≡ true
 an-operation = among-three (λ c. isOperation (opOf c) ≡ true) refl refl refl
-
-pub same-operation : (c : ℕ) → isOperationCode c ≡ true → operationOf c ≡ opOf c
-same-operation = among-three (λ c. operationOf c ≡ opOf c) refl refl refl

@@ -1,5 +1,5 @@
 -- What is decided, once it is stored and tidied, is what the operation comes to.
-use Prim.Native.Nat.{ℕ, _+_}
+use Prim.Native.Nat.{ℕ, _+_, _≤_}
 use mathlib.Core.Path.{_≡_, refl, sym, ap, subst, _∙_}
 use mathlib.Core.Bool.{Bool, true, false, cond, _&&_}
 use mathlib.Core.List.{List}
@@ -20,10 +20,10 @@ use Rattle.hub.specs.Calls.{checked, isFull, tidied}
 use Rattle.hub.specs.Fits.{fits}
 use Rattle.hub.specs.Kinds.{kindOf}
 use Rattle.hub.specs.Look.{look, seenBy}
-use Rattle.hub.specs.Phases.{atRest, isOneOf, isWaiting}
+use Rattle.hub.specs.Phases.{atRest, byWaiter, isOneOf, isWaiting}
 use Rattle.hub.specs.Radios.{fetch, handOf, handTo, moved, poolAfter, putBack}
 use Rattle.hub.specs.Record.{PARTIES, readSlot, withPhase, writeSlot}
-use Rattle.hub.specs.Ring.{readSeat, writeSeat}
+use Rattle.hub.specs.Ring.{readPlace, readSeat, writeSeat}
 use Rattle.hub.specs.Table.{aboveZero, acquire, belowZero, canCancel, cancel, decide, givenUp, release}
 use Rattle.hub.proofs.Laws.Phases.{phases-alike}
 use Rattle.line.specs.Frame.{opOf}
@@ -37,6 +37,7 @@ use Rattle.perform.specs.Bytes.{isOperationCode}
 use Rattle.plan.specs.Plan.{asked, given, planAcquire, planCancel, planOf, planRelease, radioBy}
 use Rattle.plan.specs.Plan.{refusedBy, ticketFor}
 use Rattle.perform.proofs.Laws.Codes.{among-three}
+use Rattle.perform.proofs.Laws.Plans.{asked-woken, cancelled-woken, released-woken}
 
 -- At rest only a wait can be given up.
 gives-up : (x : Phase) → atRest x ≡ true → canCancel x ≡ isWaiting x
@@ -130,6 +131,15 @@ module _ (h : Hub) (p : ℕ) where
     pub woken : r .woken ≡ e .woken
     pub steps : r .steps ≡ e .steps
     pub hub : tidiedBy (e .turns) (storedBy c e) ≡ r .hub
+
+  -- Whoever is woken has a number of one byte.
+  pub woken-byte :
+      (belowZero (h .figures .counter) ≡ true
+      → byWaiter 0xFF (λ q. q) (readPlace (h .places) (h .figures .resumed)) ≤ 0xFF)
+      → (c : ℕ) → isOperationCode c ≡ true → planAt c .woken ≤ 0xFF
+  woken-byte e =
+      among-three (λ c. planAt c .woken ≤ 0xFF) (asked-woken (seenOf 0x10) _ _ _ _)
+      (cancelled-woken (seenOf 0x12) _ _) (released-woken (seenOf 0x13) _ _ e)
 
   module _ (size : length (h .slots) ≡ PARTIES) where
     abbrev own : PartySlot

@@ -1,11 +1,12 @@
--- What is decided: an ask alone looks at whether there is room, and the tidying has at most 256 turns.
+-- What is decided: an ask alone looks at whether there is room, the tidying has at most 256 turns, and whoever is
+-- woken has a number of one byte.
 use Prim.Native.Nat.{ℕ, _≤_}
 use mathlib.Core.Path.{_≡_, refl}
 use mathlib.Core.Bool.{Bool, true, false, cond}
 use native.Mathlib.Omega.{arith}
 use lib.Dec.{eqb, leb}
 use Rattle.hub.specs.declared.moves.Op.{Op}
-use Rattle.hub.specs.Phases.{isFree, isHolding, isWaiting}
+use Rattle.hub.specs.Phases.{byWaiter, isFree, isHolding, isWaiting}
 use Rattle.hub.specs.Record.{MAX-BEGUN}
 use Rattle.hub.specs.Table.{aboveZero, belowZero}
 use Rattle.transition.specs.Room.{fullFor}
@@ -64,3 +65,25 @@ module _ (s : Seen) where
   pub few-turns : (c : ℕ) (full : Bool) → planOf c full s .turns ≤ 256
   few-turns c full =
       by-code (λ (e : Plan). e .turns ≤ 256) (few-asked _ _ _ _) (few-cancelled _ _) (few-released _ _) c
+
+  -- Nobody is woken, or the party that waits at the place.
+  pub asked-woken : (a b f z : Bool) → planAcquire a b f z s .woken ≤ 0xFF
+  unfolding planAcquire
+  asked-woken false b f z = omega arith
+  asked-woken true true f z = omega arith
+  asked-woken true false true z = omega arith
+  asked-woken true false false true = omega arith
+  asked-woken true false false false = omega arith
+
+  pub cancelled-woken : (a k : Bool) → planCancel a k s .woken ≤ 0xFF
+  unfolding planCancel
+  cancelled-woken false k = omega arith
+  cancelled-woken true true = omega arith
+  cancelled-woken true false = omega arith
+
+  pub released-woken : (a z : Bool) → (z ≡ true → byWaiter 0xFF (λ q. q) (s .seat .place) ≤ 0xFF)
+      → planRelease a z s .woken ≤ 0xFF
+  unfolding planRelease
+  released-woken false z e = omega arith
+  released-woken true true e = e refl
+  released-woken true false e = omega arith

@@ -1,30 +1,47 @@
 -- Everybody is at rest on a hub just opened, and again after every operation.
-use Prim.Native.Nat.{ℕ}
-use mathlib.Core.Path.{_≡_, refl, sym, ap, subst, _∙_}
+use Prim.Native.Nat.{ℕ, _≤_}
+use mathlib.Core.Path.{_≡_, sym, ap, subst, _∙_}
 use mathlib.Core.Bool.{true}
-use mathlib.Core.List.{List, [], _∷_, _++_}
-use Rattle.hub.specs.declared.answers.Answer.{Answer}
+use native.Mathlib.Omega.{arith}
+use mathlib.Core.List.{_∷_, _++_}
 use Rattle.hub.specs.declared.moves.Call.{Call}
-use Rattle.hub.specs.declared.opening.Opening.{Opening}
 use Rattle.hub.specs.declared.record.Hub.{Hub}
-use Rattle.hub.specs.Calls.{called}
 use Rattle.hub.specs.Calm.{rests}
 use Rattle.hub.specs.Fits.{fits}
 use Rattle.hub.specs.Opening.{opening}
+use Rattle.hub.specs.Phases.{byWaiter}
+use Rattle.hub.specs.Ring.{readPlace}
 use Rattle.hub.specs.Schedule.{run}
+use Rattle.hub.specs.Table.{belowZero}
 use Rattle.batch.specs.Batch.{Reachable}
-use Rattle.batch.proofs.Laws.Reachable.{reachable-fits, opening-reachable}
+use Rattle.batch.proofs.Laws.Reachable.{reachable-fits}
 use Rattle.operations.specs.AtRest.{ComesTo, EndsAtRest, isOperation, operatedAtRest}
 use Rattle.operations.specs.Operation.{operated, stepsAfter}
 use Rattle.operations.proofs.Operations.{comes-to, ends-at-rest}
+use Rattle.operations.proofs.Reached.{at-rest, run-more}
+use Rattle.operations.proofs.Rest.{AtRest}
+use Rattle.operations.proofs.Waits.{next-waits, waiter-inside}
 use Rattle.perform.specs.Rested.{Rested}
 
-run-on : (h : Hub) (cs ds : List Call) → run (run h cs) ds ≡ run h (cs ++ ds)
-unfolding run
-run-on h [] ds = refl
-run-on h (c ∷ cs) ds = run-on (called h c .hub) cs ds
-
 module _ (h : Hub) (r : Rested h) where
+  known : AtRest h
+  known =
+      let a = r .reachable in
+      subst (λ (g : Hub). ((p : ℕ) → rests g p ≡ true) → AtRest g) (sym (a .same))
+      (at-rest (a .from) (a .accepted) (a .calls)) (r .calm)
+
+  -- Whoever is next in line is one of the 32.
+  pub next-in-line : belowZero (h .figures .counter) ≡ true
+      → byWaiter 0xFF (λ q. q) (readPlace (h .places) (h .figures .resumed)) ≤ 0xFF
+  next-in-line e =
+      let w = next-waits h known e in
+      omega (
+        arith,
+        ap (byWaiter 0xFF (λ q. q)) (known .waits (w .0) (h .figures .resumed) (w .1) .0),
+        waiter-inside h known (w .0) (h .figures .resumed) (w .1),
+        known .slots,
+      )
+
   pub rested-fits : fits h ≡ true
   rested-fits = reachable-fits h (r .reachable)
 
@@ -47,7 +64,7 @@ module _ (h : Hub) (r : Rested h) where
           calls = a .calls ++ cs;
           accepted = a .accepted;
           same =
-              ap (λ (g : Hub). run g cs) (a .same) ∙ run-on (opening (a .from) .hub) (a .calls) cs;
+              ap (λ (g : Hub). run g cs) (a .same) ∙ run-more (opening (a .from) .hub) (a .calls) cs;
         }
 
     calm-again : (p : ℕ) → rests (operated h c .hub) p ≡ true

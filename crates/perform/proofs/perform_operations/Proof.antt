@@ -12,7 +12,6 @@ use lib.ListN.{length, getD, set, length-map}
 use Rattle.hub.specs.declared.answers.Answer.{Answer}
 use Rattle.hub.specs.declared.answers.Refusal.{Refusal}
 use Rattle.hub.specs.declared.moves.Call.{Call}
-use Rattle.hub.specs.declared.moves.Op.{Op}
 use Rattle.hub.specs.declared.opening.Opening.{Opening}
 use Rattle.hub.specs.declared.record.Figures.{Figures}
 use Rattle.hub.specs.declared.record.Hub.{Hub}
@@ -31,7 +30,6 @@ use Rattle.hub.specs.Table.{withResumed}
 use Rattle.operations.specs.declared.Operated.{Operated}
 use Rattle.operations.specs.AtRest.{operatedAtRest}
 use Rattle.operations.specs.Operation.{operated}
-use Rattle.transition.specs.Room.{fullFor}
 use Rattle.transition.specs.Tidied.{tidiedBy}
 use Rattle.transition.proofs.Laws.Called.{Counted, counted}
 use Rattle.transition.proofs.Laws.Indexed.{tidies}
@@ -43,14 +41,14 @@ use Rattle.transition.proofs.Laws.Stored.{nobody, still}
 use Rattle.plan.specs.declared.Plan.{Plan}
 use Rattle.plan.specs.declared.Seen.{Seen}
 use Rattle.perform.specs.Bytes.{answerBytes, isOperationCode}
-use Rattle.plan.specs.Plan.{planOf, radioBy, ticketFor}
+use Rattle.plan.specs.Plan.{planOf}
 use Rattle.perform.proofs.Laws.Answers.{Upto, answer-part, answered, callAt, code-here, codeAt, ended, start}
 use Rattle.perform.proofs.Laws.Answers.{whole-answer, whole-operation}
 use Rattle.perform.proofs.Laws.Codes.{an-operation}
-use Rattle.perform.proofs.Laws.Comes.{Comes, as-planned, no-such-party, planAt, radiosBy, slotsBy, storedBy}
-use Rattle.perform.proofs.Laws.Comes.{full, seenOf, ticketAt}
+use Rattle.perform.proofs.Laws.Comes.{Comes, as-planned, no-such-party, planAt, radiosBy, storedBy}
+use Rattle.perform.proofs.Laws.Comes.{full, seenOf, ticketAt, woken-byte}
 use Rattle.perform.proofs.Laws.Plans.{as-asked, few-turns}
-use Rattle.perform.proofs.Laws.Rested.{closed, rested-fits}
+use Rattle.perform.proofs.Laws.Rested.{closed, next-in-line, rested-fits}
 use Rattle.perform.proofs.perform_operations.Statement.{statement}
 use Rattle.perform.proofs.perform_operations.Tie as tie
 
@@ -70,22 +68,22 @@ abbrev ring : Figures → ℕ → List PlaceSlot → Ring
 ring f o l = record { resumed = f .resumed; oldest = o; places = l }
 
 abbrev Inv-loop2 : tie.InvT-loop2
-Inv-loop2 _ _ _ figures₀ oldest places₀ _ _ _ _ _ _ _ _ _ _ _ _ _ _ _ turns limit _ figures places n =
+Inv-loop2 _ _ _ figures₀ oldest places₀ _ _ _ _ _ _ _ _ _ _ _ _ _ _ turns limit _ figures places n =
     Skipping turns (ring figures₀ oldest places₀) (ring figures oldest places) n
     × (figures ≡ withResumed (figures .resumed) figures₀) × (limit ≡ oldest + 256)
     × (oldest ≤ 1000000)
 
 abbrev μ-loop2 : tie.MeasureT-loop2
-μ-loop2 _ _ _ _ _ _ _ _ _ _ _ _ _ _ _ _ _ _ _ _ _ turns _ _ _ _ n =
+μ-loop2 _ _ _ _ _ _ _ _ _ _ _ _ _ _ _ _ _ _ _ _ turns _ _ _ _ n =
     turns - n
 
 abbrev Inv-loop3 : tie.InvT-loop3
-Inv-loop3 _ _ _ figures oldest₀ places₀ _ _ _ _ _ _ _ _ _ _ _ _ _ _ _ turns _ _ _ oldest places m =
+Inv-loop3 _ _ _ figures oldest₀ places₀ _ _ _ _ _ _ _ _ _ _ _ _ _ _ turns _ _ _ oldest places m =
     Retiring turns (ring figures oldest₀ places₀) (ring figures oldest places) m
     × (oldest₀ + turns ≤ 1000256)
 
 abbrev μ-loop3 : tie.MeasureT-loop3
-μ-loop3 _ _ _ _ _ _ _ _ _ _ _ _ _ _ _ _ _ _ _ _ _ turns _ _ _ _ _ m =
+μ-loop3 _ _ _ _ _ _ _ _ _ _ _ _ _ _ _ _ _ _ _ _ turns _ _ _ _ _ m =
     turns - m
 
 abbrev Inv-loop : tie.InvT-loop
@@ -130,7 +128,7 @@ abbrev turning : Entered → Turning
 turning c = c .before .before .before .before
 
 abbrev entered : Planned → Entered
-entered c = c .before .before .before .before .before .before
+entered c = c .before .before .before .before .before
 
 abbrev planned : Woken → Planned
 planned c = c .before .before
@@ -208,12 +206,12 @@ abbrev plan : Planned → Plan
 plan c = c .plan-for .result
 
 abbrev index : Planned → ℕ
-index c = c .before .before .before .before .ticket-for .result
+index c = c .before .before .before .place-for .result
 
 index-is : (c : Planned)
-    → index c ≡ ticketAt (hub (head (entered c))) (party (head (entered c))) (code (head (entered c)))
+    → index c ≡ ticketAt (hub (head (entered c))) (party (head (entered c))) (code (head (entered c))) % PLACES
 unfolding readSlot
-index-is c = c .before .before .before .before .ticket-for .ensures
+index-is c = c .before .before .before .place-for .ensures
 
 plan-is : (c : Planned)
     → let h = head (entered c) in
@@ -223,21 +221,18 @@ plan-is c =
     let h = head (entered c) in
     let s = readSlot (h .loop .slots) (party h) in
     let f = c .before in
-    let op = f .before .operation-of .ensures in
     let sight : ℕ → ℕ → Seen = λ k t.
     record {
       party = party h;
       kind = k;
       named = hub h .opening .named;
       slot = s;
-      seat = getD (h .loop .places) (t % PLACES) emptySeat;
+      seat = getD (h .loop .places) t emptySeat;
       figures = h .loop .figures;
     } in
     let kind = ap (λ (l : List ℕ). getD l (party h) 0) (h .before .table .ensures) in
     c .plan-for .ensures
-    ∙ (λ i. planOf (code h)
-    ((f .full-for .ensures ∙ ap (λ (o : Op). fullFor o (full (hub h) (party h))) op) i)
-    (sight (kind i) (index-is c i)))
+    ∙ (λ i. planOf (code h) (f .is-full-for .ensures i) (sight (kind i) (index-is c i)))
     ∙ as-asked (code h) (full (hub h) (party h)) (seenOf (hub h) (party h) (code h))
 
 comes : (c : Planned)
@@ -257,6 +252,14 @@ turns-most c =
     let h = head (entered c) in
     omega (arith, ap (λ (p : Plan). p .turns) (plan-is c), few-turns (seenOf (hub h) (party h) (code h)) (code h) (full (hub h) (party h)))
 
+byte : (c : Planned) → plan c .woken % 256 ≡ plan c .woken
+byte c =
+    let e = entered c in
+    let h = head e in
+    let small =
+    woken-byte (hub h) (party h) (next-in-line (hub h) (h .loop .inv .0 .rested)) (code h) (valid (turning e)) in
+    omega (arith, small, ap (λ (p : Plan). p .woken) (plan-is c))
+
 -- The record that the tidying starts from.
 abbrev decided : Settled → Plan
 decided s = plan (planned (woken s))
@@ -266,7 +269,7 @@ untidied s =
     let h = head (within s) in
     let p = planned (woken s) in
     hubOf (hub h .opening) (decided s .figures) (h .loop .oldest)
-    (set (h .loop .places) (index p % PLACES) (decided s .seat))
+    (set (h .loop .places) (index p) (decided s .seat))
     (writeSlot (woken s .if2 .slots) (party h) (decided s .slot)) (s .if3 .pool)
 
 woken-slots : (s : Settled)
@@ -300,7 +303,7 @@ unfolding writeSeat
 stored s =
     let h = head (within s) in
     (λ i. hubOf (hub h .opening) (decided s .figures) (h .loop .oldest)
-    (set (h .loop .places) (index-is (planned (woken s)) i % PLACES) (decided s .seat))
+    (set (h .loop .places) (index-is (planned (woken s)) i) (decided s .seat))
     (writeSlot (woken-slots s i) (party h) (decided s .slot)) (moved-pool s i))
 
 -- What is left, once it is tidied, is what the operation leaves.
@@ -357,7 +360,7 @@ worded : (s : Settled)
     said (decided s) ≡ answerBytes (operated (hub h) (call h))
 worded s =
     let e = comes (planned (woken s)) in
-    (λ i. sym (e .code) i ∷ sym (e .woken) i % 256 ∷ sym (e .steps) i ∷ [])
+    (λ i. sym (e .code) i ∷ (byte (planned (woken s)) ∙ sym (e .woken)) i ∷ sym (e .steps) i ∷ [])
 
 -- A party that there is not is refused at once.
 turned-down : (c : Turning) → hub (c .before) .opening .parties ≤ party (c .before)
@@ -380,11 +383,14 @@ loop-holds c =
     let a = c .before .before .before .before .before .before .before .before in
     (start _ _ _ (a .pre .0) (a .pre .1 .0) (a .pre .1 .1), full-slots a)
 
-mul-from : tie.Need-mul-from Inv-loop2 μ-loop2 Inv-loop3 μ-loop3 Inv-loop μ-loop
-mul-from c = omega (arith, asks c)
+mul-code : tie.Need-mul-code Inv-loop2 μ-loop2 Inv-loop3 μ-loop3 Inv-loop μ-loop
+mul-code c = omega (arith, asks c)
 
 shared-slice-read-code : tie.Need-shared-slice-read-code Inv-loop2 μ-loop2 Inv-loop3 μ-loop3 Inv-loop μ-loop
 shared-slice-read-code c = omega (arith, asks (c .before))
+
+mul-party : tie.Need-mul-party Inv-loop2 μ-loop2 Inv-loop3 μ-loop3 Inv-loop μ-loop
+mul-party c = omega (arith, asks (c .before))
 
 add-party : tie.Need-add-party Inv-loop2 μ-loop2 Inv-loop3 μ-loop3 Inv-loop μ-loop
 add-party c = omega (arith, asks (c .before))
@@ -437,11 +443,8 @@ mul-slot c = omega (arith, small c)
 array-copy-out-slot : tie.Need-array-copy-out-slot Inv-loop2 μ-loop2 Inv-loop3 μ-loop3 Inv-loop μ-loop
 array-copy-out-slot c = omega (arith, small c)
 
-ticket-for-requires : tie.Need-ticket-for-requires Inv-loop2 μ-loop2 Inv-loop3 μ-loop3 Inv-loop μ-loop
-ticket-for-requires c κs = search needs
-
-cast-t : tie.Need-cast-t Inv-loop2 μ-loop2 Inv-loop3 μ-loop3 Inv-loop μ-loop
-cast-t c = search needs
+place-for-requires : tie.Need-place-for-requires Inv-loop2 μ-loop2 Inv-loop3 μ-loop3 Inv-loop μ-loop
+place-for-requires c κs = search needs
 
 mul-seat : tie.Need-mul-seat Inv-loop2 μ-loop2 Inv-loop3 μ-loop3 Inv-loop μ-loop
 mul-seat c = search needs
@@ -452,16 +455,13 @@ array-copy-out-seat c = search needs
 array-read-kind : tie.Need-array-read-kind Inv-loop2 μ-loop2 Inv-loop3 μ-loop3 Inv-loop μ-loop
 array-read-kind c = omega (arith, small (c .before .before .before))
 
-operation-of-requires : tie.Need-operation-of-requires Inv-loop2 μ-loop2 Inv-loop3 μ-loop3 Inv-loop μ-loop
-operation-of-requires c κs = search needs
-
-full-for-requires : tie.Need-full-for-requires Inv-loop2 μ-loop2 Inv-loop3 μ-loop3 Inv-loop μ-loop
-full-for-requires c κs =
-    let n = counts (head (c .before .before .before .before)) in (n .oldest, n .issued)
+is-full-for-requires : tie.Need-is-full-for-requires Inv-loop2 μ-loop2 Inv-loop3 μ-loop3 Inv-loop μ-loop
+is-full-for-requires c κs =
+    let n = counts (head (c .before .before .before)) in (n .oldest, n .issued)
 
 plan-for-requires : tie.Need-plan-for-requires Inv-loop2 μ-loop2 Inv-loop3 μ-loop3 Inv-loop μ-loop
 plan-for-requires c κs =
-    let n = counts (head (c .before .before .before .before .before)) in (n .counter, n .issued, n .resumed)
+    let n = counts (head (c .before .before .before .before)) in (n .counter, n .issued, n .resumed)
 
 cast-q : tie.Need-cast-q Inv-loop2 μ-loop2 Inv-loop3 μ-loop3 Inv-loop μ-loop
 cast-q c = search needs
@@ -488,10 +488,10 @@ array-set-from-slots-2 : tie.Need-array-set-from-slots-2 Inv-loop2 μ-loop2 Inv-
 array-set-from-slots-2 c = omega (arith, small (entered (planned (c .before))))
 
 mul-places : tie.Need-mul-places Inv-loop2 μ-loop2 Inv-loop3 μ-loop3 Inv-loop μ-loop
-mul-places c = search needs
+mul-places c = omega (arith, index-is (planned (c .before .before)))
 
 array-set-from-places : tie.Need-array-set-from-places Inv-loop2 μ-loop2 Inv-loop3 μ-loop3 Inv-loop μ-loop
-array-set-from-places c = search needs
+array-set-from-places c = omega (arith, index-is (planned (c .before .before)))
 
 sub-put-2 : tie.Need-sub-put-2 Inv-loop2 μ-loop2 Inv-loop3 μ-loop3 Inv-loop μ-loop
 sub-put-2 c = search needs
@@ -678,8 +678,9 @@ perform-operations-spec =
     μ-loop
     table-requires
     loop-holds
-    mul-from
+    mul-code
     shared-slice-read-code
+    mul-party
     add-party
     shared-slice-read-party
     mul-at
@@ -694,13 +695,11 @@ perform-operations-spec =
     cast-own
     mul-slot
     array-copy-out-slot
-    ticket-for-requires
-    cast-t
+    place-for-requires
     mul-seat
     array-copy-out-seat
     array-read-kind
-    operation-of-requires
-    full-for-requires
+    is-full-for-requires
     plan-for-requires
     cast-q
     mul-waiter

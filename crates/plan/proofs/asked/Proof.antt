@@ -2,7 +2,6 @@
 use Prim.Native.Nat.{_+_}
 use mathlib.Core.Path.{ap}
 use lib.IntN.{ℤ}
-use Rattle.hub.specs.declared.record.Figures.{Figures}
 use Rattle.table.proofs.Laws.Counter.{less, less-fits}
 use borrow.Author.Needs.{needs}
 use Rattle.plan.proofs.asked.Statement.{statement}

@@ -1,6 +1,6 @@
 -- `plan_acquire` meets its contract: its tests, in order, are those of the definition.
 use borrow.Author.Tests.{le-leb, lt-leb}
-use mathlib.Core.Path.{_≡_, refl, sym, ap, _∙_}
+use mathlib.Core.Path.{refl, sym, ap, _∙_}
 use lib.Dec.{leb}
 use mathlib.Core.List.{[], _∷_}
 use native.Mathlib.Omega.{arith}

@@ -1,26 +1,24 @@
 -- Each answer of an operation, by the tests that lead to it.
 use Prim.Native.Nat.{ℕ, suc, _+_, _≤_, _<_}
 use mathlib.Core.Path.{_≡_, refl, sym, ap, subst, _∙_}
-use mathlib.Core.Bool.{Bool, true, false, cond, not, _&&_}
+use mathlib.Core.Bool.{true, false}
 use mathlib.Core.List.{List, [], _∷_, _++_}
 use native.Mathlib.Omega.{arith}
 use borrow.Author.Tests.{eq-eqb, le-leb, leb-true, lt-leb, lt-ltb, le-ltb, ne-eqb}
-use lib.Dec.{eqb, leb, ltb}
+use lib.Dec.{leb}
 use lib.ListN.{length, getD, set, take, drop}
 use lib.Seq.{getD-take}
 use Rattle.hub.specs.declared.answers.Refusal.{Refusal}
-use Rattle.hub.specs.Basics.{among, bit, upTo32, weight}
+use Rattle.hub.specs.Basics.{among}
 use Rattle.hub.specs.Kinds.{kindOf}
-use Rattle.hub.specs.Radios.{padded}
 use Rattle.hub.proofs.Laws.Bools.{first, second}
 use Rattle.screen.specs.declared.record.Line.{Line}
-use Rattle.screen.specs.declared.record.Moved.{Moved}
 use Rattle.screen.specs.declared.record.Operation.{Operation}
 use Rattle.screen.specs.Fits.{held, lineFits}
 use Rattle.screen.specs.Line.{holders, holdsIn, placeOf, waiters, waitsIn, withHolding, withWaiters}
 use Rattle.screen.specs.Moves.{accepted, acquire, cancel, checked, hasPermit, hasWaiter, moved, nextWaiter}
 use Rattle.screen.specs.Moves.{ownMove, refused, release, without}
-use Rattle.screen.proofs.Laws.Fit.{Fit, Waits, room, waits-cons}
+use Rattle.screen.proofs.Laws.Fit.{Fit, room, waits-cons}
 use Rattle.screen.proofs.Laws.Holders.{held-weight}
 use Rattle.screen.proofs.Laws.Lists.{among-here}
 use Rattle.screen.proofs.Laws.Moves.{waiters-length}

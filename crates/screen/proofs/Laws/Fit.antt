@@ -1,26 +1,26 @@
 -- A line that fits, as facts.
-use Prim.Native.Nat.{ℕ, zero, suc, _+_, _-_, _≤_, _<_}
+use Prim.Native.Nat.{ℕ, _+_, _-_, _≤_, _<_}
 use mathlib.Core.Path.{_≡_, refl, sym, ap, subst, _∙_}
-use mathlib.Core.Bool.{Bool, true, false, not, _&&_, _||_}
-use mathlib.Core.List.{List, [], _∷_, _++_}
-use native.Mathlib.Decide.{ℕ-discrete, decLe}
+use mathlib.Core.Bool.{Bool, true, false}
+use mathlib.Core.List.{List, [], _∷_}
+use native.Mathlib.Decide.{ℕ-discrete}
 use native.Mathlib.Omega.{arith}
-use borrow.Author.Tests.{leb-true, le-leb, lt-leb, ltb-true, lt-ltb, eqb-true, eq-eqb}
-use lib.Dec.{eqb, leb, ltb}
-use lib.ListN.{length, getD, set, take, drop, length-set}
-use lib.Seq.{length-take-le, getD-drop, getD-set-same, getD-set-other}
+use borrow.Author.Tests.{leb-true, le-leb, ltb-true, lt-ltb, eqb-true, eq-eqb}
+use lib.Dec.{ltb}
+use lib.ListN.{length, getD, set, drop, length-set}
+use lib.Seq.{getD-drop, getD-set-same, getD-set-other}
 use Rattle.hub.specs.Basics.{among, bit, implies, upTo32, weight}
 use Rattle.hub.specs.Radios.{differ}
 use Rattle.hub.specs.Record.{PARTIES}
-use Rattle.hub.proofs.Laws.Bools.{both, clause, none, passed}
+use Rattle.hub.proofs.Laws.Bools.{clause, none, passed}
 use Rattle.hub.proofs.Laws.Lists.{weight-length, weight-set}
 use Rattle.screen.specs.declared.record.Line.{Line}
 use Rattle.screen.specs.Fits.{allPass, everybody, held, lineClauses, lineFits}
-use Rattle.screen.specs.Line.{holders, holdersFrom, waiters}
-use Rattle.screen.proofs.Laws.Holders.{held-weight, holders-differ, holds-there}
+use Rattle.screen.specs.Line.{holders, waiters}
+use Rattle.screen.proofs.Laws.Holders.{holders-differ, holds-there}
 use Rattle.screen.proofs.Laws.Lists.{all-zero, among-back, among-cases, among-drop, among-either, among-front}
 use Rattle.screen.proofs.Laws.Lists.{among-here, among-later, differ-apart, differ-both, differ-cons, differ-drop}
-use Rattle.screen.proofs.Laws.Lists.{differ-head, differ-second, differ-tail, each-passes, never, not-so}
+use Rattle.screen.proofs.Laws.Lists.{differ-head, differ-second, each-passes, never, not-so}
 use Rattle.screen.proofs.Laws.Lists.{pass-each, zeros}
 
 -- Those that wait: all different, below n, and none of them holds.

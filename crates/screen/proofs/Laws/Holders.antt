@@ -1,20 +1,19 @@
 -- Who holds, told by the list of marks.
 use Prim.Native.Nat.{ℕ, zero, suc, _+_, _≤_, _<_}
-use mathlib.Core.Path.{_≡_, refl, sym, ap, subst, _∙_}
-use mathlib.Core.Bool.{Bool, true, false, cond, _&&_, _||_}
+use mathlib.Core.Path.{_≡_, refl, sym, ap, _∙_}
+use mathlib.Core.Bool.{Bool, true, false}
 use mathlib.Core.List.{List, [], _∷_}
 use native.Mathlib.Numerals.{add-one}
 use native.Mathlib.Omega.{arith}
 use borrow.Author.Tests.{lt-ltb, ne-eqb}
-use lib.Dec.{eqb, ltb}
-use lib.ListN.{length, getD, set, drop, replicate}
+use lib.Dec.{ltb}
+use lib.ListN.{length, getD, drop}
 use lib.Seq.{drop-cons}
 use Rattle.hub.specs.Basics.{among, bit, weight}
 use Rattle.hub.specs.Radios.{differ}
-use Rattle.hub.proofs.Laws.Bools.{both}
 use Rattle.screen.specs.Fits.{allPass}
 use Rattle.screen.specs.Line.{holdersFrom}
-use Rattle.screen.proofs.Laws.Lists.{among-cases, among-here, among-later, differ-cons, never, not-so}
+use Rattle.screen.proofs.Laws.Lists.{among-cases, among-here, differ-cons, never, not-so}
 
 -- Nobody before p is among the holders from p on.
 pub from : (bs : List Bool) (p q : ℕ) → among (holdersFrom p bs) q ≡ true → p ≤ q

@@ -1,16 +1,15 @@
 -- Lists whose elements pass a test, are different, or stand at a place.
 use Prim.Native.Nat.{ℕ, zero, suc, _+_, _≤_, _<_}
 use mathlib.Core.Path.{_≡_, refl, sym, ap, subst, _∙_}
-use mathlib.Core.Bool.{Bool, true, false, cond, not, _&&_, _||_}
+use mathlib.Core.Bool.{Bool, true, false, not, _||_}
 use mathlib.Core.List.{List, [], _∷_, _++_}
 use native.Mathlib.Decide.{ℕ-discrete}
 use native.Mathlib.Omega.{arith}
-use borrow.Author.Tests.{eq-eqb, ne-eqb, eqb-true, eqb-false, not-true}
+use borrow.Author.Tests.{eq-eqb, ne-eqb, eqb-true, not-true}
 use lib.Dec.{eqb}
-use lib.ListN.{length, getD, take, drop, replicate}
-use lib.Seq.{drop-cons}
+use lib.ListN.{getD, drop}
 use Rattle.hub.specs.Basics.{among}
-use Rattle.hub.specs.Radios.{differ, padded}
+use Rattle.hub.specs.Radios.{differ}
 use Rattle.hub.proofs.Laws.Bools.{both, first, second}
 use Rattle.screen.specs.Fits.{allPass}
 

@@ -1,11 +1,10 @@
 -- An operation answers 20 or a refusal, and its steps follow from that.
 use Prim.Native.Nat.{ℕ, _≤_, _<_}
-use mathlib.Core.Path.{_≡_, refl, sym, ap, _∙_}
-use mathlib.Core.Bool.{Bool, true, false, cond}
+use mathlib.Core.Path.{_≡_, ap}
+use mathlib.Core.Bool.{Bool, true, false}
 use mathlib.Core.List.{List, [], _∷_}
 use native.Mathlib.Omega.{arith}
 use borrow.Author.Tests.{le-leb, le-ltb, lt-leb, lt-ltb, ltb-true, ne-eqb}
-use lib.Dec.{eqb, ltb}
 use types.Run.{OneOf, miss}
 use denote.Enum.Declared.{tagOf}
 use Rattle.hub.specs.declared.answers.Answer.{Answer}
@@ -13,14 +12,13 @@ use Rattle.hub.specs.declared.answers.Refusal.{Refusal}
 use Rattle.hub.specs.declared.opening.Opening.{Opening}
 use Rattle.hub.specs.Answers.{printed, refusalCode}
 use Rattle.hub.specs.Basics.{upTo32}
-use Rattle.hub.specs.Kinds.{kindOf}
-use Rattle.hub.specs.Opening.{opening, openingIf, radiosDiffer}
+use Rattle.hub.specs.Opening.{openingIf, radiosDiffer}
 use Rattle.hub.proofs.answers.Answer as answer
 use Rattle.hub.proofs.Invariant.Schedules.{refusal-code}
 use Rattle.screen.specs.declared.record.Line.{Line}
 use Rattle.screen.specs.declared.record.Moved.{Moved}
 use Rattle.screen.specs.declared.record.Operation.{Operation}
-use Rattle.screen.specs.Fits.{held, lineFits}
+use Rattle.screen.specs.Fits.{held}
 use Rattle.screen.specs.Line.{openedLine}
 use Rattle.screen.specs.Moves.{acquire, cancel, checked, hasPermit, hasWaiter, isAccepted, lineOpening, moved}
 use Rattle.screen.specs.Moves.{noLine, ownMove, refused, release}

@@ -1,20 +1,18 @@
 -- Every line that fits is reached: its holders ask, and then those that wait, in their order.
 use Prim.Native.Nat.{ℕ, zero, suc, _+_, _≤_, _<_}
 use mathlib.Core.Path.{_≡_, refl, sym, ap, subst, _∙_}
-use mathlib.Core.Bool.{Bool, true, false, cond}
+use mathlib.Core.Bool.{Bool, true, false}
 use mathlib.Core.List.{List, [], _∷_, _++_, append-assoc, map}
-use native.Mathlib.Decide.{ℕ-discrete, decLe}
 use native.Mathlib.Omega.{arith}
-use lib.ListN.{length, getD, set, replicate, length-append, length-replicate, List·getD-append}
+use lib.ListN.{length, getD, set, replicate, length-append, length-replicate}
 use lib.Seq.{getD-append-seam, set-append-seam}
-use Rattle.hub.specs.Basics.{among, bit, upTo32, weight}
-use Rattle.hub.specs.Radios.{differ, padded}
+use Rattle.hub.specs.Basics.{among, bit, weight}
+use Rattle.hub.specs.Radios.{differ}
 use Rattle.hub.proofs.Laws.Lists.{weight-append, weight-replicate}
 use Rattle.screen.specs.declared.record.Line.{Line}
 use Rattle.screen.specs.declared.record.Operation.{Operation}
-use Rattle.screen.specs.Fits.{held}
-use Rattle.screen.specs.Line.{holdersFrom, openedLine, waiters, withWaiters}
-use Rattle.screen.specs.Moves.{accepted, moved}
+use Rattle.screen.specs.Line.{holdersFrom, waiters}
+use Rattle.screen.specs.Moves.{moved}
 use Rattle.screen.specs.Reached.{LineReached, Request, lineAfter}
 use Rattle.screen.proofs.Laws.Answers.{acquires, own, queues}
 use Rattle.screen.proofs.Laws.Fit.{Waits, fits, waits-none}

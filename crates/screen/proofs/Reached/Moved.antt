@@ -1,26 +1,26 @@
 -- Every line that is reached fits.
-use Prim.Native.Nat.{ℕ, zero, suc, _+_, _≤_, _<_}
-use mathlib.Core.Path.{_≡_, refl, sym, ap, subst, _∙_}
+use Prim.Native.Nat.{ℕ, zero, suc, _≤_, _<_}
+use mathlib.Core.Path.{_≡_, refl, sym, subst, _∙_}
 use mathlib.Core.Bool.{Bool, true, false}
-use mathlib.Core.List.{List, [], _∷_, _++_}
+use mathlib.Core.List.{List, [], _∷_}
 use native.Mathlib.Decide.{ℕ-discrete, decLe}
 use native.Mathlib.Omega.{arith}
 use lib.ListN.{length, getD, set, drop, replicate, length-replicate}
-use Rattle.hub.specs.Basics.{among, bit, upTo32, weight}
+use Rattle.hub.specs.Basics.{among, bit, upTo32}
 use Rattle.hub.specs.Kinds.{kindOf}
 use Rattle.hub.specs.Radios.{padded}
 use Rattle.hub.proofs.Laws.Lists.{weight-replicate}
 use Rattle.screen.specs.declared.record.Line.{Line}
 use Rattle.screen.specs.declared.record.Moved.{Moved}
 use Rattle.screen.specs.declared.record.Operation.{Operation}
-use Rattle.screen.specs.Fits.{held, lineFits}
-use Rattle.screen.specs.Line.{openedLine, waiters, withHolding, withWaiters}
-use Rattle.screen.specs.Moves.{moved, nextWaiter, ownMove, without}
+use Rattle.screen.specs.Fits.{held}
+use Rattle.screen.specs.Line.{openedLine, waiters}
+use Rattle.screen.specs.Moves.{moved, nextWaiter, ownMove}
 use Rattle.screen.specs.Reached.{LineReached, Request, lineAfter}
 use Rattle.screen.proofs.Laws.Answers.{acquires, cancels, hands-over, has-room, holds-already, holds-not}
 use Rattle.screen.proofs.Laws.Answers.{may-not, no-party, own, party-small, queues, returns, waits-already, waits-not}
-use Rattle.screen.proofs.Laws.Fit.{Waits, fits, waits-none}
-use Rattle.screen.proofs.Laws.Lists.{never, not-so}
+use Rattle.screen.proofs.Laws.Fit.{fits, waits-none}
+use Rattle.screen.proofs.Laws.Lists.{never}
 use Rattle.screen.proofs.Reached.Sound.{Good, Sound, good, good-fits, good-handed, good-holder, good-queued}
 use Rattle.screen.proofs.Reached.Sound.{good-returned, good-without, held-is, lineOf, same-line, waiting-is}
 

@@ -1,29 +1,24 @@
 -- A line told by its holders and by those that wait; every move leads from one that fits to one that fits.
-use Prim.Native.Nat.{ℕ, zero, suc, _+_, _≤_, _<_}
+use Prim.Native.Nat.{ℕ, suc, _+_, _≤_, _<_}
 use mathlib.Core.Path.{_≡_, refl, sym, ap, subst, _∙_}
-use mathlib.Core.Bool.{Bool, true, false, cond, not, _&&_}
+use mathlib.Core.Bool.{Bool, true, false, cond}
 use mathlib.Core.List.{List, [], _∷_, _++_}
 use native.Mathlib.Decide.{ℕ-discrete, decLe}
 use native.Mathlib.Omega.{arith}
-use borrow.Author.Tests.{eq-eqb, eqb-false, leb-false, leb-true, ltb-false, ltb-true, ne-eqb, not-true}
-use lib.Dec.{eqb, leb, ltb}
-use lib.ListN.{length, getD, set, take, drop, replicate, length-append, length-drop, length-set, List·getD-eq-default}
+use borrow.Author.Tests.{leb-true}
+use lib.Dec.{eqb, leb}
+use lib.ListN.{length, getD, set, replicate, length-append, length-set, List·getD-eq-default}
 use lib.Seq.{getD-set-other, getD-set-same, take-at, take-take}
 use Rattle.hub.specs.Basics.{among, bit, upTo32, weight}
-use Rattle.hub.specs.Kinds.{kindOf}
 use Rattle.hub.specs.Radios.{differ, padded}
-use Rattle.hub.proofs.Laws.Bools.{first, second}
-use Rattle.hub.proofs.Laws.Lists.{weight-replicate, weight-set}
+use Rattle.hub.proofs.Laws.Bools.{second}
+use Rattle.hub.proofs.Laws.Lists.{weight-set}
 use Rattle.hub.proofs.Laws.Radios.{padded-length}
 use Rattle.screen.specs.declared.record.Line.{Line}
-use Rattle.screen.specs.declared.record.Moved.{Moved}
-use Rattle.screen.specs.declared.record.Operation.{Operation}
-use Rattle.screen.specs.Fits.{held, lineFits}
-use Rattle.screen.specs.Line.{holders, holdsIn, openedLine, waiters, waitsIn, withHolding, withWaiters}
-use Rattle.screen.specs.Moves.{acquire, cancel, checked, hasPermit, hasWaiter, moved, nextWaiter, ownMove, release}
+use Rattle.screen.specs.Fits.{held}
+use Rattle.screen.specs.Line.{holders, waiters, withHolding, withWaiters}
 use Rattle.screen.specs.Moves.{without}
-use Rattle.screen.proofs.Laws.Answers.{has-room}
-use Rattle.screen.proofs.Laws.Fit.{Fit, Waits, fit, fits, waits-none}
+use Rattle.screen.proofs.Laws.Fit.{Fit, Waits, fit}
 use Rattle.screen.proofs.Laws.Holders.{held-weight}
 use Rattle.screen.proofs.Laws.Lists.{among-cases, among-either, among-here, among-later, differ-both}
 use Rattle.screen.proofs.Laws.Lists.{differ-cons, differ-head, differ-tail, never, not-so}

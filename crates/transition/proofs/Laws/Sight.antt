@@ -18,7 +18,7 @@ use Rattle.hub.specs.Phases.{byTicket, byWaiter, ticketOf}
 use Rattle.hub.specs.Radios.{handOf}
 use Rattle.hub.specs.Record.{PARTIES, emptySeat, freeSlot, readSlot}
 use Rattle.hub.specs.Ring.{readSeat}
-use Rattle.hub.proofs.Laws.Phases.{by-ticket, every-place, ticketed}
+use Rattle.hub.proofs.Laws.Phases.{by-ticket, ticketed}
 
 module _ (l : List PartySlot) (size : length l ≡ PARTIES) where
   -- Past the slots a slot reads as free.
@@ -43,7 +43,7 @@ module _ (l : List PartySlot) (size : length l ≡ PARTIES) where
   by-number Place.Refused = sym (past-slots PARTIES (omega arith))
   by-number Place.Done = sym (past-slots PARTIES (omega arith))
 
--- The code read `there` at the index of the slot's ticket, and the waiter's slot by its number.
+-- The code read the place at the index of the slot's ticket, and the waiter's slot by its number.
 pub record Reads (h : Hub) (p : ℕ) (seat : PlaceSlot) (q : ℕ) (waiter : PartySlot) : Type 0 where
   pub size : length (h .slots) ≡ PARTIES
   pub place : seat ≡ readSeat (h .places) (ticketOf (readSlot (h .slots) p .phase))

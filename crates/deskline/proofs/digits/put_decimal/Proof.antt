@@ -1,8 +1,8 @@
 -- `put_decimal` meets its contract: its characters, one behind the other.
 use borrow.Author.Needs.{needs}
 use native.Mathlib.Omega.{arith}
-use mathlib.Core.Path.{_≡_, refl, sym, ap, _∙_}
-use mathlib.Core.List.{List, [], _∷_, _++_}
+use mathlib.Core.Path.{sym, _∙_}
+use mathlib.Core.List.{[], _∷_}
 use Rattle.deskline.proofs.Laws.Numbers.{one-digit, three-digits, two-digits}
 use Rattle.deskline.proofs.Laws.Placed.{first, gives, next, text-is}
 use Rattle.deskline.proofs.digits.put_decimal.Statement.{statement}

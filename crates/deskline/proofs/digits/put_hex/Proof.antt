@@ -1,8 +1,7 @@
 -- `put_hex` meets its contract: its two characters, one behind the other.
 use borrow.Author.Needs.{needs}
 use native.Mathlib.Omega.{arith}
-use mathlib.Core.Path.{_≡_, refl, sym, ap, _∙_}
-use mathlib.Core.List.{List, [], _∷_, _++_}
+use mathlib.Core.List.{[], _∷_}
 use Rattle.deskline.proofs.Laws.Placed.{first, gives, next, text-is}
 use Rattle.deskline.proofs.digits.put_hex.Statement.{statement}
 use Rattle.deskline.proofs.digits.put_hex.Tie as tie

@@ -2,9 +2,8 @@
 use borrow.Author.Needs.{needs}
 use borrow.Author.Tests.{not-false, not-true}
 use native.Mathlib.Omega.{arith}
-use Prim.Native.Nat.{_+_, _-_}
-use mathlib.Core.Path.{refl}
-use lib.ListN.{drop, take}
+use Prim.Native.Nat.{_-_}
+use lib.ListN.{drop}
 use Rattle.screen.specs.Line.{holders, holdersFrom}
 use Rattle.screen.proofs.Laws.Holders.{next-free, next-holds}
 use Rattle.deskline.proofs.Laws.Numbers.{Listed, listed-all, listed-none, listed-one, listed-skip, none-left, number-room}

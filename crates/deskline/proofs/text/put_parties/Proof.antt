@@ -9,14 +9,20 @@ use Rattle.deskline.proofs.Laws.Placed.{first, gives, next, text-is}
 use Rattle.deskline.proofs.text.put_parties.Statement.{statement}
 use Rattle.deskline.proofs.text.put_parties.Tie as tie
 
-put-held-requires : tie.Need-put-held-requires
-put-held-requires c κs = search needs
+slice-aggregate-put-word : tie.Need-slice-aggregate-put-word
+slice-aggregate-put-word c = search needs
+
+put-word-requires : tie.Need-put-word-requires
+put-word-requires c κs = search needs
 
 put-holders-requires : tie.Need-put-holders-requires
 put-holders-requires c κs = search needs
 
-put-waiting-requires : tie.Need-put-waiting-requires
-put-waiting-requires c κs = search needs
+slice-aggregate-put-word-2 : tie.Need-slice-aggregate-put-word-2
+slice-aggregate-put-word-2 c = search needs
+
+put-word-requires-2 : tie.Need-put-word-requires-2
+put-word-requires-2 c κs = search needs
 
 put-waiters-requires : tie.Need-put-waiters-requires
 put-waiters-requires c κs = search needs
@@ -30,12 +36,12 @@ same-length c = search needs
 returns : tie.Need-returns
 unfolding partiesText
 returns c =
-    let a = c .before .before .before .before .before .before .before .before .before .before .before .before .before .before .before .before .before .before .before .before .before .args in (
+    let a = c .before .before .before .before .before .before .before .before .before .before .before .before .before .before .before .before .before .before .before .before .before .before .before .args in (
       gives
           (text-is (parties-laid (numbers (holders (a .line))) (numbers (waiters (a .line))))
-          (next (next (next (next (first (SPACE ∷ HELD) (c .before .before .before .before .before .before .before .before .before .before .before .before .before .before .before .before .before .before .put-held .ensures .0) (c .before .before .before .before .before .before .before .before .before .before .before .before .before .before .before .before .before .before .put-held .ensures .1) (omega arith))
-          (numbers (holders (a .line))) (c .before .before .before .before .before .before .before .before .before .before .before .before .before .before .put-holders .ensures .0 .0) (c .before .before .before .before .before .before .before .before .before .before .before .before .before .before .put-holders .ensures .0 .1) (omega arith))
-          (SPACE ∷ WAITING) (c .before .before .before .before .before .before .before .before .before .before .put-waiting .ensures .0) (c .before .before .before .before .before .before .before .before .before .before .put-waiting .ensures .1) (omega arith))
+          (next (next (next (next (first (SPACE ∷ HELD) (c .before .before .before .before .before .before .before .before .before .before .before .before .before .before .before .before .before .before .before .put-word .ensures .0) (c .before .before .before .before .before .before .before .before .before .before .before .before .before .before .before .before .before .before .before .put-word .ensures .1) (omega arith))
+          (numbers (holders (a .line))) (c .before .before .before .before .before .before .before .before .before .before .before .before .before .before .before .put-holders .ensures .0 .0) (c .before .before .before .before .before .before .before .before .before .before .before .before .before .before .before .put-holders .ensures .0 .1) (omega arith))
+          (SPACE ∷ WAITING) (c .before .before .before .before .before .before .before .before .before .before .put-word2 .ensures .0) (c .before .before .before .before .before .before .before .before .before .before .put-word2 .ensures .1) (omega arith))
           (numbers (waiters (a .line))) (c .before .before .before .before .before .before .put-waiters .ensures .0 .0) (c .before .before .before .before .before .before .put-waiters .ensures .0 .1) (omega arith))
           (0x0A ∷ []) (c .before .before .put-char .ensures .0) (c .before .before .put-char .ensures .1) (omega arith))),
       omega arith,
@@ -45,9 +51,11 @@ pub put-parties-spec : {M : Type 1} → statement M
 put-parties-spec =
     tie.close
     (tie.spec
-    put-held-requires
+    slice-aggregate-put-word
+    put-word-requires
     put-holders-requires
-    put-waiting-requires
+    slice-aggregate-put-word-2
+    put-word-requires-2
     put-waiters-requires
     put-char-requires
     same-length

@@ -1,9 +1,7 @@
 -- `put_waiters` meets its contract: those written and those still to come are all that wait.
 use borrow.Author.Needs.{needs}
-use borrow.Author.Tests.{not-false, not-true}
 use native.Mathlib.Omega.{arith}
-use Prim.Native.Nat.{_+_, _-_}
-use mathlib.Core.Path.{refl}
+use Prim.Native.Nat.{_-_}
 use lib.ListN.{drop, take}
 use Rattle.screen.specs.Line.{waiters}
 use Rattle.deskline.proofs.Laws.Numbers.{Listed, listed-all, listed-none, listed-one, next-waits, no-more, number-room}

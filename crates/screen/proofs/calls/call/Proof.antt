@@ -1,7 +1,7 @@
 -- `call` meets its contract: 1, 4, then the operation's own.
 use borrow.Author.Needs.{needs}
 use borrow.Author.Tests.{not-false, not-true}
-use mathlib.Core.Path.{_≡_, sym, ap, _∙_}
+use mathlib.Core.Path.{sym, ap, _∙_}
 use Rattle.screen.specs.declared.record.Operation.{Operation}
 use Rattle.screen.specs.Moves.{moved}
 use Rattle.screen.proofs.Laws.Answers.{no-party, own, unfit}

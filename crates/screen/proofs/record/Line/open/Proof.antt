@@ -1,5 +1,4 @@
 -- `open` meets its contract: field by field the same.
-use borrow.Author.Needs.{needs}
 use mathlib.Core.Path.{refl}
 use Rattle.screen.specs.Line.{openedLine}
 use Rattle.screen.proofs.record.Line.open.Statement.{statement}

@@ -1,7 +1,7 @@
 // A run over an input that comes in pieces.
 
-use crate::reply::respond;
-use crate::text::put_line;
+use deskline::reply::respond;
+use deskline::text::put_line;
 use reader::KEPT;
 use reader::Reader;
 use screen::Line;
@@ -10,9 +10,8 @@ ghost use mathlib.Core.List.{_++_};
 ghost use Prim.Native.Nat.{_*_, _≤_};
 ghost use lib.ListN.{length, drop};
 ghost use Rattle.reader.specs.Reading.{asked};
-ghost use Rattle.frame.specs.Session.{rest};
-ghost use Rattle.deskline.specs.Session.{Sound, atStart, fed, finished, told};
+ghost use Rattle.deskfeed.specs.Session.{Sound, atStart, fed, finished, told};
 ghost use Rattle.deskline.specs.Text.{LONGEST-TEXT};
 
 // The screen's line, and the line of text that is being read.
 pub struct Session {

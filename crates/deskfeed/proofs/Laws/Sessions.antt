@@ -1,26 +1,25 @@
 -- Sessions stay sound, and pieces one after the other are the whole input.
 use Prim.Native.Nat.{ℕ, _*_, _≤_}
 use mathlib.Core.Path.{_≡_, refl, sym, ap, _∙_}
-use mathlib.Core.List.{List, [], _∷_, _++_, append-assoc, map}
+use mathlib.Core.List.{List, [], _∷_, _++_, append-assoc}
 use native.Mathlib.Omega.{arith}
 use borrow.Author.Tests.{eq-eqb, ne-eqb}
 use lib.ListN.{drop, length, length-replicate}
 use Rattle.reader.specs.Reading.{KEPT, asked, lineIn, past}
 use Rattle.frame.specs.Session.{joined, rest}
 use Rattle.frame.proofs.Laws.Lines.{lines-read}
-use Rattle.reader.proofs.Laws.Pieces.{asked-end, past-kept}
+use Rattle.reader.proofs.Laws.Pieces.{past-kept}
 use Rattle.frame.proofs.Laws.Sessions.{asked-append, past-append}
-use Rattle.line.specs.Program.{linesOf}
 use Rattle.line.specs.Requests.{Request, requestOf}
 use Rattle.screen.specs.declared.record.Line.{Line}
 use Rattle.screen.specs.Moves.{noLine}
-use Rattle.deskline.specs.declared.session.Fed.{Fed}
-use Rattle.deskline.specs.declared.session.Session.{Session}
+use Rattle.deskfeed.specs.declared.session.Fed.{Fed}
+use Rattle.deskfeed.specs.declared.session.Session.{Session}
 use Rattle.deskline.specs.Replies.{askedBy, respond}
-use Rattle.deskline.specs.Session.{InPieces, Printable, Sound, atStart, fed, finished, left, outputOf, said}
-use Rattle.deskline.specs.Session.{told, toldAll}
+use Rattle.deskfeed.specs.Session.{InPieces, Printable, Sound, atStart, fed, finished, left, outputOf, said}
+use Rattle.deskfeed.specs.Session.{told, toldAll}
 use Rattle.deskline.specs.Text.{LONGEST-TEXT, lineText}
-use Rattle.deskline.proofs.Laws.Feeding.{opened-printable, printable}
+use Rattle.deskfeed.proofs.Laws.Feeding.{opened-printable, printable}
 
 pub start-sound : Sound atStart
 start-sound =

@@ -6,11 +6,11 @@ use Prim.Native.Nat.{ℕ, _-_}
 use lib.ListN.{length}
 use Rattle.reader.proofs.Laws.Pieces.{whole}
 use Rattle.line.specs.Requests.{requestOf}
 use Rattle.deskline.specs.Replies.{askedBy, respond}
-use Rattle.deskline.proofs.Laws.Feeding.{Upto, char-kept, char-lost, finished, line-end, line-room}
-use Rattle.deskline.proofs.Laws.Feeding.{reply-printable, start}
-use Rattle.deskline.proofs.session.feed.Statement.{statement}
-use Rattle.deskline.proofs.session.feed.Tie as tie
+use Rattle.deskfeed.proofs.Laws.Feeding.{Upto, char-kept, char-lost, finished, line-end, line-room}
+use Rattle.deskfeed.proofs.Laws.Feeding.{reply-printable, start}
+use Rattle.deskfeed.proofs.session.feed.Statement.{statement}
+use Rattle.deskfeed.proofs.session.feed.Tie as tie
 
 abbrev Inv-loop : tie.InvT-loop
 Inv-loop piece out₀ line₀ text₀ len₀ at₀ i₀ out line text len at i =

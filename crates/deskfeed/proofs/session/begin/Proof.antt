@@ -1,8 +1,8 @@
 -- `begin` meets its contract: no line, and nothing read.
 use borrow.Author.Needs.{needs}
-use Rattle.deskline.specs.Session.{atStart}
-use Rattle.deskline.proofs.session.begin.Statement.{statement}
-use Rattle.deskline.proofs.session.begin.Tie as tie
+use Rattle.deskfeed.specs.Session.{atStart}
+use Rattle.deskfeed.proofs.session.begin.Statement.{statement}
+use Rattle.deskfeed.proofs.session.begin.Tie as tie
 
 open-requires : tie.Need-open-requires
 open-requires c κs = search needs

@@ -3,7 +3,6 @@ use Prim.Native.Nat.{ℕ, _≤_}
 use mathlib.Core.Path.{_≡_}
 use mathlib.Core.List.{List, [], _∷_, _++_, map}
 use lib.ListN.{length, replicate}
-use Rattle.reader.specs.declared.Reader.{Reader}
 use Rattle.reader.specs.Reading.{KEPT, asked, past}
 use Rattle.frame.specs.Session.{joined, rest}
 use Rattle.line.specs.Program.{linesOf}
@@ -11,9 +10,9 @@ use Rattle.line.specs.Requests.{Request, requestOf}
 use Rattle.screen.specs.declared.record.Line.{Line}
 use Rattle.screen.specs.Moves.{noLine}
 use Rattle.screen.specs.Reached.{IsLine}
-use Rattle.deskline.specs.declared.session.Session.{Session}
+use Rattle.deskfeed.specs.declared.session.Session.{Session}
 use Rattle.deskline.specs.Replies.{askedBy, respond}
 use Rattle.deskline.specs.Text.{lineText}
 
 -- What is printed for requests from a line on, and the line that they leave.
 unfoldable pub said : Line → List Request → List ℕ

@@ -1,9 +1,8 @@
 -- The loop over the characters of a piece: what is printed and what is still to come are the whole.
-use Prim.Native.Nat.{ℕ, suc, _+_, _-_, _*_, _≤_, _<_}
+use Prim.Native.Nat.{ℕ, _+_, _-_, _*_, _≤_, _<_}
 use mathlib.Core.Path.{_≡_, refl, sym, ap, subst, _∙_}
 use mathlib.Core.Bool.{Bool, true, false, cond}
 use mathlib.Core.List.{List, [], _∷_, _++_, append-assoc, append-nil}
-use native.Mathlib.Decide.{decLe}
 use native.Mathlib.Numerals.{add-one}
 use native.Mathlib.Omega.{arith}
 use borrow.Author.Tests.{eq-eqb, ne-eqb}
@@ -20,17 +19,16 @@ use Rattle.screen.specs.declared.record.Operation.{Operation}
 use Rattle.screen.specs.Fits.{lineFits}
 use Rattle.screen.specs.Line.{openedLine}
 use Rattle.screen.specs.Moves.{isOpened, lineOpening, moved, noLine}
-use Rattle.screen.specs.Reached.{IsLine}
 use Rattle.screen.proofs.Laws.Answers.{unfit}
 use Rattle.screen.proofs.Laws.Fit.{fit}
 use Rattle.screen.proofs.Reached.Moved.{moved-sound}
 use Rattle.deskline.specs.declared.reply.Reply.{Reply}
-use Rattle.deskline.specs.declared.session.Fed.{Fed}
-use Rattle.deskline.specs.declared.session.Session.{Session}
+use Rattle.deskfeed.specs.declared.session.Fed.{Fed}
+use Rattle.deskfeed.specs.declared.session.Session.{Session}
 use Rattle.deskline.specs.Replies.{Asked, anOpening, anOperation, askedBy, isOpen, nothing, opened, operated, respond}
-use Rattle.deskline.specs.Session.{Printable, Sound, fed, left, said, told}
+use Rattle.deskfeed.specs.Session.{Printable, Sound, fed, left, said, told}
 use Rattle.deskline.specs.Text.{LONGEST-TEXT, lineText, placed}
 use Rattle.deskline.proofs.Laws.Placed.{Written, from-start, next as then, none, placed-length}
 
 -- Every answer leaves a line that can be printed.
 pub opened-printable : (k n : ℕ) (b : Bool) → Printable (openedLine k n b)

@@ -1,8 +1,8 @@
 -- `finish` meets its contract: nothing is left, or a line is answered as if it had its end mark.
 use borrow.Author.Needs.{needs}
-use Rattle.deskline.proofs.Laws.Sessions.{last-room, nothing-told, one-told}
-use Rattle.deskline.proofs.session.finish.Statement.{statement}
-use Rattle.deskline.proofs.session.finish.Tie as tie
+use Rattle.deskfeed.proofs.Laws.Sessions.{last-room, nothing-told, one-told}
+use Rattle.deskfeed.proofs.session.finish.Statement.{statement}
+use Rattle.deskfeed.proofs.session.finish.Tie as tie
 
 returns : tie.Need-returns
 returns c = nothing-told _ _ (c .if1 .taken)
