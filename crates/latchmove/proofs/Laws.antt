@@ -2,7 +2,6 @@
 pub mod Ops
 pub mod Counting
 pub mod Sight
-pub mod Places
 pub mod Stored
 pub mod Indexed
 pub mod Called
