@@ -1,9 +1,9 @@
 -- `acquire_on` meets its contract: its tests, in order, are those of the definition.
 use borrow.Author.Needs.{needs}
+use native.Mathlib.Omega.{arith}
 use mathlib.Core.Path.{sym, ap, _∙_}
 use Rattle.screen.specs.Moves.{accepted}
 use Rattle.screen.proofs.Laws.Fit.{fit}
-use Rattle.screen.proofs.Laws.Lists.{ge-by, lt-by}
 use Rattle.screen.proofs.Laws.Answers.{acquires, has-place, has-room, holds-already, no-place, party-small, queues, waits-already}
 use Rattle.screen.proofs.calls.acquire_on.Statement.{statement}
 use Rattle.screen.proofs.calls.acquire_on.Tie as tie
@@ -58,18 +58,18 @@ returns-3 c =
     let s = c .before .before .before .before .before .before .before .before .before in
     let f = fit (s .args .line) (s .pre .0) in
     c .accepted .ensures
-    ∙ sym (acquires _ _ (c .before .before .before .before .before .before .before .if1 .left)
+    ∙ sym (acquires (s .args .line) (s .args .party) (c .before .before .before .before .before .before .before .if1 .left)
     (no-place _ f (search needs) _ _ (c .before .before .before .before .before .before .place-of .ensures) (c .before .before .before .before .if2 .left))
-    (lt-by (c .before .before .before .held .ensures) (c .before .if3 .taken)))
+    (omega (arith, c .before .before .before .held .ensures, c .before .if3 .taken)))
 
 join-requires : tie.Need-join-requires
 join-requires c κs =
     let s = c .before .before .before .before .before .before .before .before in
     let f = fit (s .args .line) (s .pre .0) in (
       s .pre .0,
-      has-room _ _ f (search needs) (search needs) (s .pre .1) (c .before .before .before .before .before .before .if1 .left)
+      has-room (s .args .line) (s .args .party) f (search needs) (search needs) (s .pre .1) (c .before .before .before .before .before .before .if1 .left)
           (no-place _ f (search needs) _ _ (c .before .before .before .before .before .place-of .ensures) (c .before .before .before .if2 .left))
-          (ge-by (c .before .before .held .ensures) (c .if3 .left)),
+          (omega (arith, c .before .before .held .ensures, c .if3 .left)),
     )
 
 accepted-requires-2 : tie.Need-accepted-requires-2
@@ -81,9 +81,9 @@ returns-4 c =
     let f = fit (s .args .line) (s .pre .0) in
     c .accepted2 .ensures
     ∙ ap accepted (c .before .join .ensures)
-    ∙ sym (queues _ _ (c .before .before .before .before .before .before .before .before .if1 .left)
+    ∙ sym (queues (s .args .line) (s .args .party) (c .before .before .before .before .before .before .before .before .if1 .left)
     (no-place _ f (search needs) _ _ (c .before .before .before .before .before .before .before .place-of .ensures) (c .before .before .before .before .before .if2 .left))
-    (ge-by (c .before .before .before .before .held .ensures) (c .before .before .if3 .left)))
+    (omega (arith, c .before .before .before .before .held .ensures, c .before .before .if3 .left)))
 
 pub acquire-on-spec : {M : Type 1} → statement M
 acquire-on-spec =

@@ -1,6 +1,8 @@
 -- `queue_fits` meets its contract: a party that is marked holds, or was met before.
 use borrow.Author.Needs.{needs}
+use native.Mathlib.Omega.{arith}
 use mathlib.Core.Path.{refl}
+use Prim.Native.Nat.{_-_}
 use Rattle.screen.specs.Line.{waiters}
 use Rattle.screen.proofs.Laws.Walks.{Walked, all-met, met-now, met-twice, misfit, too-high, walked-all, walked-none}
 use Rattle.screen.proofs.fits.queue_fits.Statement.{statement}
@@ -28,7 +30,7 @@ returns : tie.Need-returns Inv-loop μ-loop
 unfolding waiters
 returns c =
     let l = c .before .before in
-    misfit _ (too-high _ _ _ _ _ _ _ (l .loop .inv) (search needs) _ refl (c .if1 .taken))
+    misfit _ (too-high _ _ _ _ _ _ (l .loop .i - 1) (l .loop .inv) (search needs) _ refl (omega arith))
 
 cast-p : tie.Need-cast-p Inv-loop μ-loop
 cast-p c = search needs
@@ -40,7 +42,7 @@ returns-2 : tie.Need-returns-2 Inv-loop μ-loop
 unfolding waiters
 returns-2 c =
     let l = c .before .before .before in
-    misfit _ (met-twice _ _ _ _ _ _ _ (l .loop .inv) (search needs) _ refl (c .before .if1 .left) (c .if2 .taken))
+    misfit _ (met-twice _ _ _ _ _ _ _ (l .loop .inv) (search needs) _ refl (omega arith) (c .if2 .taken))
 
 array-write-met : tie.Need-array-write-met Inv-loop μ-loop
 array-write-met c = search needs
@@ -51,7 +53,7 @@ loop-less c = search needs
 loop-again : tie.Need-loop-again Inv-loop μ-loop
 loop-again c =
     let l = c .before .before .before in
-    met-now _ _ _ _ _ _ _ (l .loop .inv) (search needs) _ refl (c .before .if1 .left) (c .if2 .left)
+    met-now _ _ _ _ _ _ _ (l .loop .inv) (search needs) _ refl (omega arith) (c .if2 .left)
 
 returns-3 : tie.Need-returns-3 Inv-loop μ-loop
 unfolding waiters
