@@ -1,5 +1,6 @@
 //! The link hub, second program: a fair semaphore with cancellation, driven by
-//! a schedule on standard input, or by whole records (`--records`).
+//! a schedule on standard input, by whole records (`--records`) or by whole
+//! operations, on the desk's screen (`--desk`) or on the hub (`--operate`).
 //!
 //! It is the oracle another implementation is tested against, so it prefers
 //! the obvious form: one mutable record and one `match` for the step table.
@@ -16,6 +17,7 @@ use std::io::{self, BufRead, BufReader, BufWriter, ErrorKind, Write};
 use std::mem;
 use std::process::ExitCode;
 
+mod desk;
 mod records;
 #[cfg(test)]
 mod tests;
@@ -679,35 +681,47 @@ const NO_NUMBER: u32 = u32::MAX;
 const BUFFER: usize = 64 * 1024;
 
 enum Frame {
-    Open {
-        permits: u8,
-        parties: u8,
-    },
-    /// Paper: opening 02.
-    OpenPool {
-        permits: u8,
-        parties: u8,
-        radios: Vec<Radio>,
-    },
-    Call {
-        call: Call,
-        party: u8,
-    },
+    Open(Opening),
+    Call { call: Call, party: u8 },
+}
+
+struct Opening {
+    permits: u8,
+    parties: u8,
+    /// Of opening 02.
+    radios: Option<Vec<Radio>>,
+}
+
+impl Opening {
+    fn hub(&self) -> Result<Hub, Refusal> {
+        match &self.radios {
+            None => Hub::open(self.permits, self.parties),
+            Some(radios) => Hub::open_pool(self.permits, self.parties, radios),
+        }
+    }
 }
 
 fn parse(line: &[u8]) -> Option<Frame> {
     if line.len() > MAX_LINE {
         return None;
     }
-    match decode_hex(line)?[..] {
-        [0x01, permits, parties] => Some(Frame::Open { permits, parties }),
+    read_frame(&decode_hex(line)?)
+}
+
+fn read_frame(frame: &[u8]) -> Option<Frame> {
+    match *frame {
+        [0x01, permits, parties] => Some(Frame::Open(Opening {
+            permits,
+            parties,
+            radios: None,
+        })),
         // As many radios as it says, whether or not a hub may have so many.
         [0x02, permits, parties, ref radios @ ..] if radios.len() == usize::from(permits) => {
-            Some(Frame::OpenPool {
+            Some(Frame::Open(Opening {
                 permits,
                 parties,
-                radios: radios.to_vec(),
-            })
+                radios: Some(radios.to_vec()),
+            }))
         }
         [0x10, party] => Some(Frame::Call {
             call: Call::Acquire,
@@ -762,17 +776,7 @@ impl Program {
     fn answer(&mut self, line: &[u8]) -> (u8, Result<Answer, Refusal>) {
         match parse(line) {
             None => (NO_PARTY, Err(Refusal::Malformed)),
-            Some(Frame::Open { permits, parties }) => {
-                (NO_PARTY, self.open(|| Hub::open(permits, parties)))
-            }
-            Some(Frame::OpenPool {
-                permits,
-                parties,
-                radios,
-            }) => {
-                let outcome = self.open(|| Hub::open_pool(permits, parties, &radios));
-                (NO_PARTY, outcome)
-            }
+            Some(Frame::Open(opening)) => (NO_PARTY, self.open(&opening)),
             Some(Frame::Call { call, party }) => {
                 let outcome = match &mut self.hub {
                     Some(hub) => hub.call(call, party, self.check),
@@ -784,11 +788,11 @@ impl Program {
     }
 
     /// Either opening, if none was accepted yet.
-    fn open(&mut self, opening: impl FnOnce() -> Result<Hub, Refusal>) -> Result<Answer, Refusal> {
+    fn open(&mut self, opening: &Opening) -> Result<Answer, Refusal> {
         if self.hub.is_some() {
             return Err(Refusal::OutOfOrder);
         }
-        self.hub = Some(opening()?);
+        self.hub = Some(opening.hub()?);
         Ok(Answer::plain(0x1F))
     }
 }
@@ -861,7 +865,9 @@ fn main() -> ExitCode {
         [] => run(input, output, true),
         [mode] if mode == "--no-check" => run(input, output, false),
         [mode] if mode == "--records" => records::run(input, output),
-        _ => return fail("usage: main [--no-check | --records] < input > answers"),
+        [mode] if mode == "--desk" => desk::run(input, output),
+        [mode] if mode == "--operate" => desk::run_operations(input, output),
+        _ => return fail("usage: main [--no-check|--records|--desk|--operate] < input > answers"),
     };
     match outcome {
         Ok(()) => ExitCode::SUCCESS,

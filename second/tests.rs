@@ -1,5 +1,6 @@
 //! Tests of the second program: the paper's run and edges, malformed lines,
-//! hand-made records for the fit check, records as bytes, and random schedules.
+//! hand-made records for the fit check, records as bytes, random schedules, and
+//! whole operations on the desk's screen and on the hub.
 
 use super::*;
 
@@ -2172,5 +2173,516 @@ mod schedules {
             }
             assert_eq!(answers(&input).lines().count(), lines);
         }
+    }
+}
+
+mod operations {
+    use self::Operation::{Acquire as Ask, Cancel as GiveUp, Release as GiveBack};
+    use super::*;
+    use desk::{Done, Operation, Screen};
+    use std::collections::BTreeSet;
+
+    const OPERATIONS: [Operation; 3] = [Operation::Acquire, Operation::Cancel, Operation::Release];
+
+    fn opening(permits: u8, parties: u8, radios: bool) -> Opening {
+        Opening {
+            permits,
+            parties,
+            radios: radios.then(|| (0..permits).map(|at| 0xA7 - at).collect()),
+        }
+    }
+
+    fn line(permits: u8, parties: u8, holders: &[u8], waiting: &[u8]) -> Screen {
+        Screen {
+            permits,
+            parties,
+            radios: false,
+            holders: holders.iter().copied().collect(),
+            waiting: waiting.to_vec(),
+        }
+    }
+
+    /// Who holds, and who waits in the order of their tickets.
+    fn line_of(hub: &Hub) -> Screen {
+        let in_phase = |wanted: fn(Phase) -> Option<Ticket>| {
+            let tickets = hub.phases.iter().map(|&phase| wanted(phase));
+            let mut found: Vec<(Ticket, u8)> = (tickets.zip(0..))
+                .filter_map(|(ticket, party)| Some((ticket?, party)))
+                .collect();
+            found.sort_unstable();
+            found.into_iter().map(|(_, party)| party)
+        };
+        Screen {
+            permits: hub.permits,
+            parties: hub.parties,
+            radios: hub.pool.is_some(),
+            holders: in_phase(|phase| (phase == Phase::Holding).then_some(0)).collect(),
+            waiting: in_phase(|phase| match phase {
+                Phase::Waiting(t) => Some(t),
+                _ => None,
+            })
+            .collect(),
+        }
+    }
+
+    fn done(steps: u8) -> Result<Done, Refusal> {
+        Ok(Done { woken: None, steps })
+    }
+
+    fn wakes(party: u8) -> Result<Done, Refusal> {
+        Ok(Done {
+            woken: Some(party),
+            steps: 3,
+        })
+    }
+
+    /// Operations, their outcome and the line after each, worked out by hand:
+    /// of the screen, and of the hub at rest.
+    type Row<'a> = (Operation, u8, Result<Done, Refusal>, (&'a [u8], &'a [u8]));
+
+    fn assert_rows(opening: Opening, rows: &[Row]) {
+        let mut screen = Screen::open(&opening).unwrap();
+        let mut hub = opening.hub().unwrap();
+        assert_eq!(line_of(&hub), screen);
+        for (at, &(operation, party, outcome, (holders, waiting))) in rows.iter().enumerate() {
+            assert_eq!(screen.operate(operation, party), outcome, "row {at}");
+            assert_eq!(hub.operate(operation, party), outcome, "row {at}");
+            assert_eq!(line_of(&hub), screen, "row {at}");
+            let expected = (holders.iter().copied().collect(), waiting.to_vec());
+            assert_eq!((screen.holders.clone(), screen.waiting.clone()), expected);
+        }
+    }
+
+    #[test]
+    fn moves_without_radios() {
+        assert_rows(
+            opening(2, 8, false),
+            &[
+                (Ask, 3, done(1), (&[3], &[])),
+                (Ask, 0, done(1), (&[0, 3], &[])),
+                (Ask, 7, done(3), (&[0, 3], &[7])),
+                (Ask, 5, done(3), (&[0, 3], &[7, 5])),
+                (Ask, 6, done(3), (&[0, 3], &[7, 5, 6])),
+                // From the middle of the line, and back at its end.
+                (GiveUp, 5, done(2), (&[0, 3], &[7, 6])),
+                (Ask, 5, done(3), (&[0, 3], &[7, 6, 5])),
+                (GiveBack, 3, wakes(7), (&[0, 7], &[6, 5])),
+                (GiveUp, 6, done(2), (&[0, 7], &[5])),
+                (GiveBack, 0, wakes(5), (&[5, 7], &[])),
+                (GiveBack, 7, done(1), (&[5], &[])),
+                (GiveBack, 5, done(1), (&[], &[])),
+            ],
+        );
+    }
+
+    #[test]
+    fn moves_with_radios() {
+        assert_rows(
+            opening(1, 3, true),
+            &[
+                // 21 and 36.
+                (Ask, 2, done(2), (&[2], &[])),
+                (Ask, 0, done(3), (&[2], &[0])),
+                (Ask, 1, done(3), (&[2], &[0, 1])),
+                // The radio goes along: no 36.
+                (GiveBack, 2, wakes(0), (&[0], &[1])),
+                (GiveUp, 1, done(2), (&[0], &[])),
+                // 26 and 38.
+                (GiveBack, 0, done(2), (&[], &[])),
+                (Ask, 1, done(2), (&[1], &[])),
+            ],
+        );
+    }
+
+    #[test]
+    fn refused_moves() {
+        use Refusal::*;
+        assert_rows(
+            opening(1, 31, false),
+            &[
+                (GiveUp, 30, Err(NotWaiting), (&[], &[])),
+                (GiveBack, 0, Err(NotHolding), (&[], &[])),
+                (Ask, 31, Err(NoSuchParty), (&[], &[])),
+                (GiveUp, 31, Err(NoSuchParty), (&[], &[])),
+                (GiveBack, 255, Err(NoSuchParty), (&[], &[])),
+                (Ask, 29, done(1), (&[29], &[])),
+                (Ask, 29, Err(NotFree), (&[29], &[])),
+                (GiveUp, 29, Err(NotWaiting), (&[29], &[])),
+                (Ask, 30, done(3), (&[29], &[30])),
+                (Ask, 30, Err(NotFree), (&[29], &[30])),
+                (GiveBack, 30, Err(NotHolding), (&[29], &[30])),
+                // Kind 3, once it waits.
+                (GiveUp, 30, Err(MustWait), (&[29], &[30])),
+                (GiveBack, 29, wakes(30), (&[30], &[])),
+                (GiveUp, 30, Err(NotWaiting), (&[30], &[])),
+                (Ask, 29, done(3), (&[30], &[29])),
+                (GiveUp, 29, done(2), (&[30], &[])),
+            ],
+        );
+    }
+
+    /// Every move on a line that is never reached is 1, whoever makes it.
+    #[test]
+    fn lines_never_reached() {
+        let everybody: Vec<u8> = (0..32).collect();
+        let reached = [
+            line(1, 1, &[], &[]),
+            line(32, 32, &everybody, &[]),
+            line(2, 4, &[1], &[]),
+            line(2, 4, &[1, 3], &[2, 0]),
+            line(31, 32, &everybody[..31], &[31]),
+        ];
+        let unreached = [
+            line(0, 4, &[], &[]),
+            line(33, 4, &[], &[]),
+            line(2, 0, &[], &[]),
+            line(2, 33, &[], &[]),
+            // Not below n.
+            line(2, 4, &[4], &[]),
+            line(2, 4, &[0, 1], &[2, 4]),
+            // More than K hold.
+            line(2, 4, &[0, 1, 2], &[]),
+            // One waits while a permit is left.
+            line(2, 4, &[0], &[1]),
+            line(1, 4, &[], &[1]),
+            // One party twice.
+            line(2, 4, &[0, 1], &[1]),
+            line(2, 4, &[0, 1], &[2, 3, 2]),
+        ];
+        assert!(reached.iter().all(Screen::is_reached));
+        for screen in unreached {
+            for operation in OPERATIONS {
+                for party in [0, 1, 3, 4, 33, 255] {
+                    let mut left = screen.clone();
+                    assert_eq!(left.operate(operation, party), Err(Refusal::Misfit));
+                    assert_eq!(left, screen);
+                }
+            }
+        }
+    }
+
+    /// All sequences of up to so many parties below a bound.
+    fn sequences(length: usize, bound: u8) -> Vec<Vec<u8>> {
+        if length == 0 {
+            return vec![Vec::new()];
+        }
+        let mut all = sequences(length - 1, bound);
+        let longest = all.iter().filter(|some| some.len() == length - 1);
+        let longer: Vec<Vec<u8>> = longest
+            .flat_map(|some| (0..bound).map(move |party| [&some[..], &[party]].concat()))
+            .collect();
+        all.extend(longer);
+        all
+    }
+
+    /// The lines that moves reach are those that are said to be, among all.
+    #[test]
+    fn reached_lines_of_small_hubs() {
+        assert_eq!(sequences(2, 2).len(), 1 + 2 + 4);
+        for (permits, parties) in (1..=4).flat_map(|k| (1..=4).map(move |n| (k, n))) {
+            let opened = Screen::open(&opening(permits, parties, false)).unwrap();
+            let mut reached = vec![opened];
+            let mut at = 0;
+            while at < reached.len() {
+                for operation in OPERATIONS {
+                    for party in 0..=parties {
+                        let mut moved = reached[at].clone();
+                        let outcome = moved.operate(operation, party);
+                        assert!(outcome.is_ok() || moved == reached[at]);
+                        if !reached.contains(&moved) {
+                            reached.push(moved);
+                        }
+                    }
+                }
+                at += 1;
+            }
+            let candidates = sequences(usize::from(parties) + 1, parties + 1);
+            let mut expected = 0;
+            for holders in 0..1 << (parties + 1) {
+                let holders: Vec<u8> = (0..=parties).filter(|p| holders >> p & 1 == 1).collect();
+                for waiting in &candidates {
+                    let screen = line(permits, parties, &holders, waiting);
+                    if screen.is_reached() {
+                        assert!(reached.contains(&screen), "{:?}", screen);
+                        expected += 1;
+                    }
+                }
+            }
+            assert_eq!(reached.len(), expected);
+        }
+    }
+
+    /// Both make every list of so many operations. A refusal leaves both alone,
+    /// so there is nothing new after it.
+    fn assert_alike(screen: &Screen, hub: &Hub, left: u32) {
+        if left == 0 {
+            return;
+        }
+        for operation in OPERATIONS {
+            for party in 0..=hub.parties {
+                let (mut screen, mut after) = (screen.clone(), hub.clone());
+                let outcome = after.operate(operation, party);
+                assert_eq!(screen.operate(operation, party), outcome);
+                assert_eq!(line_of(&after), screen);
+                if outcome.is_ok() {
+                    assert_alike(&screen, &after, left - 1);
+                } else {
+                    assert_eq!(after, *hub);
+                }
+            }
+        }
+    }
+
+    #[test]
+    fn screen_and_hub_on_short_lists() {
+        for (permits, parties) in [(1, 2), (1, 3), (2, 3), (2, 4), (4, 3)] {
+            for radios in [false, true] {
+                let opening = opening(permits, parties, radios);
+                let screen = Screen::open(&opening).unwrap();
+                assert_alike(&screen, &opening.hub().unwrap(), 7);
+            }
+        }
+    }
+
+    /// A party that mostly has reason to do so, of those on a line or not.
+    fn next(random: &mut Random, screen: &Screen, calm: u32) -> (Operation, u8) {
+        let any = random.below(u32::from(screen.parties) + 1) as u8;
+        let operation = OPERATIONS[random.below(3) as usize];
+        if random.one_in(10) {
+            return (operation, any);
+        }
+        match operation {
+            // The first in line stays: places run out behind it.
+            Operation::Cancel if screen.waiting.len() > 1 => {
+                let behind = random.below(screen.waiting.len() as u32 - 1) as usize;
+                (Operation::Cancel, screen.waiting[1 + behind])
+            }
+            Operation::Release if random.one_in(calm) && !screen.holders.is_empty() => {
+                let at = random.below(screen.holders.len() as u32) as usize;
+                (Operation::Release, *screen.holders.iter().nth(at).unwrap())
+            }
+            _ => (Operation::Acquire, any),
+        }
+    }
+
+    /// Random lists, each to its end or to the first 7. Both agree on answers,
+    /// steps, holders and order; at the 7 the screen alone goes on.
+    #[test]
+    fn screen_and_hub_on_long_lists() {
+        let mut met = BTreeSet::new();
+        for seed in 0..400 {
+            let mut random = Random::seeded(seed);
+            let [permits, parties] = [[1, 3, 32], [4, 8, 32]].map(|most| {
+                let most = most[random.below(3) as usize];
+                1 + random.below(most) as u8
+            });
+            let parties = if random.one_in(4) { 32 } else { parties };
+            let opening = opening(permits, parties, random.one_in(2));
+            let mut screen = Screen::open(&opening).unwrap();
+            let mut hub = opening.hub().unwrap();
+            let calm = [1, 3, 1_000][random.below(3) as usize];
+            for _ in 0..2_000 {
+                let (operation, party) = next(&mut random, &screen, calm);
+                let before = hub.clone();
+                let outcome = hub.operate(operation, party);
+                let moved = screen.operate(operation, party);
+                if outcome == Err(Refusal::RingFull) {
+                    assert_eq!(hub, before);
+                    assert_eq!(moved, done(3));
+                    met.insert((Refusal::RingFull as u8, false));
+                    break;
+                }
+                assert_eq!(moved, outcome);
+                assert_eq!(line_of(&hub), screen);
+                assert!(screen.is_reached());
+                match outcome {
+                    Ok(done) => met.insert((0x20 + done.steps, done.woken.is_some())),
+                    Err(refusal) => met.insert((refusal as u8, false)),
+                };
+            }
+        }
+        let refusals = [4, 5, 7, 9, 10, 11].map(|number| (number, false));
+        let shapes = [(0x21, false), (0x22, false), (0x23, false), (0x23, true)];
+        let expected: BTreeSet<_> = refusals.iter().chain(&shapes).copied().collect();
+        assert_eq!(met, expected);
+    }
+
+    fn desk_chunked(input: &[u8], chunk: usize) -> String {
+        let mut output = Vec::new();
+        desk::run(BufReader::with_capacity(chunk, input), &mut output).unwrap();
+        String::from_utf8(output).unwrap()
+    }
+
+    /// Asserts what the desk prints for each line; chunks must not show.
+    fn assert_printed(pairs: &[(&str, &str)]) {
+        let input: String = pairs.iter().map(|(line, _)| format!("{line}\n")).collect();
+        let expected: String = pairs.iter().map(|(_, said)| format!("{said}\n")).collect();
+        for chunk in [1, 2, 3, 7, 161, BUFFER] {
+            assert_eq!(desk_chunked(input.as_bytes(), chunk), expected);
+            let unended = &input.as_bytes()[..input.len() - 1];
+            assert_eq!(desk_chunked(unended, chunk), expected);
+        }
+    }
+
+    #[test]
+    fn printed_lines() {
+        assert_eq!(desk_chunked(b"", BUFFER), "");
+        let nobody = "- held waiting";
+        let long = "1".repeat(161);
+        assert_printed(&[
+            ("1000", &format!("0D 00 {nobody}")),
+            ("12ff", &format!("0D FF {nobody}")),
+            ("1100", &format!("0C FF {nobody}")),
+            ("1400", &format!("0C FF {nobody}")),
+            ("010001", &format!("02 FF {nobody}")),
+            ("010100", &format!("03 FF {nobody}")),
+            ("020208A7A7", &format!("0E FF {nobody}")),
+            ("020208A7", &format!("0C FF {nobody}")),
+            ("010208", &format!("1F FF {nobody}")),
+            ("1003", "20 03 1 held 3 waiting"),
+            ("1000", "20 00 1 held 0 3 waiting"),
+            ("1007", "20 07 3 held 0 3 waiting 7"),
+            ("1005", "20 05 3 held 0 3 waiting 7 5"),
+            ("010208", "0D FF - held 0 3 waiting 7 5"),
+            ("010000", "0D FF - held 0 3 waiting 7 5"),
+            ("1100", "0C FF - held 0 3 waiting 7 5"),
+            ("", "0C FF - held 0 3 waiting 7 5"),
+            (&long, "0C FF - held 0 3 waiting 7 5"),
+            ("1005\r", "0C FF - held 0 3 waiting 7 5"),
+            ("1005", "05 05 - held 0 3 waiting 7 5"),
+            ("1008", "04 08 - held 0 3 waiting 7 5"),
+            ("1203", "09 03 - held 0 3 waiting 7 5"),
+            ("1307", "0B 07 - held 0 3 waiting 7 5"),
+            ("1207", "20 07 2 held 0 3 waiting 5"),
+            ("1303", "20 03 3 held 0 5 waiting"),
+            ("1300", "20 00 1 held 5 waiting"),
+        ]);
+        assert_printed(&[
+            ("02021FFF00", &format!("1F FF {nobody}")),
+            ("101e", "20 1E 2 held 30 waiting"),
+            ("101D", "20 1D 2 held 29 30 waiting"),
+            ("131E", "20 1E 2 held 29 waiting"),
+            ("1000", "20 00 2 held 0 29 waiting"),
+            ("101E", "20 1E 3 held 0 29 waiting 30"),
+            ("121E", "0A 1E - held 0 29 waiting 30"),
+            ("131D", "20 1D 3 held 0 30 waiting"),
+            ("121E", "09 1E - held 0 30 waiting"),
+        ]);
+    }
+
+    /// The screen has neither 6 nor 7.
+    #[test]
+    fn the_screen_never_runs_out() {
+        let opening = opening(1, 3, false);
+        let mut screen = Screen::open(&opening).unwrap();
+        let mut hub = opening.hub().unwrap();
+        hub.begun = MAX_BEGUN - 257;
+        let given_up = [(Ask, 2), (GiveUp, 2)].repeat(255);
+        for &(operation, party) in [(Ask, 0), (Ask, 1)].iter().chain(&given_up) {
+            assert_eq!(
+                hub.operate(operation, party),
+                screen.operate(operation, party)
+            );
+        }
+        // 6 and 7 apply, and 5 to the holder.
+        assert_eq!(hub.operate(Ask, 2), Err(Refusal::BegunFull));
+        assert_eq!(hub.operate(Ask, 0), Err(Refusal::NotFree));
+        hub.begun -= 1;
+        assert_eq!(hub.operate(Ask, 2), Err(Refusal::RingFull));
+        assert_eq!(screen.operate(Ask, 2), done(3));
+    }
+
+    #[test]
+    fn operate_answers() {
+        let answers = desk::operate(
+            &[1, 1, 31],
+            &[
+                0x12, 30, 0x10, 0, 0x10, 0, 0x10, 30, 0x12, 30, 0x10, 2, 0x12, 2, 0x10, 31, 0x13,
+                30, 0x13, 0, 0x13, 30,
+            ],
+            100,
+        );
+        let expected = [
+            [9, 255, 0],
+            [0x20, 255, 1],
+            [5, 255, 0],
+            [0x20, 255, 3],
+            [10, 255, 0],
+            [0x20, 255, 3],
+            [0x20, 255, 2],
+            [4, 255, 0],
+            [11, 255, 0],
+            [0x20, 30, 3],
+            [0x20, 255, 1],
+        ];
+        assert_eq!(answers, Ok(expected.concat()));
+        let with_radio = desk::operate(&[2, 1, 3, 0], &[0x10, 2, 0x10, 0, 0x13, 2, 0x13, 0], 12);
+        let expected = [[0x20, 255, 2], [0x20, 255, 3], [0x20, 0, 3], [0x20, 255, 2]];
+        assert_eq!(with_radio, Ok(expected.concat()));
+        assert_eq!(desk::operate(&[1, 32, 32], &[], 0), Ok(vec![]));
+    }
+
+    /// The opening's refusals, malformed operations, no room, in this order.
+    #[test]
+    fn operate_results() {
+        let odd = [0x10, 0, 0x10];
+        for (opening, refusal) in [
+            (&[][..], 12),
+            (&[1, 1], 12),
+            (&[1, 0, 0, 0], 12),
+            (&[2, 2, 0, 7], 12),
+            (&[3, 1, 1], 12),
+            (&[0x10, 0], 12),
+            (&[1, 0, 0], 2),
+            (&[1, 33, 1], 2),
+            (&[2, 0, 0], 2),
+            (&[1, 1, 0], 3),
+            (&[2, 2, 33, 7, 7], 3),
+            (&[2, 2, 2, 7, 7], 14),
+        ] {
+            assert_eq!(desk::operate(opening, &odd, 0), Err(refusal), "{opening:?}");
+        }
+        for operations in [
+            &odd[..],
+            &[0x10],
+            &[0x11, 0],
+            &[0x14, 0],
+            &[0x0F, 0],
+            &[0x15, 0],
+            &[0x10, 0, 0x01, 1],
+        ] {
+            assert_eq!(desk::operate(&[1, 1, 1], operations, 0), Err(254));
+        }
+        assert_eq!(desk::operate(&[1, 1, 1], &[0x10, 0], 2), Err(255));
+        assert_eq!(desk::operate(&[1, 1, 1], &[0x10, 0], 3).unwrap().len(), 3);
+    }
+
+    #[test]
+    fn operate_mode() {
+        let case = |opening: &[u8], operations: &[u8], room: u32| {
+            let lengths = [opening.len() as u32, operations.len() as u32, room];
+            let lengths = lengths.map(u32::to_be_bytes).concat();
+            [&lengths[..], opening, operations].concat()
+        };
+        let replies = |input: &[u8]| {
+            let mut output = Vec::new();
+            desk::run_operations(input, &mut output).unwrap();
+            output
+        };
+        let first = case(&[1, 1, 1], &[0x10, 0, 0x12, 0], 6);
+        let cases = [
+            first.clone(),
+            case(&[1, 1, 1], &[0x10, 0, 0x12, 0], 5),
+            case(&[1, 0, 1], &[], 0),
+            case(&[1, 1, 1], &[0x10], 9),
+            case(&[2, 1, 1, 9], &[], 0),
+        ];
+        let answers = [0, 0x20, 255, 1, 9, 255, 0];
+        let expected = [&answers[..], &[255, 2, 254, 0]].concat();
+        assert_eq!(replies(&cases.concat()), expected);
+        // Only whole cases are answered.
+        assert_eq!(replies(&[]), []);
+        assert_eq!(replies(&first[..first.len() - 1]), []);
+        assert_eq!(replies(&[&first[..], &first[..11]].concat()), answers);
     }
 }

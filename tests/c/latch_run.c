@@ -1,195 +1,189 @@
-// The latch as C sees it: runs worked out by hand from M-150 that give every answer a latch has, and
-// each way in which a run is refused.
+// The latch as C sees it: two runs worked out by hand, in which every answer occurs, document 01's
+// last edge, and each way in which a run is refused.
 #include <stdint.h>
 #include <stdio.h>
 #include <string.h>
 
-// Opened with N and n. 0 done; 3 or 18 not opened, by the opening's refusal; 254 malformed calls, 255
-// no room. A slice is its address and its length.
+// Opens with N (count) and n (parties). A call is 10, 11, 12 or 13 and a party: await, step, give
+// up, count down. 0 done; 3 or 18 not opened, by the opening's refusal; 254 malformed calls, 255 no
+// room. A slice is its address and its length.
 uint8_t latch_run(uint8_t count, uint8_t parties, const uint8_t *calls, size_t calls_len,
                   uint8_t *out, size_t out_len);
 
-#define AWAIT(p) 0x10, p
-#define STEP(p) 0x11, p
-#define GIVE_UP(p) 0x12, p
-#define COUNT_DOWN(p) 0x13, p
+#define NONE 0xFFFFFFFF
+#define MOST 2100
 
-// code, party, woken party, number
-#define PLAIN(code, p) code, p, 255, 255, 255, 255, 255
-#define TICKET(code, p, t) code, p, 255, 0, 0, 0, t
-#define WOKE(p, q, t) 0x2A, p, q, 0, 0, 0, t
+// A call, and its answer: the code, the woken party, the number.
+typedef struct {
+    uint8_t call, party, code, woken;
+    uint32_t number;
+} Row;
 
-// From asked to waiting.
-#define WAITS(p) AWAIT(p), STEP(p), STEP(p), STEP(p), STEP(p)
-#define WAITED(p, t)                                                                               \
-    PLAIN(0x20, p), PLAIN(0x22, p), PLAIN(0x22, p), TICKET(0x23, p, t), TICKET(0x24, p, t)
-
-// N = 2: party 0 is woken, party 1 gives up after the mark and refuses its hand-over; later count-downs
-// leave the count at 0, and whoever awaits then is let go at once.
-static const uint8_t calls[] = {
-    WAITS(0),      AWAIT(1),   STEP(1), COUNT_DOWN(2), STEP(2),       STEP(1),  STEP(1),
-    STEP(1),       GIVE_UP(1), STEP(2), COUNT_DOWN(2), STEP(2),       STEP(1),  STEP(2),
-    STEP(2),       STEP(2),    STEP(1), STEP(2),       COUNT_DOWN(3), STEP(3),  AWAIT(3),
-    COUNT_DOWN(3), STEP(3),    STEP(3), GIVE_UP(3),    AWAIT(4),      STEP(255),
+// N 2, n 8
+static const Row run[] = {
+    {0x10, 0, 0x20, 255, NONE}, {0x11, 0, 0x22, 255, NONE},
+    {0x11, 0, 0x22, 255, NONE}, // one waiter
+    {0x11, 0, 0x23, 255, 0},    {0x11, 0, 0x24, 255, 0},
+    {0x10, 1, 0x20, 255, NONE}, {0x11, 1, 0x22, 255, NONE},
+    {0x11, 1, 0x22, 255, NONE}, // two
+    {0x11, 1, 0x23, 255, 1},    {0x11, 1, 0x24, 255, 1},
+    {0x10, 2, 0x20, 255, NONE}, {0x11, 2, 0x22, 255, NONE},
+    {0x11, 2, 0x22, 255, NONE}, // three
+    {0x11, 2, 0x23, 255, 2},    {0x11, 2, 0x24, 255, 2},
+    {0x10, 3, 0x20, 255, NONE}, {0x11, 3, 0x22, 255, NONE},
+    {0x11, 3, 0x22, 255, NONE}, // four; 3 is unnumbered
+    {0x10, 4, 0x20, 255, NONE},
+    {0x11, 4, 0x22, 255, NONE}, // 4 is raising
+    {0x10, 7, 0x20, 255, NONE}, // 7 has asked
+    {0x12, 4, 0x20, 255, NONE},
+    {0x12, 4, 9, 255, NONE}, // early, once
+    {0x12, 0, 0x20, 255, NONE},
+    {0x11, 0, 0x2E, 255, NONE}, // three
+    {0x13, 5, 0x20, 255, NONE}, {0x13, 6, 0x20, 255, NONE},
+    {0x13, 5, 5, 255, NONE},
+    {0x11, 5, 0x26, 255, NONE}, // the count is 1
+    {0x11, 6, 0x27, 255, NONE}, // it is 0: three hand-overs, for 1, 2 and 3
+    {0x11, 4, 0x21, 255, NONE}, {0x11, 7, 0x21, 255, NONE},
+    {0x12, 4, 9, 255, NONE},    {0x11, 6, 0x28, 255, 0},
+    {0x11, 6, 0x2B, 255, 0}, // 0 is leaving; two left
+    {0x11, 0, 0x31, 255, 0}, // 0 has one to pass on
+    {0x12, 1, 0x20, 255, NONE},
+    {0x11, 1, 0x2F, 255, NONE}, // after the mark
+    {0x11, 6, 0x28, 255, 1},    {0x11, 1, 0x32, 255, 1},
+    {0x11, 6, 0x2D, 255, 1}, // 1's own is dropped; one left
+    {0x11, 0, 0x28, 255, 2},    {0x11, 6, 0x28, 255, 3},
+    {0x11, 6, 0x29, 255, 3}, // 3 has drawn no number yet
+    {0x11, 0, 0x2A, 2, 2},
+    {0x12, 3, 0x20, 255, NONE}, // early, but let go before it would wait
+    {0x11, 3, 0x23, 255, 3},    {0x11, 3, 0x25, 255, 3},
+    {0x11, 0, 8, 255, NONE},    {0x11, 3, 8, 255, NONE},
+    {0x11, 6, 8, 255, NONE}, // all are at rest
+    {0x13, 3, 0x20, 255, NONE},
+    {0x11, 3, 0x26, 255, NONE}, // the count stays 0
+    {0x10, 3, 0x20, 255, NONE}, {0x11, 3, 0x21, 255, NONE},
+    {0x13, 8, 4, 255, NONE},
 };
 
-static const uint8_t answers[] = {
-    WAITED(0, 0),
-    PLAIN(0x20, 1),
-    PLAIN(0x22, 1), // raising
-    PLAIN(0x20, 2),
-    PLAIN(0x26, 2), // count 1
-    PLAIN(0x22, 1), // two waiters
-    TICKET(0x23, 1, 1),
-    TICKET(0x24, 1, 1),
-    PLAIN(0x20, 1),
-    PLAIN(0x08, 2),
-    PLAIN(0x20, 2),
-    PLAIN(0x27, 2), // count 0: two hand-overs
-    PLAIN(0x2F, 1),
-    TICKET(0x28, 2, 0),
-    WOKE(2, 0, 0), // one is left
-    TICKET(0x28, 2, 1),
-    TICKET(0x32, 1, 1),
-    TICKET(0x2D, 2, 1), // none
-    PLAIN(0x20, 3),
-    PLAIN(0x26, 3), // still 0
-    PLAIN(0x20, 3),
-    PLAIN(0x05, 3), // asked, so not free
-    PLAIN(0x21, 3),
-    PLAIN(0x08, 3),
-    PLAIN(0x09, 3),
-    PLAIN(0x04, 4),
-    PLAIN(0x04, 255),
+// N 1, n 32; parties 30 and 31 may not give up
+static const Row kept[] = {
+    {0x10, 0, 0x20, 255, NONE},  {0x11, 0, 0x22, 255, NONE},
+    {0x11, 0, 0x22, 255, NONE},  {0x11, 0, 0x23, 255, 0},
+    {0x11, 0, 0x24, 255, 0},     {0x10, 1, 0x20, 255, NONE},
+    {0x11, 1, 0x22, 255, NONE},  {0x11, 1, 0x22, 255, NONE},
+    {0x11, 1, 0x23, 255, 1},     {0x11, 1, 0x24, 255, 1},
+    {0x10, 31, 0x20, 255, NONE}, {0x12, 31, 10, 255, NONE},
+    {0x11, 31, 0x22, 255, NONE}, {0x12, 31, 10, 255, NONE},
+    {0x11, 31, 0x22, 255, NONE}, {0x11, 31, 0x23, 255, 2},
+    {0x11, 31, 0x24, 255, 2},    {0x12, 31, 10, 255, NONE},
+    {0x12, 0, 0x20, 255, NONE},  {0x11, 0, 0x2E, 255, NONE},
+    {0x13, 29, 0x20, 255, NONE},
+    {0x11, 29, 0x27, 255, NONE}, // two hand-overs, for 1 and 31
+    {0x11, 29, 0x28, 255, 0},    {0x11, 0, 0x30, 255, 0},
+    {0x11, 29, 0x2C, 255, 0}, // still two
+    {0x12, 1, 0x20, 255, NONE},  {0x11, 29, 0x28, 255, 1},
+    {0x11, 29, 0x2B, 255, 1}, // one left
+    {0x11, 1, 0x2F, 255, NONE},
+    {0x11, 1, 0x33, 255, 1}, // dropped
+    {0x11, 29, 0x28, 255, 2},    {0x11, 29, 0x2A, 31, 2},
+    {0x11, 29, 8, 255, NONE},    {0x11, 1, 8, 255, NONE},
+    {0x11, 31, 8, 255, NONE},
 };
 
-// N = 1, no waiter left: given up before the mark, and marked cancelled; the next ticket is 1.
-static const uint8_t cancelled_calls[] = {
-    WAITS(0), GIVE_UP(0), STEP(0), STEP(0), WAITS(0), COUNT_DOWN(1), STEP(1), STEP(1), STEP(1), STEP(1),
-};
-
-static const uint8_t cancelled_answers[] = {
-    WAITED(0, 0),       PLAIN(0x20, 0), PLAIN(0x2E, 0),     TICKET(0x30, 0, 0), WAITED(0, 1),
-    PLAIN(0x20, 1),     PLAIN(0x27, 1), TICKET(0x28, 1, 1), // the cancelled place was passed
-    WOKE(1, 0, 1),      PLAIN(0x08, 1),
-};
-
-// Counting down with nobody waiting; raising at the mark.
-static const uint8_t nobody_calls[] = {
-    AWAIT(0), STEP(0), COUNT_DOWN(1), STEP(1), STEP(0),
-};
-
-static const uint8_t nobody_answers[] = {
-    PLAIN(0x20, 0), PLAIN(0x22, 0), PLAIN(0x20, 1), PLAIN(0x26, 1), PLAIN(0x21, 0),
-};
-
-// The hand-over of a party that gives up after the mark lies at its place, and is dropped.
-static const uint8_t dropped_calls[] = {
-    WAITS(0), COUNT_DOWN(1), STEP(1), GIVE_UP(0), STEP(0), STEP(1), STEP(1), STEP(0), STEP(1),
-};
-
-static const uint8_t dropped_answers[] = {
-    WAITED(0, 0),   PLAIN(0x20, 1),     PLAIN(0x27, 1),     PLAIN(0x20, 0),     PLAIN(0x2F, 0),
-    TICKET(0x28, 1, 0), TICKET(0x2B, 1, 0), TICKET(0x33, 0, 0), PLAIN(0x08, 1),
-};
-
-// A hand-over comes before its waiter.
-static const uint8_t first_calls[] = {
-    AWAIT(0), STEP(0), STEP(0), STEP(0), COUNT_DOWN(1), STEP(1), STEP(1), STEP(1), STEP(0),
-};
-
-static const uint8_t first_answers[] = {
-    PLAIN(0x20, 0), PLAIN(0x22, 0),     PLAIN(0x22, 0),     TICKET(0x23, 0, 0), PLAIN(0x20, 1),
-    PLAIN(0x27, 1), TICKET(0x28, 1, 0), TICKET(0x29, 1, 0), TICKET(0x25, 0, 0),
-};
-
-// A party that gives up before the mark finds a hand-over at its place, and hands it on: one.
-static const uint8_t passed_calls[] = {
-    WAITS(0), WAITS(1), GIVE_UP(0), STEP(0), COUNT_DOWN(2), STEP(2), STEP(2),
-    STEP(2),  STEP(0),  STEP(0),    STEP(0), STEP(0),       STEP(2),
-};
-
-static const uint8_t passed_answers[] = {
-    WAITED(0, 0),       WAITED(1, 1),       PLAIN(0x20, 0),     PLAIN(0x2E, 0),
-    PLAIN(0x20, 2),     PLAIN(0x27, 2),     TICKET(0x28, 2, 0), TICKET(0x2B, 2, 0),
-    TICKET(0x31, 0, 0), TICKET(0x28, 0, 1), WOKE(0, 1, 1),      PLAIN(0x08, 0),
-    PLAIN(0x08, 2),
-};
-
-// A cancelled place uses no hand-over.
-static const uint8_t skipped_calls[] = {
-    WAITS(0), WAITS(1), GIVE_UP(0), STEP(0), COUNT_DOWN(2), STEP(2), STEP(2),
-    STEP(0),  STEP(2),  STEP(2),    STEP(2), STEP(2),
-};
-
-static const uint8_t skipped_answers[] = {
-    WAITED(0, 0),       WAITED(1, 1),       PLAIN(0x20, 0),     PLAIN(0x2E, 0),
-    PLAIN(0x20, 2),     PLAIN(0x27, 2),     TICKET(0x28, 2, 0), TICKET(0x30, 0, 0),
-    TICKET(0x2C, 2, 0), TICKET(0x28, 2, 1), WOKE(2, 1, 1),      PLAIN(0x08, 2),
-};
-
-// Given up early, while raising: the mark goes along to giving up. Kind 3, which party 30 is, may not.
-static const uint8_t early_calls[] = {
-    AWAIT(8), STEP(8), GIVE_UP(8), GIVE_UP(8), STEP(8),     STEP(8), STEP(8),
-    STEP(8),  STEP(8), AWAIT(30),  STEP(30),   GIVE_UP(30), STEP(8), GIVE_UP(8),
-};
-
-static const uint8_t early_answers[] = {
-    PLAIN(0x20, 8),     PLAIN(0x22, 8), PLAIN(0x20, 8),     PLAIN(0x09, 8),     PLAIN(0x22, 8),
-    TICKET(0x23, 8, 0), TICKET(0x24, 8, 0), PLAIN(0x2E, 8), TICKET(0x30, 8, 0), PLAIN(0x20, 30),
-    PLAIN(0x22, 30),    PLAIN(0x0A, 30), PLAIN(0x08, 8),    PLAIN(0x09, 8),
-};
+#define LEN(rows) (sizeof(rows) / sizeof *(rows))
 
 static int failures = 0;
 
-// A run gives the code, the answers, and leaves the rest of the buffer as it was.
-static void expect(const char *name, uint8_t count, uint8_t parties, const uint8_t *made,
-                   size_t made_len, size_t room, uint8_t code, const uint8_t *expected,
-                   size_t written) {
-    uint8_t out[256], want[256];
+static void calls_of(const Row *rows, size_t count, uint8_t *calls) {
+    for (size_t at = 0; at < count; at++) {
+        calls[2 * at] = rows[at].call;
+        calls[2 * at + 1] = rows[at].party;
+    }
+}
+
+static void answers_of(const Row *rows, size_t count, uint8_t *answers) {
+    for (size_t at = 0; at < count; at++, answers += 7) {
+        const Row row = rows[at];
+        const uint8_t answer[7] = {row.code,         row.party,        row.woken, row.number >> 24,
+                                   row.number >> 16, row.number >> 8, row.number};
+        memcpy(answers, answer, 7);
+    }
+}
+
+// A run gives the result, so many of the rows' answers, and leaves the rest of the buffer alone.
+static void expect(const char *name, uint8_t count, uint8_t parties, const Row *rows,
+                   size_t made_len, size_t room, uint8_t result, size_t answered) {
+    static uint8_t made[2 * MOST + 1], out[7 * MOST], want[7 * MOST];
+    calls_of(rows, (made_len + 1) / 2, made);
     memset(out, 0xAA, sizeof out);
     memset(want, 0xAA, sizeof want);
-    memcpy(want, expected, written);
+    answers_of(rows, answered, want);
     uint8_t got = latch_run(count, parties, made, made_len, out, room);
-    if (got != code || memcmp(out, want, sizeof out) != 0) {
-        printf("FAILED: %s: code %u\n", name, got);
+    if (got != result || memcmp(out, want, sizeof out) != 0) {
+        size_t at = 0;
+        while (at < sizeof out && out[at] == want[at]) {
+            at++;
+        }
+        printf("FAILED: %s: result %u, call %zu\n", name, got, at / 7);
         failures++;
     }
 }
 
-#define RUN(name, count, parties, run)                                                             \
-    expect(name, count, parties, run##_calls, sizeof run##_calls, sizeof run##_answers, 0,          \
-           run##_answers, sizeof run##_answers)
+// A run that is not begun: half a call and no room after an opening that is refused.
+static void refused(const char *name, uint8_t count, uint8_t parties, uint8_t result) {
+    expect(name, count, parties, run, 3, 0, result, 0);
+}
 
-// An opening that is refused, whatever the calls.
-static void refused(const char *name, uint8_t count, uint8_t parties, uint8_t code) {
-    expect(name, count, parties, calls, sizeof calls, sizeof answers, code, answers, 0);
-    expect(name, count, parties, calls, 1, 0, code, answers, 0);
+// Document 01's last edge: party 1 waits, 2 gives up so many waits and awaits once more; then 0
+// counts down to 0 and lets 1 go, whose place was the oldest.
+static void edge(const char *name, uint32_t given_up, uint8_t next, uint8_t after) {
+    static Row rows[MOST];
+    size_t count = 0;
+    for (uint32_t wait = 0; wait <= given_up; wait++) {
+        const uint8_t party = wait == 0 ? 1 : 2;
+        const Row all[] = {
+            {0x10, party, 0x20, 255, NONE}, {0x11, party, 0x22, 255, NONE},
+            {0x11, party, 0x22, 255, NONE}, {0x11, party, 0x23, 255, wait},
+            {0x11, party, 0x24, 255, wait}, {0x12, party, 0x20, 255, NONE},
+            {0x11, party, 0x2E, 255, NONE}, {0x11, party, 0x30, 255, wait},
+        };
+        const size_t made = wait == 0 ? 5 : LEN(all);
+        memcpy(rows + count, all, made * sizeof *all);
+        count += made;
+    }
+    const Row last[] = {
+        {0x10, 2, next, 255, NONE},    {0x10, 0, 7, 255, NONE},    {0x13, 0, 0x20, 255, NONE},
+        {0x11, 0, 0x27, 255, NONE},    {0x11, 0, 0x28, 255, 0},    {0x11, 0, 0x2A, 1, 0},
+        {0x11, 0, 8, 255, NONE},       {0x10, 0, 0x20, 255, NONE}, {0x11, 0, 0x21, 255, NONE},
+        {0x11, 2, after, 255, NONE},
+    };
+    memcpy(rows + count, last, sizeof last);
+    count += LEN(last);
+    expect(name, 1, 3, rows, 2 * count, 7 * count, 0, count);
 }
 
 int main(void) {
-    size_t all = sizeof calls, room = sizeof answers;
-    expect("woken and refused", 2, 4, calls, all, room, 0, answers, room);
-    expect("more room than needed", 2, 4, calls, all, 256, 0, answers, room);
-    RUN("cancelled", 1, 2, cancelled);
-    RUN("nobody waits", 1, 2, nobody);
-    RUN("dropped", 1, 2, dropped);
-    RUN("hand-over first", 1, 2, first);
-    RUN("handed on", 1, 3, passed);
-    RUN("skipped", 1, 3, skipped);
-    RUN("early", 200, 32, early);
-    expect("no call", 1, 1, calls, 0, 0, 0, answers, 0);
-    refused("N 0", 0, 1, 18);
-    refused("N 201", 201, 32, 18);
-    refused("N 255", 255, 1, 18);
-    refused("n 0", 1, 0, 3);
-    refused("n 33", 200, 33, 3);
-    refused("n 0 and N 0", 0, 0, 3);
-    refused("n 255 and N 201", 201, 255, 3);
-    expect("half a call", 2, 4, calls, all - 1, room, 254, answers, 0);
-    expect("a code too low", 2, 4, (const uint8_t[]){0x0F, 0}, 2, room, 254, answers, 0);
-    expect("a code too high", 2, 4, (const uint8_t[]){STEP(0), 0x14, 0}, 4, room, 254, answers, 0);
-    expect("half a call and no room", 2, 4, calls, all - 1, 0, 254, answers, 0);
-    expect("one byte too little room", 2, 4, calls, all, room - 1, 255, answers, 0);
+    size_t all = LEN(run);
+    expect("the first run", 2, 8, run, 2 * all, 7 * all, 0, all);
+    expect("more room than needed", 2, 8, run, 2 * all, 7 * all + 1, 0, all);
+    expect("the second run", 1, 32, kept, 2 * LEN(kept), 7 * LEN(kept), 0, LEN(kept));
+    expect("no call", 200, 32, run, 0, 0, 0, 0);
+    expect("N 200", 200, 1, run, 6, 21, 0, 3);
+    edge("254 waits given up", 254, 0x20, 0x21);
+    edge("255 waits given up", 255, 7, 8);
+    refused("N 0", 0, 8, 18);
+    refused("N 201", 201, 8, 18);
+    refused("N 255", 255, 32, 18);
+    refused("n 0", 2, 0, 3);
+    refused("n 33", 2, 33, 3);
+    refused("N 0 and n 0", 0, 0, 3);
+    refused("N 201 and n 255", 201, 255, 3);
+    // malformed comes before no room
+    expect("half a call", 2, 8, run, 2 * all - 1, 0, 254, 0);
+    expect("one byte", 2, 8, run, 1, 7, 254, 0);
+    const Row low[] = {{0x10, 0, 0, 0, 0}, {0x0F, 0, 0, 0, 0}}, high[] = {{0x14, 0, 0, 0, 0}};
+    expect("a code too low", 2, 8, low, 4, 0, 254, 0);
+    expect("a code too high", 2, 8, high, 2, 7, 254, 0);
+    expect("one byte too little room", 2, 8, run, 2 * all, 7 * all - 1, 255, 0);
+    expect("no room", 2, 8, run, 2, 0, 255, 0);
     return failures != 0;
 }
