@@ -4,7 +4,7 @@ use crate::room::full_for;
 use latch::moves::LatchOp;
 use latch::moves::LatchSight;
 use latch::record::LatchSlot;
-use latchtable::calls::decide_by;
+use latchdecide::calls::decide_by;
 use latchtable::effect::LatchEffect;
 ghost use mathlib.Core.Path.{_≡_};
 ghost use Prim.Native.Nat.{_≤_};

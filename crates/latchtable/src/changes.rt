@@ -15,7 +15,7 @@ ghost use Rattle.latch.specs.Table.{act, put, turn, wake};
 ghost use Rattle.latchtable.specs.Effect.{effectOf};
 
 // Nothing changes.
-pub(crate) fn refused(why: Refusal, s: LatchSight) -> LatchEffect
+pub fn refused(why: Refusal, s: LatchSight) -> LatchEffect
     ensures { λ r. ⌜ r ≡ effectOf (Refuse why) s ⌝ }
 {
     let waiter = s.waiter;
@@ -34,12 +34,7 @@ pub(crate) fn refused(why: Refusal, s: LatchSight) -> LatchEffect
 }
 
 // The party's slot and the figures change.
-pub(crate) fn acted(
-    slot: LatchSlot,
-    figures: LatchFigures,
-    answer: Answer,
-    s: LatchSight,
-) -> LatchEffect
+pub fn acted(slot: LatchSlot, figures: LatchFigures, answer: Answer, s: LatchSight) -> LatchEffect
     ensures { λ r. ⌜ r ≡ effectOf (act slot figures answer) s ⌝ }
 {
     let waiter = s.waiter;
@@ -56,7 +51,7 @@ pub(crate) fn acted(
 }
 
 // Its slot alone.
-pub(crate) fn turned(slot: LatchSlot, answer: Answer, s: LatchSight) -> LatchEffect
+pub fn turned(slot: LatchSlot, answer: Answer, s: LatchSight) -> LatchEffect
     ensures { λ r. ⌜ r ≡ effectOf (turn slot answer s) s ⌝ }
 {
     let figures = s.figures;

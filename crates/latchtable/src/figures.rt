@@ -52,7 +52,7 @@ pub(crate) fn with_resumed(resumed: u32, f: LatchFigures) -> LatchFigures
     }
 }
 
-pub(crate) fn with_begun(begun: u32, f: LatchFigures) -> LatchFigures
+pub fn with_begun(begun: u32, f: LatchFigures) -> LatchFigures
     ensures { λ r. ⌜ r ≡ withBegun begun f ⌝ }
 {
     LatchFigures {

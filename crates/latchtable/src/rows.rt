@@ -25,13 +25,11 @@ use latch::record::LatchFigures;
 ghost use mathlib.Core.Path.{_≡_};
 ghost use Prim.Native.Nat.{_≤_};
 ghost use Rattle.hub.specs.Phases.{isWaiting};
-ghost use Rattle.latch.specs.Table;
 ghost use Rattle.latch.specs.Table.{bringsToZero, done, resumeWaiter, stepAcquiring, stepIn, stepTicketed};
 ghost use Rattle.latchtable.specs.Effect.{effectOf};
-ghost use Rattle.latchtable.specs.Small.{Small};
 
 // Asked, or raising; `phase` is its own, and `next` unnumbered, both with or without a mark.
-fn step_acquiring(phase: Phase, next: Phase, s: LatchSight) -> LatchEffect
+pub fn step_acquiring(phase: Phase, next: Phase, s: LatchSight) -> LatchEffect
     requires { ⌜ s .figures .waiters ≤ 32 ⌝ }
     ensures { λ r. ⌜ r ≡ effectOf (stepAcquiring phase next (done (s .figures)) (s .slot .raising) s) s ⌝ }
 {
@@ -46,7 +44,7 @@ fn step_acquiring(phase: Phase, next: Phase, s: LatchSight) -> LatchEffect
     acted(in_phase(next), raised, Answer::MustWait, s)
 }
 
-fn step_suspending(s: LatchSight) -> LatchEffect
+pub fn step_suspending(s: LatchSight) -> LatchEffect
     requires { ⌜ s .figures .issued ≤ 1000000 ⌝ }
     ensures { λ r. ⌜ r ≡ effectOf (stepIn Phase.Suspending s) s ⌝ }
 {
@@ -61,7 +59,7 @@ fn step_suspending(s: LatchSight) -> LatchEffect
     )
 }
 
-fn step_suspending_marked(s: LatchSight) -> LatchEffect
+pub fn step_suspending_marked(s: LatchSight) -> LatchEffect
     requires { ⌜ s .figures .issued ≤ 1000000 ⌝ }
     ensures { λ r. ⌜ r ≡ effectOf (stepIn Phase.SuspendingMarked s) s ⌝ }
 {
@@ -84,7 +82,7 @@ fn waited_by(party: u8) -> Place
 }
 
 // `next`: waiting, or giving up if there is a mark.
-fn step_ticketed(next: Phase, t: u32, s: LatchSight) -> LatchEffect
+pub fn step_ticketed(next: Phase, t: u32, s: LatchSight) -> LatchEffect
     ensures { λ r. ⌜ r ≡ effectOf (stepTicketed next t (s .seat .place) s) s ⌝ }
 {
     let seat = s.seat;
@@ -105,7 +103,7 @@ fn brings_to_zero(figures: LatchFigures) -> bool
     1 <= figures.waiters
 }
 
-fn step_releasing(s: LatchSight) -> LatchEffect
+pub fn step_releasing(s: LatchSight) -> LatchEffect
     ensures { λ r. ⌜ r ≡ effectOf (stepIn Phase.Releasing s) s ⌝ }
 {
     let figures = s.figures;
@@ -117,7 +115,7 @@ fn step_releasing(s: LatchSight) -> LatchEffect
     acted(free_slot(), lowered, Answer::Returned, s)
 }
 
-fn step_resuming(s: LatchSight) -> LatchEffect
+pub fn step_resuming(s: LatchSight) -> LatchEffect
     requires { ⌜ s .figures .resumed ≤ 1000000 ⌝ }
     ensures { λ r. ⌜ r ≡ effectOf (stepIn Phase.Resuming s) s ⌝ }
 {
@@ -149,7 +147,7 @@ fn resume_waiter(q: u32, t: u32, s: LatchSight) -> LatchEffect
     woke(q, t, used_one(s.slot.left), s)
 }
 
-fn step_resuming_at(t: u32, s: LatchSight) -> LatchEffect
+pub fn step_resuming_at(t: u32, s: LatchSight) -> LatchEffect
     ensures { λ r. ⌜ r ≡ effectOf (stepIn (Phase.ResumingAt t) s) s ⌝ }
 {
     let seat = s.seat;
@@ -171,19 +169,19 @@ fn step_resuming_at(t: u32, s: LatchSight) -> LatchEffect
     }
 }
 
-// One waiter less; at the mark a hand-over is on its way to it.
-fn step_aborting(t: u32, s: LatchSight) -> LatchEffect
+// One waiter less; after the mark a hand-over is on its way to it.
+pub fn step_aborting(t: u32, s: LatchSight) -> LatchEffect
     ensures { λ r. ⌜ r ≡ effectOf (stepIn (Phase.Aborting t) s) s ⌝ }
 {
     let figures = s.figures;
     let fewer = with_waiters(less_one(figures.waiters), figures);
-    if figures.count == 0 {
-        return acted(in_phase(Phase::Refusing(t)), fewer, Answer::MustRefuse, s);
+    if figures.count != 0 {
+        return acted(in_phase(Phase::Cancelling(t)), fewer, Answer::MustCancel, s);
     }
-    acted(in_phase(Phase::Cancelling(t)), fewer, Answer::MustCancel, s)
+    acted(in_phase(Phase::Refusing(t)), fewer, Answer::MustRefuse, s)
 }
 
-fn step_cancelling(t: u32, s: LatchSight) -> LatchEffect
+pub fn step_cancelling(t: u32, s: LatchSight) -> LatchEffect
     ensures { λ r. ⌜ r ≡ effectOf (stepIn (Phase.Cancelling t) s) s ⌝ }
 {
     let seat = s.seat;
@@ -202,7 +200,7 @@ fn step_cancelling(t: u32, s: LatchSight) -> LatchEffect
     }
 }
 
-fn step_refusing(t: u32, s: LatchSight) -> LatchEffect
+pub fn step_refusing(t: u32, s: LatchSight) -> LatchEffect
     ensures { λ r. ⌜ r ≡ effectOf (stepIn (Phase.Refusing t) s) s ⌝ }
 {
     let seat = s.seat;
@@ -210,33 +208,6 @@ fn step_refusing(t: u32, s: LatchSight) -> LatchEffect
     match place {
         Place::Waiting(_) => placed(Place::Refused, free_slot(), Answer::MarkedRefused(t), s),
         Place::Permit => placed(Place::Done, free_slot(), Answer::DroppedPermit(t), s),
-        _ => refused(Refusal::Unfit, s),
-    }
-}
-
-// The step table.
-pub fn decide_step(s: LatchSight) -> LatchEffect
-    requires { ⌜ Small s ⌝ }
-    ensures { λ r. ⌜ r ≡ effectOf (Table.step s) s ⌝ }
-{
-    let slot = s.slot;
-    let phase = slot.phase;
-    match phase {
-        Phase::Free | Phase::Waiting(_) => refused(Refusal::AtRest, s),
-        Phase::Acquiring => step_acquiring(Phase::Acquiring, Phase::Suspending, s),
-        Phase::Suspending => step_suspending(s),
-        Phase::Ticketed(t) => step_ticketed(Phase::Waiting(t), t, s),
-        Phase::Aborting(t) => step_aborting(t, s),
-        Phase::Cancelling(t) => step_cancelling(t, s),
-        Phase::Refusing(t) => step_refusing(t, s),
-        Phase::Releasing => step_releasing(s),
-        Phase::Resuming => step_resuming(s),
-        Phase::ResumingAt(t) => step_resuming_at(t, s),
-        Phase::AcquiringMarked => {
-            step_acquiring(Phase::AcquiringMarked, Phase::SuspendingMarked, s)
-        }
-        Phase::SuspendingMarked => step_suspending_marked(s),
-        Phase::TicketedMarked(t) => step_ticketed(Phase::Aborting(t), t, s),
         _ => refused(Refusal::Unfit, s),
     }
 }

@@ -7,7 +7,7 @@ ghost use mathlib.Core.Path.{_≡_};
 ghost use Prim.Native.Nat.{_-_};
 ghost use Rattle.latch.specs.Record.{carryOn, inPhase, toRaise, withLeft, withPhase};
 
-pub(crate) fn in_phase(phase: Phase) -> LatchSlot
+pub fn in_phase(phase: Phase) -> LatchSlot
     ensures { λ r. ⌜ r ≡ inPhase phase ⌝ }
 {
     LatchSlot {
@@ -38,7 +38,7 @@ pub(crate) fn with_left(phase: Phase, left: u32) -> LatchSlot
 }
 
 // The phase alone changes.
-pub(crate) fn with_phase(phase: Phase, slot: LatchSlot) -> LatchSlot
+pub fn with_phase(phase: Phase, slot: LatchSlot) -> LatchSlot
     ensures { λ r. ⌜ r ≡ withPhase phase slot ⌝ }
 {
     LatchSlot {

@@ -21,7 +21,7 @@ acted-requires c κs = search needs
 returns : tie.Need-returns
 unfolding stepIn stepAborting
 returns c =
-    rw (eq-eqb _ _ (c .before .before .if1 .taken))
+    rw (ne-eqb _ _ (c .before .before .if1 .taken))
     (cc (
       c .acted .ensures,
       c .before .in-phase .ensures,
@@ -38,7 +38,7 @@ acted-requires-2 c κs = search needs
 returns-2 : tie.Need-returns-2
 unfolding stepIn stepAborting
 returns-2 c =
-    rw (ne-eqb _ _ (c .before .before .if1 .left))
+    rw (eq-eqb _ _ (c .before .before .if1 .left))
     (cc (
       c .acted2 .ensures,
       c .before .in-phase2 .ensures,

@@ -5,8 +5,8 @@ use mathlib.Core.List.{[], _∷_}
 use Rattle.hub.proofs.Laws.Phases.{allBut, phase-arm}
 use Rattle.hub.specs.Phases.{isFree, isOneOf}
 use Rattle.latch.specs.Table.{countDown, decide}
-use Rattle.latchtable.proofs.others.decide_count_down.Statement.{statement}
-use Rattle.latchtable.proofs.others.decide_count_down.Tie as tie
+use Rattle.latchdecide.proofs.others.decide_count_down.Statement.{statement}
+use Rattle.latchdecide.proofs.others.decide_count_down.Tie as tie
 
 enum-told : tie.Need-enum-told
 enum-told c = search needs

@@ -8,10 +8,10 @@ use Rattle.hub.specs.declared.record.Phase.{Phase}
 use Rattle.hub.specs.Phases.{isOneOf, isWaiting}
 use Rattle.hub.specs.Table.{canCancel, givenUp}
 use Rattle.latch.specs.Moves.{Move}
 use Rattle.latchtable.specs.Effect.{effectOf}
-use Rattle.latchtable.proofs.Laws.Others.{gives-up, not-waiting}
-use Rattle.latchtable.proofs.others.cancel_early.Statement.{statement}
-use Rattle.latchtable.proofs.others.cancel_early.Tie as tie
+use Rattle.latchdecide.proofs.Laws.Others.{gives-up, not-waiting}
+use Rattle.latchdecide.proofs.others.cancel_early.Statement.{statement}
+use Rattle.latchdecide.proofs.others.cancel_early.Tie as tie
 
 enum-told : tie.Need-enum-told
 enum-told c = search needs

@@ -1,27 +1,27 @@
 // The other calls: await, give up and count down.
 
-use crate::changes::acted;
-use crate::changes::refused;
-use crate::changes::turned;
-use crate::effect::LatchEffect;
-use crate::figures::with_begun;
-use crate::slots::in_phase;
-use crate::slots::with_phase;
 use hub::answers::Answer;
 use hub::answers::Refusal;
 use hub::record::Hub;
 use hub::record::Phase;
 use latch::moves::LatchSight;
+use latchtable::changes::acted;
+use latchtable::changes::refused;
+use latchtable::changes::turned;
+use latchtable::effect::LatchEffect;
+use latchtable::figures::with_begun;
+use latchtable::slots::in_phase;
+use latchtable::slots::with_phase;
 ghost use mathlib.Core.Path.{_≡_};
 ghost use mathlib.Core.Bool.{true, false};
 ghost use lib.Dec.{eqb};
 ghost use Rattle.hub.specs.Phases.{isWaiting};
 ghost use Rattle.latch.specs.declared.moves.LatchOp.{LatchOp};
 ghost use Rattle.latch.specs.Table.{cancel, decide};
 ghost use Rattle.latchtable.specs.Effect.{effectOf};
 
 // Is there no place for one more ticket? Asked only of a party that is free.
-pub fn decide_await(full: bool, s: LatchSight) -> LatchEffect
+pub(crate) fn decide_await(full: bool, s: LatchSight) -> LatchEffect
     ensures { λ r. ⌜ r ≡ effectOf (decide LatchOp.Await full s) s ⌝ }
 {
     let slot = s.slot;
@@ -68,7 +68,7 @@ fn cancel_early(s: LatchSight) -> LatchEffect
     }
 }
 
-pub fn decide_cancel(s: LatchSight) -> LatchEffect
+pub(crate) fn decide_cancel(s: LatchSight) -> LatchEffect
     ensures { λ r. ⌜ r ≡ effectOf (decide LatchOp.Cancel false s) s ⌝ }
 {
     let slot = s.slot;
@@ -79,7 +79,7 @@ pub fn decide_cancel(s: LatchSight) -> LatchEffect
     cancel_to(Phase::Aborting(t), s)
 }
 
-pub fn decide_count_down(s: LatchSight) -> LatchEffect
+pub(crate) fn decide_count_down(s: LatchSight) -> LatchEffect
     ensures { λ r. ⌜ r ≡ effectOf (decide LatchOp.CountDown false s) s ⌝ }
 {
     let slot = s.slot;

@@ -1,9 +1,9 @@
 -- `decide_by` meets its contract: each arm is that of its call.
 use borrow.Author.Needs.{needs}
 use Rattle.latch.specs.Table.{decide}
-use Rattle.latchtable.proofs.Laws.Ops.{by-op}
-use Rattle.latchtable.proofs.calls.decide_by.Statement.{statement}
-use Rattle.latchtable.proofs.calls.decide_by.Tie as tie
+use Rattle.latchdecide.proofs.Laws.Ops.{by-op}
+use Rattle.latchdecide.proofs.calls.decide_by.Statement.{statement}
+use Rattle.latchdecide.proofs.calls.decide_by.Tie as tie
 
 enum-told : tie.Need-enum-told
 enum-told c = search needs

@@ -5,9 +5,9 @@ use mathlib.Core.List.{[], _∷_}
 use Rattle.hub.proofs.Laws.Phases.{allBut, phase-arm}
 use Rattle.hub.specs.Phases.{isOneOf, isWaiting}
 use Rattle.hub.specs.Table.{givenUp}
-use Rattle.latchtable.proofs.Laws.Others.{gives-up}
-use Rattle.latchtable.proofs.others.decide_cancel.Statement.{statement}
-use Rattle.latchtable.proofs.others.decide_cancel.Tie as tie
+use Rattle.latchdecide.proofs.Laws.Others.{gives-up}
+use Rattle.latchdecide.proofs.others.decide_cancel.Statement.{statement}
+use Rattle.latchdecide.proofs.others.decide_cancel.Tie as tie
 
 enum-known-phase : tie.Need-enum-known-phase
 enum-known-phase c = search needs

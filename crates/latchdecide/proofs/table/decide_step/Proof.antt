@@ -7,10 +7,10 @@ use Rattle.hub.specs.declared.record.Phase.{Phase}
 use Rattle.latch.specs.declared.moves.LatchSight.{LatchSight}
 use Rattle.latch.specs.Moves.{Move}
 use Rattle.latch.specs.Table.{step, stepIn}
 use Rattle.latchtable.specs.declared.effect.LatchEffect.{LatchEffect}
 use Rattle.latchtable.specs.Effect.{effectOf}
-use Rattle.latchtable.proofs.rows.decide_step.Statement.{statement}
-use Rattle.latchtable.proofs.rows.decide_step.Tie as tie
+use Rattle.latchdecide.proofs.table.decide_step.Statement.{statement}
+use Rattle.latchdecide.proofs.table.decide_step.Tie as tie
 
 in-phase : (s : LatchSight) {f : Phase} {e : LatchEffect} → s .slot .phase ≡ f
     → e ≡ effectOf (stepIn f s) s → e ≡ effectOf (step s) s

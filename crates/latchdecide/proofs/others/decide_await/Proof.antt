@@ -9,10 +9,10 @@ use Rattle.hub.specs.Phases.{isFree, isOneOf}
 use Rattle.hub.specs.Record.{MAX-BEGUN}
 use Rattle.latch.specs.Moves.{Move}
 use Rattle.latch.specs.Table.{await, decide}
 use Rattle.latchtable.specs.Effect.{effectOf}
-use Rattle.latchtable.proofs.Laws.Others.{exhausted, full-up}
-use Rattle.latchtable.proofs.others.decide_await.Statement.{statement}
-use Rattle.latchtable.proofs.others.decide_await.Tie as tie
+use Rattle.latchdecide.proofs.Laws.Others.{exhausted, full-up}
+use Rattle.latchdecide.proofs.others.decide_await.Statement.{statement}
+use Rattle.latchdecide.proofs.others.decide_await.Tie as tie
 
 enum-told : tie.Need-enum-told
 enum-told c = search needs

@@ -1,16 +1,16 @@
 // What a call does, whichever it is.
 
-use crate::effect::LatchEffect;
 use crate::others::decide_await;
 use crate::others::decide_cancel;
 use crate::others::decide_count_down;
-use crate::rows::decide_step;
+use crate::table::decide_step;
 use latch::moves::LatchOp;
 use latch::moves::LatchSight;
+use latchtable::effect::LatchEffect;
 ghost use mathlib.Core.Path.{_≡_};
 ghost use Rattle.latch.specs.Table.{decide};
 ghost use Rattle.latchtable.specs.Effect.{effectOf};
 ghost use Rattle.latchtable.specs.Small.{Small};
 
 // `full`: is there no place for one more ticket? Only an await looks at it.
 pub fn decide_by(op: LatchOp, full: bool, s: LatchSight) -> LatchEffect

@@ -3,8 +3,8 @@ use borrow.Author.Needs.{needs}
 use borrow.Author.Tests.{eq-eqb, ne-eqb}
 use mathlib.Core.Path.{_≡_}
 use Rattle.latch.specs.Table.{cancel}
-use Rattle.latchtable.proofs.others.cancel_to.Statement.{statement}
-use Rattle.latchtable.proofs.others.cancel_to.Tie as tie
+use Rattle.latchdecide.proofs.others.cancel_to.Statement.{statement}
+use Rattle.latchdecide.proofs.others.cancel_to.Tie as tie
 
 refused-requires : tie.Need-refused-requires
 refused-requires c κs = search needs
