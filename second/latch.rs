@@ -46,7 +46,7 @@
 //!
 //! Every case can be read. A state counts modulo 6, a phase modulo 15, a code
 //! modulo 4, a mark modulo 2. Phases 12 and 13, which only a hub with radios
-//! has, are read as holding: it does not fit either. What counts for nothing is
+//! has, are read as holding, which does not fit either. What counts for nothing is
 //! passed over and written as 0: the party of a place that is not waiting, the
 //! number of a phase that has none, the hand-overs of a party neither carrying
 //! nor handing, the mark of one not asked, raising, unnumbered or numbered.

@@ -739,6 +739,14 @@ mod table {
         latch.call(Call::Step, 0).unwrap();
         assert_eq!((latch.next_resume, latch.oldest), (256, 256));
         assert_eq!(latch.ring, [Place::Empty; PLACES]);
+        // The first place is not that of number 256 yet.
+        let mut latch = Latch::open(1, 1).unwrap();
+        latch.ring[0] = Place::Cancelled;
+        latch.next_resume = 256;
+        let before = latch.ring;
+        latch.call(Call::CountDown, 0).unwrap();
+        assert_eq!((latch.next_resume, latch.oldest), (256, 0));
+        assert_eq!(latch.ring, before);
     }
 }
 

@@ -94,7 +94,7 @@ impl Case {
 
 /// Mostly whole schedules with enough room; some that are wrong in one way, or in several.
 fn any_case(random: &mut Random) -> Case {
-    let mut case = Case::of(schedule(random, 4000));
+    let mut case = Case::of(schedule(random));
     let wrong = |random: &mut Random| random.one_in(12);
     let any = random.byte();
     if wrong(random) {
@@ -309,7 +309,7 @@ fn call_facts(story: &Story, [call, party]: [u8; 2], answer: Answer) -> Facts {
     let reaches = step && matches!(code, 0x26 | 0x27) && story.count == 1;
     let alone = || PHASES.iter().all(|&at| !at.is_busy() || others(at) == 0);
     let hands = || others(Phase::Carrying) + others(Phase::Handing) > 0;
-    // the awaits that are refused for a party in this phase
+    // refused for those in this phase
     let claimed = story.claimed();
     let decides = |at| code == 7 && claimed - (story.in_phase(at) as u32) < 256;
     let last_place = accepted && call == AWAIT && claimed == 255;

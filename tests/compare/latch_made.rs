@@ -65,7 +65,7 @@ struct World {
 
 impl World {
     fn opened(random: &mut Random) -> Self {
-        let s = schedule(random, 4000);
+        let s = schedule(random);
         let record = Record::opened(s.count, s.parties);
         World { record, schedule: Some(s.calls.into_iter()), over: false }
     }

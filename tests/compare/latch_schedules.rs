@@ -53,6 +53,10 @@ impl Maker {
         self.story.follow(call, guess).expect("a guess breaks no claim");
     }
 
+    fn make_all(&mut self, calls: &[[u8; 2]]) {
+        calls.iter().for_each(|&call| self.make(call));
+    }
+
     fn parties(&self) -> u64 {
         self.story.parties.len() as u64
     }
@@ -130,8 +134,7 @@ impl Maker {
         for _ in 0..100 * u64::from(self.story.count) {
             let party = random.below(self.parties()) as u8;
             if self.story.count > left && self.phase(party) == Phase::Free {
-                self.make([COUNT_DOWN, party]);
-                self.make([STEP, party]);
+                self.make_all(&[[COUNT_DOWN, party], [STEP, party]]);
             }
         }
     }
@@ -161,8 +164,8 @@ impl Maker {
     }
 }
 
-/// One of many kinds of schedule, of at most about `most` calls.
-pub fn schedule(random: &mut Random, most: u64) -> Schedule {
+/// One of many kinds of schedule.
+pub fn schedule(random: &mut Random) -> Schedule {
     let count = match random.below(6) {
         0 => 1 + random.below(200) as u8,
         1 => 1 + random.below(20) as u8,
@@ -173,7 +176,7 @@ pub fn schedule(random: &mut Random, most: u64) -> Schedule {
     let parties = if random.one_in(6) { 32 } else { 1 + random.below(few) as u8 };
     let mut maker = Maker::opened(count, parties);
     match random.below(12) {
-        0 if parties >= 3 && most >= 4000 => return long_wait(random, count, parties),
+        0 if parties >= 3 => return long_wait(random, count, parties),
         1 => all_wait(random, &mut maker),
         2..=4 if parties >= 4 => leaving(random, &mut maker),
         _ => {}
@@ -181,7 +184,7 @@ pub fn schedule(random: &mut Random, most: u64) -> Schedule {
     let near = random.pick(&[count, count.min(3), count.min(1)]);
     maker.count_down_to(random, near);
     for _ in 0..1 + random.below(3) {
-        maker.live(random, most / 40);
+        maker.live(random, 100);
         if random.one_in(2) {
             maker.rush(random);
         }
@@ -190,7 +193,7 @@ pub fn schedule(random: &mut Random, most: u64) -> Schedule {
         maker.settle(random);
     }
     maker.count_down_to(random, 0);
-    let after = random.pick(&[0, 10, most / 40]);
+    let after = random.pick(&[0, 10, 100]);
     maker.live(random, after);
     if !random.one_in(4) {
         maker.settle(random);
@@ -238,7 +241,7 @@ fn leaving(random: &mut Random, maker: &mut Maker) {
             }
         }
     }
-    [[COUNT_DOWN, 0], [STEP, 0]].into_iter().for_each(|call| maker.make(call));
+    maker.make_all(&[[COUNT_DOWN, 0], [STEP, 0]]);
     // those who hand over, those whom they hand to, and any
     for _ in 0..random.below(6 * maker.parties()) {
         let hands = |party: &u8| matches!(maker.phase(*party), Phase::Carrying | Phase::Handing);
@@ -288,16 +291,15 @@ pub fn million() -> Schedule {
     maker.wait(1);
     for _ in 0..254 {
         maker.wait(2);
-        [[GIVE_UP, 2], [STEP, 2], [STEP, 2]].into_iter().for_each(|call| maker.make(call));
+        maker.make_all(&[[GIVE_UP, 2], [STEP, 2], [STEP, 2]]);
     }
-    [[COUNT_DOWN, 0], [STEP, 0]].into_iter().for_each(|call| maker.make(call));
+    maker.make_all(&[[COUNT_DOWN, 0], [STEP, 0]]);
     while maker.story.begun < 999_999 {
-        [[AWAIT, 3], [STEP, 3]].into_iter().for_each(|call| maker.make(call));
+        maker.make_all(&[[AWAIT, 3], [STEP, 3]]);
     }
-    let last =
-        [[AWAIT, 3], [AWAIT, 4], [AWAIT, 3], [STEP, 3], [AWAIT, 4], [AWAIT, 3], [COUNT_DOWN, 4]];
-    last.into_iter().for_each(|call| maker.make(call));
+    maker.make_all(&[[AWAIT, 3], [AWAIT, 4], [AWAIT, 3], [STEP, 3]]);
+    maker.make_all(&[[AWAIT, 4], [AWAIT, 3], [COUNT_DOWN, 4]]);
     maker.settle(&mut Random::seeded(1));
-    [[AWAIT, 1], [COUNT_DOWN, 1], [STEP, 1]].into_iter().for_each(|call| maker.make(call));
+    maker.make_all(&[[AWAIT, 1], [COUNT_DOWN, 1], [STEP, 1]]);
     Schedule { count: 1, parties: 5, calls: maker.calls }
 }
