@@ -104,8 +104,9 @@ impl Rows {
                 }
             }
         }
-        let least = listed.iter().map(|row| self.0.get(row).copied().unwrap_or_default()).min();
-        println!("calls in phases: {} listed, each met at least {least:?} times", listed.len());
+        let met = listed.iter().map(|row| self.0.get(row).copied().unwrap_or_default());
+        let least = met.min().unwrap_or_default();
+        println!("calls in phases: {} listed, each met at least {least} times", listed.len());
         let show = |what: &str, row: &Row| {
             println!("  {what}: call {:02X}, {}{}: {:02X}", row.0, row.1, row.2, row.3);
         };
