@@ -12,13 +12,12 @@ use latch::moves::LatchSight;
 use latch::record::Latch;
 use latchdecide::calls::decide_by;
 use latchmove::room::full_for;
-use latchmove::sight::phase_only;
+use latchmove::sight::by_ticket;
+use latchmove::sight::seat_index;
 use latchmove::sight::slot_within;
 use line::answer::plain;
 use line::answer::print_of;
 use line::answer::put;
-use transition::sight::by_ticket;
-use transition::sight::seat_index;
 use transition::sight::waiter_at;
 use transition::tidy::can_retire;
 use transition::tidy::can_skip;
@@ -73,10 +72,9 @@ pub fn answer_calls(latch: Latch, calls: &[u8], count: usize, out: &mut [u8]) ->
         }
         let own = party as usize;
         let slot = slots[own];
-        let stands = phase_only(slot);
-        let t = seat_index(stands);
+        let t = seat_index(slot);
         let there = places[t];
-        let seat = by_ticket(stands, there, empty_seat());
+        let seat = by_ticket(slot, there, empty_seat());
         let q = waiter_at(seat);
         let near = slots[(q % 32) as usize];
         let waiter = slot_within(q, near);
@@ -102,7 +100,7 @@ pub fn answer_calls(latch: Latch, calls: &[u8], count: usize, out: &mut [u8]) ->
         let becomes = e.slot;
         slots[own] = becomes;
         let left = e.seat;
-        places[t] = by_ticket(stands, left, there);
+        places[t] = by_ticket(slot, left, there);
         let answer = e.answer;
         put(&mut out[at..end], party, print_of(answer));
         // mostly there is nothing to tidy

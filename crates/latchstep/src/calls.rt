@@ -13,10 +13,9 @@ use latch::record::Latch;
 use latch::record::LatchOutcome;
 use latchfit::fits;
 use latchmove::effect::decide;
-use latchmove::sight::phase_only;
+use latchmove::sight::by_ticket;
+use latchmove::sight::seat_index;
 use latchmove::sight::slot_within;
-use transition::sight::by_ticket;
-use transition::sight::seat_index;
 use transition::sight::waiter_at;
 use transition::tidy::is_untidy;
 ghost use mathlib.Core.Path.{_≡_};
@@ -43,10 +42,9 @@ pub fn call(mut latch: Latch, op: LatchOp, party: u8) -> LatchOutcome
     }
     let p = party as usize;
     let slot = latch.slots[p];
-    let own = phase_only(slot);
-    let t = seat_index(own);
+    let t = seat_index(slot);
     let there = latch.places[t];
-    let seat = by_ticket(own, there, empty_seat());
+    let seat = by_ticket(slot, there, empty_seat());
     let q = waiter_at(seat);
     let w = (q % 32) as usize;
     let near = latch.slots[w];
@@ -71,7 +69,7 @@ pub fn call(mut latch: Latch, op: LatchOp, party: u8) -> LatchOutcome
     let becomes = e.slot;
     latch.slots[p] = becomes;
     let put = e.seat;
-    latch.places[t] = by_ticket(own, put, there);
+    latch.places[t] = by_ticket(slot, put, there);
     let after = e.figures;
     latch.figures = after;
     let answer = e.answer;

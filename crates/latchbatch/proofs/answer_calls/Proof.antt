@@ -9,12 +9,10 @@ use mathlib.Core.Logic.{⊎-elim}
 use native.Mathlib.Omega.{arith}
 use Prim.Native.Nat.{ℕ, _+_, _-_, _*_, _%_, _≤_, _<_}
 use lib.ListN.{length, getD, set, length-map}
-use Rattle.hub.specs.declared.record.PartySlot.{PartySlot}
 use Rattle.hub.specs.declared.record.PlaceSlot.{PlaceSlot}
 use Rattle.hub.specs.Answers.{Printed, printed}
 use Rattle.hub.specs.Kinds.{kindOf}
-use Rattle.hub.specs.Phases.{byTicket, ticketOf}
-use Rattle.hub.specs.Record.{emptySeat}
+use Rattle.hub.specs.Phases.{ticketOf}
 use Rattle.hub.specs.Ring.{PLACES, Ring, readSeat, writeSeat, skip, retire}
 use Rattle.line.specs.Frame.{frameOf, paper}
 use Rattle.transition.proofs.Laws.Loops.{tidy, Skipping, skipping, can-skip, in-window, skipping-on}
@@ -100,7 +98,7 @@ abbrev turning : At tie.Else1 → At tie.In-loop
 turning c = c .before .before .before
 
 abbrev entered : At tie.After-slot-within → At tie.Else1
-entered c = c .before .before .before .before .before .before .before .before .before
+entered c = c .before .before .before .before .before .before .before .before
 
 abbrev seen : At tie.After-decide-by → At tie.After-slot-within
 seen c = c .before .before .before
@@ -179,25 +177,17 @@ index : (c : At tie.After-slot-within)
     → let h = head (entered c) in
     ticketAt c ≡ ticketOf (readSlot (h .loop .slots) (party h) .phase) % PLACES
 unfolding readSlot
-index c =
-    let i = c .before .before .before .before .before .before in
-    i .seat-index .ensures
-    ∙ ap (λ (x : PartySlot). ticketOf (x .phase) % PLACES) (i .before .phase-only .ensures)
+index c = c .before .before .before .before .before .before .seat-index .ensures
 
 reading : (c : At tie.After-slot-within)
     → Reads (latch (head (entered c))) (party (head (entered c))) (seat c)
     (c .before .before .waiter-at .result) (waiter c)
 unfolding readSlot
 reading c =
-    let h = latch (head (entered c)) in
     let b = c .before .before .before in
-    reads h (party (head (entered c))) (ticketAt c) (index c) _ _ _ _
+    reads (latch (head (entered c))) (party (head (entered c))) (ticketAt c) (index c) _ _ _ _
     (head (entered c) .loop .inv .1)
-    (b .before .empty-seat .ensures)
-    (b .by-ticket .ensures
-    ∙ ap (λ (x : PartySlot).
-    byTicket (b .before .empty-seat .result) (λ t. getD (h .places) (ticketAt c) emptySeat) (x .phase))
-    (b .before .before .before .before .phase-only .ensures))
+    (b .before .empty-seat .ensures) (b .by-ticket .ensures)
     (c .before .before .waiter-at .ensures) (c .slot-within .ensures)
 
 -- The effect is that of the call.
@@ -283,14 +273,9 @@ unfolding readSlot
 leaves s u e =
     let d = effected s in
     let h = head (within s) in
-    let b = seen d .before .before .before in
     e
     ∙ ap (tidiedBy (effect s .turns))
-    (stores (latch h) (party h) _ (index (seen d)) (effect s) _ _
-    (placed s .by-ticket2 .ensures
-    ∙ ap (λ (x : PartySlot).
-    byTicket (getD (h .loop .places) (ticketAt (seen d)) emptySeat) (λ t. effect s .seat) (x .phase))
-    (b .before .before .before .before .phase-only .ensures))
+    (stores (latch h) (party h) _ (index (seen d)) (effect s) _ _ (placed s .by-ticket2 .ensures)
     (woken-slots s))
     ∙ left _ _ _ _ _ (reading (seen d)) (op h) (effect s) (effect-is d)
 
@@ -410,9 +395,6 @@ mul-slot c = omega (arith, own-slot c)
 
 array-copy-out-slot : At tie.Need-array-copy-out-slot
 array-copy-out-slot c = omega (arith, own-slot c)
-
-phase-only-requires : At tie.Need-phase-only-requires
-phase-only-requires c κs = search needs
 
 seat-index-requires : At tie.Need-seat-index-requires
 seat-index-requires c κs = search needs
@@ -718,7 +700,6 @@ answer-calls-spec =
     cast-own
     mul-slot
     array-copy-out-slot
-    phase-only-requires
     seat-index-requires
     mul-there
     array-copy-out-there

@@ -1,13 +1,17 @@
 -- What is stored of an effect, and then tidied, is what the move applied leaves.
-use Prim.Native.Nat.{ℕ, _≤_}
+use Prim.Native.Nat.{ℕ, _%_, _≤_}
 use mathlib.Core.Path.{_≡_, refl, sym, ap, ap₂, _∙_}
+use mathlib.Core.Bool.{Bool, true, false, cond}
 use mathlib.Core.List.{List}
 use native.Mathlib.Omega.{arith}
 use lib.ListN.{length, length-set}
 use lib.Seq.{set-getD, set-out}
+use Rattle.hub.specs.declared.record.Phase.{Phase}
 use Rattle.hub.specs.declared.record.PlaceSlot.{PlaceSlot}
-use Rattle.hub.specs.Record.{PARTIES}
-use Rattle.hub.specs.Ring.{PLACES}
+use Rattle.hub.specs.Phases.{byTicket, ticketOf}
+use Rattle.hub.specs.Record.{PARTIES, emptySeat}
+use Rattle.hub.specs.Ring.{PLACES, readSeat, writeSeat}
+use Rattle.hub.proofs.Laws.Phases.{by-ticket, ticketed}
 use Rattle.latch.specs.declared.moves.LatchSight.{LatchSight}
 use Rattle.latch.specs.declared.record.Latch.{Latch}
 use Rattle.latch.specs.declared.record.LatchFigures.{LatchFigures}
@@ -19,10 +23,13 @@ use Rattle.latch.specs.Record.{freeSlot, readSlot, writeSlot}
 use Rattle.latchtable.specs.declared.effect.LatchEffect.{LatchEffect}
 use Rattle.latchtable.specs.Effect.{effectOf}
 use Rattle.transition.proofs.Laws.Loops.{reclaimed-none}
-use Rattle.transition.proofs.Laws.Stored.{putBack, put-is, put-same}
 use Rattle.latchmove.specs.Tidied.{tidiedBy}
 
 -- Storing what was there changes nothing, nor does storing past the end.
+same-seat : (l : List PlaceSlot) (t : ℕ) → writeSeat l t (readSeat l t) ≡ l
+unfolding writeSeat readSeat
+same-seat l t = set-getD l (t % PLACES) emptySeat
+
 same-slot : (l : List LatchSlot) (p : ℕ) → writeSlot l p (readSlot l p) ≡ l
 unfolding writeSlot readSlot
 same-slot l p = set-getD l p freeSlot
@@ -36,6 +43,39 @@ pub still : (l k : List LatchSlot) (q p : ℕ) (x y : LatchSlot) → k ≡ write
     → length (writeSlot k p y) ≡ length l
 unfolding writeSlot
 still l k q p x y e = length-set k p y ∙ ap length e ∙ length-set l q x
+
+-- The places, with a put where the phase has a ticket, and what was there put back where not.
+abbrev pub putBack : List PlaceSlot → Phase → PlaceSlot → List PlaceSlot
+putBack l x a = writeSeat l (ticketOf x) (byTicket (readSeat l (ticketOf x)) (λ t. a) x)
+
+put-is : (l : List PlaceSlot) (x : Phase) (a : PlaceSlot)
+    → putBack l x a ≡ byTicket l (λ t. writeSeat l t a) x
+put-is l x a =
+    ap (writeSeat l (ticketOf x)) (by-ticket (readSeat l (ticketOf x)) (λ t. a) x)
+    ∙ go (ticketed x) ∙ sym (by-ticket l (λ t. writeSeat l t a) x)
+  where
+    go : (b : Bool)
+        → writeSeat l (ticketOf x) (cond b a (readSeat l (ticketOf x)))
+        ≡ cond b (writeSeat l (ticketOf x) a) l
+    go true = refl
+    go false = same-seat l (ticketOf x)
+
+-- What a phase sees of its place, put there again.
+put-same : (l : List PlaceSlot) (x : Phase) → putBack l x (byTicket emptySeat (readSeat l) x) ≡ l
+put-same l x =
+    ap (λ (a : PlaceSlot). writeSeat l (ticketOf x) (byTicket (readSeat l (ticketOf x)) (λ t. a) x))
+    (by-ticket emptySeat (readSeat l) x)
+    ∙ ap (writeSeat l (ticketOf x))
+    (by-ticket (readSeat l (ticketOf x))
+    (λ t. cond (ticketed x) (readSeat l (ticketOf x)) emptySeat) x)
+    ∙ go (ticketed x)
+  where
+    go : (b : Bool)
+        → writeSeat l (ticketOf x)
+        (cond b (cond b (readSeat l (ticketOf x)) emptySeat) (readSeat l (ticketOf x)))
+        ≡ l
+    go true = same-seat l (ticketOf x)
+    go false = same-seat l (ticketOf x)
 
 -- An effect gives the tidying at most 256 turns.
 turns-few : (m : Move) (s : LatchSight) → effectOf m s .turns ≤ 256

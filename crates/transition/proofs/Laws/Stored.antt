@@ -49,7 +49,7 @@ still l k q p x y e = length-set k p y ∙ ap length e ∙ length-set l q x
 abbrev pub putBack : List PlaceSlot → Phase → PlaceSlot → List PlaceSlot
 putBack l x a = writeSeat l (ticketOf x) (byTicket (readSeat l (ticketOf x)) (λ t. a) x)
 
-pub put-is : (l : List PlaceSlot) (x : Phase) (a : PlaceSlot)
+put-is : (l : List PlaceSlot) (x : Phase) (a : PlaceSlot)
     → putBack l x a ≡ byTicket l (λ t. writeSeat l t a) x
 put-is l x a =
     ap (writeSeat l (ticketOf x)) (by-ticket (readSeat l (ticketOf x)) (λ t. a) x)
@@ -62,7 +62,7 @@ put-is l x a =
     go false = same-seat l (ticketOf x)
 
 -- What a phase sees of its place, put there again.
-pub put-same : (l : List PlaceSlot) (x : Phase) → putBack l x (byTicket emptySeat (readSeat l) x) ≡ l
+put-same : (l : List PlaceSlot) (x : Phase) → putBack l x (byTicket emptySeat (readSeat l) x) ≡ l
 put-same l x =
     ap (λ (a : PlaceSlot). writeSeat l (ticketOf x) (byTicket (readSeat l (ticketOf x)) (λ t. a) x))
     (by-ticket emptySeat (readSeat l) x)

@@ -1,8 +1,9 @@
 -- `cancel_to` meets its contract: its test of the kind is that of the definition.
 use borrow.Author.Needs.{needs}
 use borrow.Author.Tests.{eq-eqb, ne-eqb}
-use mathlib.Core.Path.{_≡_}
+use mathlib.Core.Path.{refl}
 use Rattle.latch.specs.Table.{cancel}
+use Rattle.latchtable.proofs.Laws.Changes.{acts}
 use Rattle.latchdecide.proofs.others.cancel_to.Statement.{statement}
 use Rattle.latchdecide.proofs.others.cancel_to.Tie as tie
 
@@ -22,7 +23,8 @@ turned-requires c κs = search needs
 returns-2 : tie.Need-returns-2
 unfolding cancel
 returns-2 c =
-    rw (ne-eqb _ _ (c .before .before .before .if1 .left)) (cc (c .turned .ensures, c .before .with-phase .ensures))
+    rw (ne-eqb _ _ (c .before .before .before .if1 .left))
+    (acts (c .before .before .before .before .args .s) _ (c .turned .ensures) (c .before .with-phase .ensures) refl)
 
 pub cancel-to-spec : {M : Type 1} → statement M
 cancel-to-spec =

@@ -1,7 +1,7 @@
 -- `decide_await` meets its contract: its tests, in order, are those of the definition.
 use borrow.Author.Needs.{needs}
 use borrow.Author.Tests.{le-leb, lt-leb}
-use mathlib.Core.Path.{_≡_, refl, sym, ap, _∙_}
+use mathlib.Core.Path.{refl, sym, ap, _∙_}
 use mathlib.Core.List.{[], _∷_}
 use native.Mathlib.Omega.{arith}
 use Rattle.hub.proofs.Laws.Phases.{allBut, phase-arm}
@@ -11,6 +11,7 @@ use Rattle.latch.specs.Moves.{Move}
 use Rattle.latch.specs.Table.{await, decide}
 use Rattle.latchtable.specs.Effect.{effectOf}
 use Rattle.latchdecide.proofs.Laws.Others.{exhausted, full-up}
+use Rattle.latchtable.proofs.Laws.Changes.{acts}
 use Rattle.latchdecide.proofs.others.decide_await.Statement.{statement}
 use Rattle.latchdecide.proofs.others.decide_await.Tie as tie
 
@@ -72,7 +73,7 @@ returns-4 c =
     let s = b .before .before .before .args .s in
     let e = b .enum-told .given .1 in
     rw (e, lt-leb MAX-BEGUN (s .figures .begun) (omega arith), c .before .before .before .if2 .left)
-    (cc (c .acted .ensures, c .before .in-phase .ensures, c .before .before .with-begun .ensures))
+    (acts s _ (c .acted .ensures) (c .before .in-phase .ensures) (c .before .before .with-begun .ensures))
 
 pub decide-await-spec : {M : Type 1} → statement M
 decide-await-spec =

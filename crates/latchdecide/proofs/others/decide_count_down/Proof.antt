@@ -1,10 +1,11 @@
 -- `decide_count_down` meets its contract: its test is that of the definition.
 use borrow.Author.Needs.{needs}
-use mathlib.Core.Path.{_≡_, refl, sym}
+use mathlib.Core.Path.{refl, sym}
 use mathlib.Core.List.{[], _∷_}
 use Rattle.hub.proofs.Laws.Phases.{allBut, phase-arm}
 use Rattle.hub.specs.Phases.{isFree, isOneOf}
 use Rattle.latch.specs.Table.{countDown, decide}
+use Rattle.latchtable.proofs.Laws.Changes.{acts}
 use Rattle.latchdecide.proofs.others.decide_count_down.Statement.{statement}
 use Rattle.latchdecide.proofs.others.decide_count_down.Tie as tie
 
@@ -31,7 +32,7 @@ returns-2 : tie.Need-returns-2
 unfolding decide countDown isOneOf
 returns-2 c =
     let e = c .before .before .enum-told .given .1 in
-    rw e (cc (c .turned .ensures, c .before .in-phase .ensures))
+    rw e (acts (c .before .before .before .before .before .args .s) _ (c .turned .ensures) (c .before .in-phase .ensures) refl)
 
 pub decide-count-down-spec : {M : Type 1} → statement M
 decide-count-down-spec =

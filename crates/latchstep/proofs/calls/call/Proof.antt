@@ -6,11 +6,9 @@ use mathlib.Core.Bool.{Bool, true, false}
 use mathlib.Core.Logic.{⊎-elim}
 use native.Mathlib.Omega.{arith}
 use Prim.Native.Nat.{ℕ, _<_, _%_, _≤_}
-use lib.ListN.{length, getD, set}
-use Rattle.hub.specs.declared.record.PartySlot.{PartySlot}
+use lib.ListN.{length, set}
 use Rattle.hub.specs.declared.record.PlaceSlot.{PlaceSlot}
-use Rattle.hub.specs.Phases.{byTicket, ticketOf}
-use Rattle.hub.specs.Record.{emptySeat}
+use Rattle.hub.specs.Phases.{ticketOf}
 use Rattle.hub.specs.Ring.{PLACES, readSeat}
 use Rattle.fit.proofs.Laws.Clauses.{mapped-size}
 use Rattle.transition.proofs.Laws.Loops.{tidy}
@@ -43,7 +41,7 @@ size c = search mapped-size
 
 -- The way back along the code; only these know how many steps lie between.
 abbrev tested : tie.After-slot-within → tie.Else2
-tested c = c .before .before .before .before .before .before .before .before .before
+tested c = c .before .before .before .before .before .before .before .before
 
 abbrev seen : tie.After-kind → tie.After-slot-within
 seen c = c .before .before
@@ -87,23 +85,16 @@ at c = seen c .before .before .before .before .before .before .seat-index .resul
 index : (c : tie.After-kind)
     → at c ≡ ticketOf (readSlot (latch (start c) .slots) (party (start c)) .phase) % PLACES
 unfolding readSlot
-index c =
-    let i = seen c .before .before .before .before .before .before in
-    i .seat-index .ensures
-    ∙ ap (λ (x : PartySlot). ticketOf (x .phase) % PLACES) (i .before .phase-only .ensures)
+index c = seen c .before .before .before .before .before .before .seat-index .ensures
 
 reading : (c : tie.After-kind)
     → Reads (latch (start c)) (party (start c)) (seat c) (seen c .before .before .waiter-at .result)
     (waiter c)
 unfolding readSlot
 reading c =
-    let h = latch (start c) in
     let b = seen c .before .before .before in
-    reads h (party (start c)) (at c) (index c) _ _ _ _ (size (start c))
-    (b .before .empty-seat .ensures)
-    (b .by-ticket .ensures
-    ∙ ap (λ (x : PartySlot). byTicket (b .before .empty-seat .result) (λ t. getD (h .places) (at c) emptySeat) (x .phase))
-    (b .before .before .before .before .phase-only .ensures))
+    reads (latch (start c)) (party (start c)) (at c) (index c) _ _ _ _ (size (start c))
+    (b .before .empty-seat .ensures) (b .by-ticket .ensures)
     (seen c .before .before .waiter-at .ensures) (seen c .slot-within .ensures)
 
 -- The effect is that of the call.
@@ -158,16 +149,10 @@ unfolding readSlot
 is-stored c =
     let d = decided c in
     let k = kinded d in
-    let h = latch (begin d) in
     let e = d .decide .result in
-    let b = seen k .before .before .before in
     ap (λ (g : Latch). made g (e .figures) (set (g .places) (at k) (c .by-ticket2 .result))
     (writeSlot (g .slots) (party (begin d)) (e .slot))) (slots-set (c .before .before .before))
-    ∙ stores h (party (begin d)) (at k) (index k) e _ _
-    (c .by-ticket2 .ensures
-    ∙ ap (λ (x : PartySlot). byTicket (getD (h .places) (at k) emptySeat) (λ t. e .seat) (x .phase))
-    (b .before .before .before .before .phase-only .ensures))
-    refl
+    ∙ stores (latch (begin d)) (party (begin d)) (at k) (index k) e _ _ (c .by-ticket2 .ensures) refl
 
 -- Tidied, it is what the call leaves.
 leaves : (c : tie.After-by-ticket2) (g : Latch)
@@ -198,9 +183,6 @@ mul-slot c = search needs
 
 element-copy-out-slot : tie.Need-element-copy-out-slot
 element-copy-out-slot c = within-slots c
-
-phase-only-requires : tie.Need-phase-only-requires
-phase-only-requires c κs = search needs
 
 seat-index-requires : tie.Need-seat-index-requires
 seat-index-requires c κs = search needs
@@ -320,7 +302,6 @@ call-spec =
     returns-2
     mul-slot
     element-copy-out-slot
-    phase-only-requires
     seat-index-requires
     mul-there
     element-copy-out-there

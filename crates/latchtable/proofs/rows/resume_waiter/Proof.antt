@@ -5,6 +5,7 @@ use mathlib.Core.List.{[], _∷_}
 use Rattle.hub.proofs.Laws.Phases.{allBut, phase-arm}
 use Rattle.hub.specs.Phases.{isOneOf, isWaiting}
 use Rattle.latch.specs.Table.{resumeWaiter}
+use Rattle.latchtable.proofs.Laws.Changes.{puts, wakes}
 use Rattle.latchtable.proofs.rows.resume_waiter.Statement.{statement}
 use Rattle.latchtable.proofs.rows.resume_waiter.Tie as tie
 
@@ -20,9 +21,9 @@ placed-requires c κs = search needs
 returns : tie.Need-returns
 unfolding resumeWaiter isOneOf
 returns c =
-    let f = c .before .before .before .before .args .s .waiter .phase in
-    let e = sym (phase-arm (allBut (2 ∷ [])) isWaiting f refl (c .before .before .match .keys2)) in
-    rw e (cc (c .placed .ensures, c .before .used-one .ensures))
+    let s = c .before .before .before .before .args .s in
+    let e = sym (phase-arm (allBut (2 ∷ [])) isWaiting (s .waiter .phase) refl (c .before .before .match .keys2)) in
+    rw e (puts s _ (c .placed .ensures) refl (c .before .used-one .ensures))
 
 used-one-requires-2 : tie.Need-used-one-requires-2
 used-one-requires-2 c κs = search needs
@@ -34,7 +35,7 @@ returns-2 : tie.Need-returns-2
 unfolding resumeWaiter isOneOf
 returns-2 c =
     let e = c .before .before .enum-told .given .1 in
-    rw e (cc (c .woke .ensures, c .before .used-one2 .ensures))
+    rw e (wakes (c .before .before .before .before .before .args .s) _ _ (c .woke .ensures) (c .before .used-one2 .ensures))
 
 pub resume-waiter-spec : {M : Type 1} → statement M
 resume-waiter-spec =

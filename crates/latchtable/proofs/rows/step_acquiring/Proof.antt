@@ -1,8 +1,9 @@
 -- `step_acquiring` meets its contract: the mark, then whether it raises, pick the row.
 use borrow.Author.Needs.{needs}
 use borrow.Author.Tests.{eq-eqb, ne-eqb, not-true, not-false}
-use mathlib.Core.Path.{_≡_}
+use mathlib.Core.Path.{refl}
 use Rattle.latch.specs.Table.{stepAcquiring}
+use Rattle.latchtable.proofs.Laws.Changes.{acts}
 use Rattle.latchtable.proofs.rows.step_acquiring.Statement.{statement}
 use Rattle.latchtable.proofs.rows.step_acquiring.Tie as tie
 
@@ -15,7 +16,8 @@ turned-requires c κs = search needs
 returns : tie.Need-returns
 unfolding stepAcquiring
 returns c =
-    rw (eq-eqb _ _ (c .before .before .if1 .taken)) (cc (c .turned .ensures, c .before .free-slot .ensures))
+    let s = c .before .before .before .before .before .args .s in
+    rw (eq-eqb _ _ (c .before .before .if1 .taken)) (acts s _ (c .turned .ensures) (c .before .free-slot .ensures) refl)
 
 to-raise-requires : tie.Need-to-raise-requires
 to-raise-requires c κs = search needs
@@ -28,7 +30,7 @@ unfolding stepAcquiring
 returns-2 c =
     let s = c .before .before .before .before .before .before .before .args .s in
     rw (ne-eqb _ _ (c .before .before .before .before .if1 .left), not-true (s .slot .raising) (c .before .before .if2 .taken))
-    (cc (c .turned2 .ensures, c .before .to-raise .ensures))
+    (acts s _ (c .turned2 .ensures) (c .before .to-raise .ensures) refl)
 
 add-with-waiters : tie.Need-add-with-waiters
 add-with-waiters c = search needs
@@ -47,7 +49,7 @@ unfolding stepAcquiring
 returns-3 c =
     let s = c .before .before .before .before .before .before .before .before .before .args .s in
     rw (ne-eqb _ _ (c .before .before .before .before .before .before .if1 .left), not-false (s .slot .raising) (c .before .before .before .before .if2 .left))
-    (cc (c .acted .ensures, c .before .in-phase .ensures, c .before .before .with-waiters .ensures))
+    (acts s _ (c .acted .ensures) (c .before .in-phase .ensures) (c .before .before .with-waiters .ensures))
 
 pub step-acquiring-spec : {M : Type 1} → statement M
 step-acquiring-spec =

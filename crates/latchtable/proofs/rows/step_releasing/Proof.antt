@@ -1,7 +1,9 @@
 -- `step_releasing` meets its contract: whether the count comes to 0 with waiters picks the row.
 use borrow.Author.Needs.{needs}
-use mathlib.Core.Path.{_≡_, sym, _∙_}
-use Rattle.latch.specs.Table.{stepIn, stepReleasing}
+use mathlib.Core.Path.{sym, ap, _∙_}
+use Rattle.latch.specs.Table.{stepIn, stepReleasing, withCount}
+use Prim.Native.Nat.{ℕ}
+use Rattle.latchtable.proofs.Laws.Changes.{acts}
 use Rattle.latchtable.proofs.rows.step_releasing.Statement.{statement}
 use Rattle.latchtable.proofs.rows.step_releasing.Tie as tie
 
@@ -20,8 +22,9 @@ acted-requires c κs = search needs
 returns : tie.Need-returns
 unfolding stepIn stepReleasing
 returns c =
+    let s = c .before .before .before .before .before .before .args .s in
     let e = sym (c .before .before .before .before .brings-to-zero .ensures) ∙ c .before .before .before .if1 .taken in
-    rw e (cc (c .acted .ensures, c .before .with-count .ensures, c .before .before .with-left .ensures))
+    rw e (acts s _ (c .acted .ensures) (c .before .before .with-left .ensures) (c .before .with-count .ensures))
 
 less-one-requires : tie.Need-less-one-requires
 less-one-requires c κs = search needs
@@ -38,14 +41,12 @@ acted-requires-2 c κs = search needs
 returns-2 : tie.Need-returns-2
 unfolding stepIn stepReleasing
 returns-2 c =
+    let s = c .before .before .before .before .before .before .before .args .s in
     let e = sym (c .before .before .before .before .before .brings-to-zero .ensures) ∙ c .before .before .before .before .if1 .left in
     rw e
-    (cc (
-      c .acted2 .ensures,
-      c .before .free-slot .ensures,
-      c .before .before .with-count2 .ensures,
-      c .before .before .before .less-one .ensures,
-    ))
+    (acts s _ (c .acted2 .ensures) (c .before .free-slot .ensures)
+    (c .before .before .with-count2 .ensures
+    ∙ ap (λ (n : ℕ). withCount n (s .figures)) (c .before .before .before .less-one .ensures)))
 
 pub step-releasing-spec : {M : Type 1} → statement M
 step-releasing-spec =

@@ -2,6 +2,7 @@
 use borrow.Author.Needs.{needs}
 use mathlib.Core.Path.{_≡_}
 use Rattle.latch.specs.Table.{stepIn, stepResuming}
+use Rattle.latchtable.proofs.Laws.Changes.{acts}
 use Rattle.latchtable.proofs.rows.step_resuming.Statement.{statement}
 use Rattle.latchtable.proofs.rows.step_resuming.Tie as tie
 
@@ -19,7 +20,9 @@ acted-requires c κs = search needs
 
 returns : tie.Need-returns
 unfolding stepIn stepResuming
-returns c = cc (c .acted .ensures, c .before .with-left .ensures, c .before .before .with-resumed .ensures)
+returns c =
+    let s = c .before .before .before .before .args .s in
+    acts s _ (c .acted .ensures) (c .before .with-left .ensures) (c .before .before .with-resumed .ensures)
 
 pub step-resuming-spec : {M : Type 1} → statement M
 step-resuming-spec =

@@ -2,6 +2,7 @@
 use borrow.Author.Needs.{needs}
 use mathlib.Core.Path.{_≡_}
 use Rattle.latch.specs.Table.{stepIn, stepSuspending}
+use Rattle.latchtable.proofs.Laws.Changes.{acts}
 use Rattle.latchtable.proofs.rows.step_suspending_marked.Statement.{statement}
 use Rattle.latchtable.proofs.rows.step_suspending_marked.Tie as tie
 
@@ -19,7 +20,9 @@ acted-requires c κs = search needs
 
 returns : tie.Need-returns
 unfolding stepIn stepSuspending
-returns c = cc (c .acted .ensures, c .before .in-phase .ensures, c .before .before .with-issued .ensures)
+returns c =
+    let s = c .before .before .before .before .args .s in
+    acts s _ (c .acted .ensures) (c .before .in-phase .ensures) (c .before .before .with-issued .ensures)
 
 pub step-suspending-marked-spec : {M : Type 1} → statement M
 step-suspending-marked-spec =
