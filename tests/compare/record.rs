@@ -134,7 +134,7 @@ impl Place {
         Place { state: State::Waiting, party }
     }
 
-    fn read(bytes: &[u8]) -> Self {
+    pub fn read(bytes: &[u8]) -> Self {
         match STATES[usize::from(bytes[0] % 6)] {
             State::Waiting => Place::waiting(number(&bytes[1..])),
             state => Place::of(state),
@@ -222,7 +222,11 @@ pub enum Keeper {
 }
 
 /// The elements that differ from another array's. Equal ones side by side are shown as one.
-fn runs<T: Copy + PartialEq + fmt::Display>(name: &str, ours: &[T], theirs: &[T]) -> Vec<String> {
+pub fn runs<T: Copy + PartialEq + fmt::Display>(
+    name: &str,
+    ours: &[T],
+    theirs: &[T],
+) -> Vec<String> {
     let mut runs: Vec<(usize, usize, T)> = Vec::new();
     for (at, &value) in ours.iter().enumerate().filter(|&(at, value)| *value != theirs[at]) {
         match runs.last_mut() {
@@ -241,7 +245,7 @@ fn runs<T: Copy + PartialEq + fmt::Display>(name: &str, ours: &[T], theirs: &[T]
 }
 
 /// The number that the first four bytes make.
-fn number(bytes: &[u8]) -> u32 {
+pub fn number(bytes: &[u8]) -> u32 {
     u32::from_be_bytes([bytes[0], bytes[1], bytes[2], bytes[3]])
 }
 
