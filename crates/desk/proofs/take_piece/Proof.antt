@@ -46,7 +46,8 @@ part-feed-end c = search needs
 
 feed-requires : tie.Need-feed-requires
 feed-requires c κs =
-    let s = c .before .before .before .before .before .before .before .before .before .before .before .before .before in
+    let s = c .before .before .before .before .before .before .before .before .before .before .before
+    .before .before in
     let read = c .before .before .before .before .before .before .before .before .before .read .last .1 .0 in
     let n = c .before .before .before .count .result - 0 in
     let size : length read ≡ length (s .args .piece .now) = search needs in
@@ -65,8 +66,11 @@ same-length-4 c = search needs
 
 returns-3 : tie.Need-returns-3
 returns-3 c =
-    let s = c .before .before .before .before .before .before .before .before .before .before .before .before .before .before .before .before .before .before .before in
-    subst (λ (r : Fed). Sound (r .session)) (sym (c .before .before .before .before .before .feed .ensures .0))
+    let p1 = c .before .before .before .before .before in
+    let p2 = p1 .before .before .before .before .before .before .before .before .before .before .before
+    .before .before .before in
+    let s = p2 in
+    subst (λ (r : Fed). Sound (r .session)) (sym (p1 .feed .ensures .0))
     (fed-sound (s .args .session) _ (s .pre .0))
 
 pub take-piece-spec : {M : Type 1} → statement M

@@ -59,7 +59,13 @@ pub record Below (n : ℕ) (hs : List Bool) (p : ℕ) : Type 0 where
 pub below-start : (n : ℕ) (hs : List Bool) → length hs ≡ 32 → Below n hs n
 below-start n hs s =
     let e : 0 + n ≡ n = omega arith in
-    record { size = s; from = omega arith; rest = sym (ap (λ (p : ℕ). allPass (λ q. ltb q n) (holdersFrom p (drop n hs))) e) ∙ sym (below-skipped n n 0 hs (omega arith)) }
+    record {
+      size = s;
+      from = omega arith;
+      rest =
+          sym (ap (λ (p : ℕ). allPass (λ q. ltb q n) (holdersFrom p (drop n hs))) e)
+          ∙ sym (below-skipped n n 0 hs (omega arith));
+    }
 
 module _ (n : ℕ) (hs : List Bool) (p : ℕ) (b : Below n hs p) (h : p < 32) where
   pub below-found : getD hs p false ≡ true → false ≡ allPass (λ q. ltb q n) (holdersFrom 0 hs)

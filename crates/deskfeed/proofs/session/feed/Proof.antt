@@ -21,7 +21,9 @@ abbrev μ-loop : tie.MeasureT-loop
 μ-loop piece out₀ line₀ text₀ len₀ at₀ i₀ out line text len at i = length piece - i
 
 loop-holds : tie.Need-loop-holds Inv-loop μ-loop
-loop-holds c = start (c .before .before .before .before .before .args .session) _ _ (c .before .before .before .before .before .pre .0) (c .before .before .before .before .before .pre .1)
+loop-holds c =
+    let p1 = c .before .before .before .before .before in
+    start (p1 .args .session) _ _ (p1 .pre .0) (p1 .pre .1)
 
 shared-slice-read-c : tie.Need-shared-slice-read-c Inv-loop μ-loop
 shared-slice-read-c c = search needs
@@ -34,7 +36,8 @@ loop-less c = search needs
 
 loop-again : tie.Need-loop-again Inv-loop μ-loop
 loop-again c =
-    char-lost (c .before .before .before .before .loop .inv) (c .before .before .before .loop-test .taken) (c .before .if1 .taken) (omega arith)
+    char-lost (c .before .before .before .before .loop .inv) (c .before .before .before .loop-test .taken)
+    (c .before .if1 .taken) (omega arith)
 
 array-write-text : tie.Need-array-write-text Inv-loop μ-loop
 array-write-text c = search needs
@@ -47,7 +50,8 @@ loop-less-2 c = search needs
 
 loop-again-2 : tie.Need-loop-again-2 Inv-loop μ-loop
 loop-again-2 c =
-    char-kept (c .before .before .before .before .loop .inv) (c .before .before .before .loop-test .taken) (c .before .if1 .taken) (omega arith)
+    char-kept (c .before .before .before .before .loop .inv) (c .before .before .before .loop-test .taken)
+    (c .before .if1 .taken) (omega arith)
 
 sub-respond : tie.Need-sub-respond Inv-loop μ-loop
 sub-respond c = search needs
@@ -63,9 +67,12 @@ respond-requires c κs = search needs
 
 put-line-requires : tie.Need-put-line-requires Inv-loop μ-loop
 put-line-requires c κs =
-    let u = (c .before .before .before .before .before .before .before .loop .inv) in (
+    let p1 = c .before .before .before .before in
+    let p2 = p1 .before .before in
+    let p3 = p2 .before in
+    let u = (p3 .loop .inv) in (
       reply-printable _ _ _ (u .printed) (c .before .respond .ensures) .few,
-      line-room u (c .before .before .before .before .before .before .loop-test .taken) (c .before .before .before .before .if1 .left),
+      line-room u (p2 .loop-test .taken) (p1 .if1 .left),
     )
 
 loop-less-3 : tie.Need-loop-less-3 Inv-loop μ-loop
@@ -73,15 +80,22 @@ loop-less-3 c = search needs
 
 loop-again-3 : tie.Need-loop-again-3 Inv-loop μ-loop
 loop-again-3 c =
-    line-end (c .before .before .before .before .before .before .before .before .before .before .before .loop .inv) (c .before .before .before .before .before .before .before .before .before .before .loop-test .taken) (c .before .before .before .before .before .before .before .before .if1 .left) _
-    (c .before .before .before .before .before .respond .ensures ∙ ap (λ (x : List ℕ). respond (c .before .before .before .before .before .before .before .before .before .before .before .loop .line) (askedBy (requestOf x))) (whole (record { line = c .before .before .before .before .before .before .before .before .before .before .before .loop .text; len = c .before .before .before .before .before .before .before .before .before .before .before .loop .len }))) _ _
-    (c .before .before .before .put-line .ensures .0 .0) (c .before .before .before .put-line .ensures .0 .1) (c .before .before .before .put-line .ensures .1)
+    let p1 = c .before .before .before in
+    let p2 = p1 .before .before in
+    let p3 = p2 .before .before .before in
+    let p4 = p3 .before .before in
+    let p5 = p4 .before in
+    line-end (p5 .loop .inv) (p4 .loop-test .taken) (p3 .if1 .left) _
+    (p2 .respond .ensures ∙ ap (λ (x : List ℕ). respond (p5 .loop .line) (askedBy (requestOf x))) (whole
+    (record { line = p5 .loop .text; len = p5 .loop .len }))) _ _
+    (p1 .put-line .ensures .0 .0) (p1 .put-line .ensures .0 .1) (p1 .put-line .ensures .1)
 
 same-length : tie.Need-same-length Inv-loop μ-loop
 same-length c = search needs
 
 returns : tie.Need-returns Inv-loop μ-loop
-returns c = finished (c .before .before .before .before .before .before .before .args .session) _ _ (c .before .loop .inv) (c .loop-test .left)
+returns c = finished (c .before .before .before .before .before .before .before .args .session) _ _
+    (c .before .loop .inv) (c .loop-test .left)
 
 pub feed-spec : {M : Type 1} → statement M
 feed-spec =

@@ -19,7 +19,8 @@ same-length : tie.Need-same-length
 same-length c = search needs
 
 returns-2 : tie.Need-returns-2
-returns-2 c = one-told _ _ _ _ (c .before .before .before .before .before .if1 .left) (c .before .before .feed .ensures .0) (c .before .before .feed .ensures .1)
+returns-2 c = one-told _ _ _ _ (c .before .before .before .before .before .if1 .left)
+    (c .before .before .feed .ensures .0) (c .before .before .feed .ensures .1)
 
 pub finish-spec : {M : Type 1} → statement M
 finish-spec = tie.close (tie.spec returns slice-aggregate-feed feed-requires same-length returns-2)

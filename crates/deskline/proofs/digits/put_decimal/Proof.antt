@@ -22,7 +22,8 @@ returns c =
     gives
     (text-is ((λ i. c .before .before .before .digit-char .ensures i ∷ [])
     ∙ sym (one-digit _ (c .before .before .before .before .before .if1 .taken)))
-    (first (_ ∷ []) (c .before .before .put-char .ensures .0) (c .before .before .put-char .ensures .1) (omega arith)))
+    (first (_ ∷ []) (c .before .before .put-char .ensures .0) (c .before .before .put-char .ensures .1)
+    (omega arith)))
 
 digit-char-requires-2 : tie.Need-digit-char-requires-2
 digit-char-requires-2 c κs = search needs
@@ -42,9 +43,13 @@ same-length-2 c = search needs
 returns-2 : tie.Need-returns-2
 returns-2 c =
     gives
-    (text-is ((λ i. c .before .before .before .before .before .before .before .before .digit-char2 .ensures i ∷ c .before .before .before .digit-char3 .ensures i ∷ [])
-    ∙ sym (two-digits _ (c .before .before .before .before .before .before .before .before .before .before .before .if1 .left) (c .before .before .before .before .before .before .before .before .before .before .if2 .taken)))
-    (next (first (_ ∷ []) (c .before .before .before .before .before .before .before .put-char2 .ensures .0) (c .before .before .before .before .before .before .before .put-char2 .ensures .1) (omega arith))
+    (text-is ((λ i. c .before .before .before .before .before .before .before
+    .before .digit-char2 .ensures i ∷ c .before .before .before .digit-char3 .ensures i ∷ [])
+    ∙ sym (two-digits _
+    (c .before .before .before .before .before .before .before .before .before .before .before .if1 .left)
+    (c .before .before .before .before .before .before .before .before .before .before .if2 .taken)))
+    (next (first (_ ∷ []) (c .before .before .before .before .before .before .before .put-char2 .ensures .0)
+    (c .before .before .before .before .before .before .before .put-char2 .ensures .1) (omega arith))
     (_ ∷ []) (c .before .before .put-char3 .ensures .0) (c .before .before .put-char3 .ensures .1) (omega arith)))
 
 digit-char-requires-4 : tie.Need-digit-char-requires-4
@@ -71,10 +76,19 @@ same-length-3 c = search needs
 returns-3 : tie.Need-returns-3
 returns-3 c =
     gives
-    (text-is ((λ i. c .before .before .before .before .before .before .before .before .before .before .before .before .before .digit-char4 .ensures i ∷ c .before .before .before .before .before .before .before .before .digit-char5 .ensures i ∷ c .before .before .before .digit-char6 .ensures i ∷ [])
-    ∙ sym (three-digits _ (c .before .before .before .before .before .before .before .before .before .before .before .before .before .before .before .before .if1 .left) (c .before .before .before .before .before .before .before .before .before .before .before .before .before .before .before .if2 .left)))
-    (next (next (first (_ ∷ []) (c .before .before .before .before .before .before .before .before .before .before .before .before .put-char4 .ensures .0) (c .before .before .before .before .before .before .before .before .before .before .before .before .put-char4 .ensures .1) (omega arith))
-    (_ ∷ []) (c .before .before .before .before .before .before .before .put-char5 .ensures .0) (c .before .before .before .before .before .before .before .put-char5 .ensures .1) (omega arith))
+    (text-is ((λ i. c .before .before .before .before .before .before .before .before .before .before
+    .before .before .before .digit-char4 .ensures i ∷ c .before .before .before .before .before .before
+    .before .before .digit-char5 .ensures i ∷ c .before .before .before .digit-char6 .ensures i ∷ [])
+    ∙ sym (three-digits _
+    (c .before .before .before .before .before .before .before .before .before .before .before .before
+    .before .before .before .before .if1 .left) (c .before .before .before .before .before .before .before
+    .before .before .before .before .before .before .before .before .if2 .left)))
+    (next (next (first (_ ∷ [])
+    (c .before .before .before .before .before .before .before .before .before .before .before
+    .before .put-char4 .ensures .0) (c .before .before .before .before .before .before .before .before
+    .before .before .before .before .put-char4 .ensures .1) (omega arith))
+    (_ ∷ []) (c .before .before .before .before .before .before .before .put-char5 .ensures .0)
+    (c .before .before .before .before .before .before .before .put-char5 .ensures .1) (omega arith))
     (_ ∷ []) (c .before .before .put-char6 .ensures .0) (c .before .before .put-char6 .ensures .1) (omega arith)))
 
 pub put-decimal-spec : {M : Type 1} → statement M

@@ -24,8 +24,11 @@ same-length c = search needs
 returns : tie.Need-returns
 returns c =
     gives
-    (text-is (λ i. c .before .before .before .before .before .before .before .before .before .hex-char .ensures i ∷ c .before .before .before .before .before .before .before .before .hex-char2 .ensures i ∷ [])
-    (next (first (_ ∷ []) (c .before .before .before .before .before .before .put-char .ensures .0) (c .before .before .before .before .before .before .put-char .ensures .1) (omega arith))
+    (text-is (λ i. c .before .before .before .before .before .before .before .before
+    .before .hex-char .ensures i ∷ c .before .before .before .before .before .before .before
+    .before .hex-char2 .ensures i ∷ [])
+    (next (first (_ ∷ []) (c .before .before .before .before .before .before .put-char .ensures .0)
+    (c .before .before .before .before .before .before .put-char .ensures .1) (omega arith))
     (_ ∷ []) (c .before .before .put-char2 .ensures .0) (c .before .before .put-char2 .ensures .1) (omega arith)))
 
 pub put-hex-spec : {M : Type 1} → statement M

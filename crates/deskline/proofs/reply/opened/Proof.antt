@@ -15,7 +15,8 @@ told-requires : tie.Need-told-requires
 told-requires c κs = search needs
 
 returns : tie.Need-returns
-returns c = c .told .ensures ∙ opens _ _ _ (c .before .before .before .open-line .ensures .0) (c .before .before .print-of .ensures)
+returns c = c .told .ensures ∙ opens _ _ _ (c .before .before .before .open-line .ensures .0)
+    (c .before .before .print-of .ensures)
 
 pub opened-spec : {M : Type 1} → statement M
 opened-spec = tie.close (tie.spec open-line-requires print-of-requires told-requires returns)

@@ -13,7 +13,8 @@ told-requires : tie.Need-told-requires
 told-requires c κs = search needs
 
 returns : tie.Need-returns
-returns c = c .told .ensures ∙ sym (not-yet _ _ _ (sym (c .before .before .is-open .ensures) ∙ not-true _ (c .before .if1 .taken)))
+returns c = c .told .ensures ∙ sym (not-yet _ _ _ (sym (c .before .before .is-open .ensures) ∙ not-true _
+    (c .before .if1 .taken)))
 
 steps-to-rest-requires : tie.Need-steps-to-rest-requires
 steps-to-rest-requires c κs = search needs
@@ -26,8 +27,11 @@ print-of-requires c κs = search needs
 
 returns-2 : tie.Need-returns-2
 returns-2 c =
-    does _ _ _ _ _ _ (sym (c .before .before .before .before .before .is-open .ensures) ∙ not-false _ (c .before .before .before .before .if1 .left))
-    (c .before .before .before .steps-to-rest .ensures) (c .before .before .call .ensures .0) (c .before .print-of .ensures)
+    let p1 = c .before .before .before in
+    let p2 = p1 .before in
+    let p3 = p2 .before in
+    does _ _ _ _ _ _ (sym (p3 .is-open .ensures) ∙ not-false _ (p2 .if1 .left))
+    (p1 .steps-to-rest .ensures) (c .before .before .call .ensures .0) (c .before .print-of .ensures)
 
 pub operated-spec : {M : Type 1} → statement M
 operated-spec =

@@ -30,15 +30,28 @@ same-length c = search needs
 returns : tie.Need-returns
 unfolding headText
 returns c =
-    let a = c .before .before .before .before .before .before .before .before .before .before .before .before .before .before .before .before .before .before .before .before .before .args in
+    let a = c .before .before .before .before .before .before .before .before .before .before .before
+    .before .before .before .before .before .before .before .before .before .before .args in
     let x = steps-short (a .code) (a .steps) in (
       gives
           (text-is (head-laid (hexOf (a .code ∷ [])) (hexOf (a .party ∷ [])) (stepsText (a .code) (a .steps)))
-          (next (next (next (next (first (hexOf (a .code ∷ [])) (c .before .before .before .before .before .before .before .before .before .before .before .before .before .before .before .before .before .before .put-hex .ensures .0) (c .before .before .before .before .before .before .before .before .before .before .before .before .before .before .before .before .before .before .put-hex .ensures .1) (omega arith))
-          (SPACE ∷ []) (c .before .before .before .before .before .before .before .before .before .before .before .before .before .before .put-char .ensures .0) (c .before .before .before .before .before .before .before .before .before .before .before .before .before .before .put-char .ensures .1) (omega arith))
-          (hexOf (a .party ∷ [])) (c .before .before .before .before .before .before .before .before .before .before .put-hex2 .ensures .0) (c .before .before .before .before .before .before .before .before .before .before .put-hex2 .ensures .1) (omega arith))
-          (SPACE ∷ []) (c .before .before .before .before .before .before .put-char2 .ensures .0) (c .before .before .before .before .before .before .put-char2 .ensures .1) (omega arith))
-          (stepsText (a .code) (a .steps)) (c .before .before .put-steps .ensures .0) (c .before .before .put-steps .ensures .1) (omega arith))),
+          (next (next (next (next (first (hexOf (a .code ∷ []))
+          (c .before .before .before .before .before .before .before .before .before .before .before
+          .before .before .before .before .before .before .before .put-hex .ensures .0) (c .before .before
+          .before .before .before .before .before .before .before .before .before .before .before .before
+          .before .before .before .before .put-hex .ensures .1) (omega arith))
+          (SPACE ∷ [])
+          (c .before .before .before .before .before .before .before .before .before .before .before
+          .before .before .before .put-char .ensures .0) (c .before .before .before .before .before .before
+          .before .before .before .before .before .before .before .before .put-char .ensures .1) (omega arith))
+          (hexOf (a .party ∷ []))
+          (c .before .before .before .before .before .before .before .before .before .before .put-hex2 .ensures .0)
+          (c .before .before .before .before .before .before .before .before .before .before .put-hex2 .ensures .1)
+          (omega arith))
+          (SPACE ∷ []) (c .before .before .before .before .before .before .put-char2 .ensures .0)
+          (c .before .before .before .before .before .before .put-char2 .ensures .1) (omega arith))
+          (stepsText (a .code) (a .steps)) (c .before .before .put-steps .ensures .0)
+          (c .before .before .put-steps .ensures .1) (omega arith))),
       omega arith,
     )
 

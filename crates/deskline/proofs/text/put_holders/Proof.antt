@@ -6,12 +6,14 @@ use Prim.Native.Nat.{_-_}
 use lib.ListN.{drop}
 use Rattle.screen.specs.Line.{holders, holdersFrom}
 use Rattle.screen.proofs.Laws.Holders.{next-free, next-holds}
-use Rattle.deskline.proofs.Laws.Numbers.{Listed, listed-all, listed-none, listed-one, listed-skip, none-left, number-room}
+use Rattle.deskline.proofs.Laws.Numbers.{Listed, listed-all, listed-none}
+use Rattle.deskline.proofs.Laws.Numbers.{listed-one, listed-skip, none-left, number-room}
 use Rattle.deskline.proofs.text.put_holders.Statement.{statement}
 use Rattle.deskline.proofs.text.put_holders.Tie as tie
 
 abbrev Inv-loop : tie.InvT-loop
-Inv-loop out₀ at holding end₀ p₀ out end p = Listed at out₀ (holdersFrom 0 holding) (holdersFrom p (drop p holding)) p end out
+Inv-loop out₀ at holding end₀ p₀ out end p = Listed at out₀ (holdersFrom 0 holding) (holdersFrom p
+    (drop p holding)) p end out
 
 abbrev μ-loop : tie.MeasureT-loop
 μ-loop out₀ at holding end₀ p₀ out end p = 32 - p
@@ -56,8 +58,11 @@ same-length c = search needs
 returns : tie.Need-returns Inv-loop μ-loop
 unfolding holders
 returns c =
-    let l = c .before .loop .inv in
-    (listed-all (c .before .loop .inv) (none-left _ _ (search needs) (omega arith)), omega (arith, l .done .past, l .few, l .within))
+    let l = c .before .loop .inv in (
+      listed-all (c .before .loop .inv) (none-left _ _ (search needs) (omega arith)),
+      omega
+          (arith, l .done .past, l .few, l .within),
+    )
 
 pub put-holders-spec : {M : Type 1} → statement M
 put-holders-spec =

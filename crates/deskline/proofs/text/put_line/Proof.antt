@@ -20,8 +20,11 @@ unfolding lineText
 returns c =
     let r = c .before .before .before .before .before .before .before .before .before .before .args .r in (
       gives
-          (next (first (headText (r .code) (r .party) (r .steps)) (c .before .before .before .before .before .before .put-head .ensures .0 .0) (c .before .before .before .before .before .before .put-head .ensures .0 .1) (omega arith))
-          (partiesText (r .line)) (c .before .before .put-parties .ensures .0 .0) (c .before .before .put-parties .ensures .0 .1) (omega arith)),
+          (next (first (headText (r .code) (r .party) (r .steps))
+          (c .before .before .before .before .before .before .put-head .ensures .0 .0)
+          (c .before .before .before .before .before .before .put-head .ensures .0 .1) (omega arith))
+          (partiesText (r .line)) (c .before .before .put-parties .ensures .0 .0)
+          (c .before .before .put-parties .ensures .0 .1) (omega arith)),
       omega arith,
     )
 

@@ -21,8 +21,11 @@ returns : tie.Need-returns
 returns c =
     let s = c .before .before .before .before .before .before .before .before .before in
     let d = decimal-short (s .args .party) in
-    gives (text-is (numbers-one _) (next (first (_ ∷ []) (c .before .before .before .before .before .before .put-char .ensures .0) (c .before .before .before .before .before .before .put-char .ensures .1) (omega arith))
-    (decimal (s .args .party)) (c .before .before .put-decimal .ensures .0) (c .before .before .put-decimal .ensures .1) (omega arith)))
+    gives (text-is (numbers-one _) (next (first (_ ∷ [])
+    (c .before .before .before .before .before .before .put-char .ensures .0)
+    (c .before .before .before .before .before .before .put-char .ensures .1) (omega arith))
+    (decimal (s .args .party)) (c .before .before .put-decimal .ensures .0)
+    (c .before .before .put-decimal .ensures .1) (omega arith)))
 
 pub put-number-spec : {M : Type 1} → statement M
 put-number-spec = tie.close (tie.spec put-char-requires put-decimal-requires same-length returns)

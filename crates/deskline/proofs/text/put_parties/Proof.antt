@@ -36,14 +36,29 @@ same-length c = search needs
 returns : tie.Need-returns
 unfolding partiesText
 returns c =
-    let a = c .before .before .before .before .before .before .before .before .before .before .before .before .before .before .before .before .before .before .before .before .before .before .before .args in (
+    let a = c .before .before .before .before .before .before .before .before .before .before .before
+    .before .before .before .before .before .before .before .before .before .before .before .before .args in (
       gives
           (text-is (parties-laid (numbers (holders (a .line))) (numbers (waiters (a .line))))
-          (next (next (next (next (first (SPACE ∷ HELD) (c .before .before .before .before .before .before .before .before .before .before .before .before .before .before .before .before .before .before .before .put-word .ensures .0) (c .before .before .before .before .before .before .before .before .before .before .before .before .before .before .before .before .before .before .before .put-word .ensures .1) (omega arith))
-          (numbers (holders (a .line))) (c .before .before .before .before .before .before .before .before .before .before .before .before .before .before .before .put-holders .ensures .0 .0) (c .before .before .before .before .before .before .before .before .before .before .before .before .before .before .before .put-holders .ensures .0 .1) (omega arith))
-          (SPACE ∷ WAITING) (c .before .before .before .before .before .before .before .before .before .before .put-word2 .ensures .0) (c .before .before .before .before .before .before .before .before .before .before .put-word2 .ensures .1) (omega arith))
-          (numbers (waiters (a .line))) (c .before .before .before .before .before .before .put-waiters .ensures .0 .0) (c .before .before .before .before .before .before .put-waiters .ensures .0 .1) (omega arith))
-          (0x0A ∷ []) (c .before .before .put-char .ensures .0) (c .before .before .put-char .ensures .1) (omega arith))),
+          (next (next (next (next (first (SPACE ∷ HELD)
+          (c .before .before .before .before .before .before .before .before .before .before .before
+          .before .before .before .before .before .before .before .before .put-word .ensures .0) (c .before
+          .before .before .before .before .before .before .before .before .before .before .before .before
+          .before .before .before .before .before .before .put-word .ensures .1) (omega arith))
+          (numbers (holders (a .line)))
+          (c .before .before .before .before .before .before .before .before .before .before .before
+          .before .before .before .before .put-holders .ensures .0 .0) (c .before .before .before .before
+          .before .before .before .before .before .before .before .before .before .before
+          .before .put-holders .ensures .0 .1) (omega arith))
+          (SPACE ∷ WAITING)
+          (c .before .before .before .before .before .before .before .before .before .before .put-word2 .ensures .0)
+          (c .before .before .before .before .before .before .before .before .before .before .put-word2 .ensures .1)
+          (omega arith))
+          (numbers (waiters (a .line)))
+          (c .before .before .before .before .before .before .put-waiters .ensures .0 .0)
+          (c .before .before .before .before .before .before .put-waiters .ensures .0 .1) (omega arith))
+          (0x0A ∷ []) (c .before .before .put-char .ensures .0) (c .before .before .put-char .ensures .1)
+          (omega arith))),
       omega arith,
     )
 

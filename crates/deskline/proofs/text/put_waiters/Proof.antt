@@ -4,12 +4,14 @@ use native.Mathlib.Omega.{arith}
 use Prim.Native.Nat.{_-_}
 use lib.ListN.{drop, take}
 use Rattle.screen.specs.Line.{waiters}
-use Rattle.deskline.proofs.Laws.Numbers.{Listed, listed-all, listed-none, listed-one, next-waits, no-more, number-room}
+use Rattle.deskline.proofs.Laws.Numbers.{Listed, listed-all, listed-none}
+use Rattle.deskline.proofs.Laws.Numbers.{listed-one, next-waits, no-more, number-room}
 use Rattle.deskline.proofs.text.put_waiters.Statement.{statement}
 use Rattle.deskline.proofs.text.put_waiters.Tie as tie
 
 abbrev Inv-loop : tie.InvT-loop
-Inv-loop out₀ at queue waiting end₀ i₀ out end i = Listed at out₀ (take waiting queue) (drop i (take waiting queue)) i end out
+Inv-loop out₀ at queue waiting end₀ i₀ out end i = Listed at out₀ (take waiting queue) (drop i
+    (take waiting queue)) i end out
 
 abbrev μ-loop : tie.MeasureT-loop
 μ-loop out₀ at queue waiting end₀ i₀ out end i = waiting - i
@@ -37,7 +39,9 @@ loop-less c = search needs
 loop-again : tie.Need-loop-again Inv-loop μ-loop
 loop-again c =
     listed-one (c .before .before .before .before .before .loop .inv) (omega arith)
-    (next-waits (c .before .before .before .before .before .before .before .before .before .args .line .queue) (c .before .before .before .before .before .before .before .before .before .args .line .waiting) _ (search needs) (search needs) (omega arith))
+    (next-waits (c .before .before .before .before .before .before .before .before .before .args .line .queue)
+    (c .before .before .before .before .before .before .before .before .before .args .line .waiting) _
+    (search needs) (search needs) (omega arith))
     (c .before .before .put-number .ensures .0) (c .before .before .put-number .ensures .1)
 
 same-length : tie.Need-same-length Inv-loop μ-loop
@@ -46,8 +50,12 @@ same-length c = search needs
 returns : tie.Need-returns Inv-loop μ-loop
 unfolding waiters
 returns c =
-    let l = c .before .loop .inv in
-    (listed-all (c .before .loop .inv) (no-more (c .before .before .before .before .before .args .line .queue) (c .before .before .before .before .before .args .line .waiting) (c .before .loop .i) (search needs) (search needs) (c .loop-test .left)), omega (arith, l .done .past, l .few, l .within))
+    let l = c .before .loop .inv in (
+      listed-all (c .before .loop .inv) (no-more (c .before .before .before .before .before .args .line .queue)
+          (c .before .before .before .before .before .args .line .waiting) (c .before .loop .i) (search needs)
+          (search needs) (c .loop-test .left)),
+      omega (arith, l .done .past, l .few, l .within),
+    )
 
 pub put-waiters-spec : {M : Type 1} → statement M
 put-waiters-spec =

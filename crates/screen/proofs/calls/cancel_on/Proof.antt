@@ -21,7 +21,8 @@ returns c =
     let s = c .before .before .before .before in
     c .refused .ensures
     ∙ sym (waits-not _ _
-    (no-place _ (fit (s .args .line) (s .pre)) (search needs) _ _ (c .before .before .before .place-of .ensures) (c .before .if1 .taken)))
+    (no-place _ (fit (s .args .line) (s .pre)) (search needs) _ _
+    (c .before .before .before .place-of .ensures) (c .before .if1 .taken)))
 
 kind-requires : tie.Need-kind-requires
 kind-requires c κs = search needs
@@ -34,7 +35,8 @@ returns-2 c =
     let s = c .before .before .before .before .before .before in
     c .refused2 .ensures
     ∙ sym (may-not _ _
-    (has-place _ (fit (s .args .line) (s .pre)) (search needs) _ _ (c .before .before .before .before .before .place-of .ensures) (c .before .before .before .if1 .left))
+    (has-place _ (fit (s .args .line) (s .pre)) (search needs) _ _
+    (c .before .before .before .before .before .place-of .ensures) (c .before .before .before .if1 .left))
     (sym (c .before .before .kind .ensures) ∙ c .before .if2 .taken))
 
 leave-requires : tie.Need-leave-requires
@@ -48,9 +50,11 @@ returns-3 c =
     let s = c .before .before .before .before .before .before .before in
     let f = fit (s .args .line) (s .pre) in
     c .accepted .ensures
-    ∙ ap accepted (c .before .leave .ensures ∙ leaves-place _ f (search needs) _ _ (c .before .before .before .before .before .before .place-of .ensures))
+    ∙ ap accepted (c .before .leave .ensures ∙ leaves-place _ f (search needs) _ _
+    (c .before .before .before .before .before .before .place-of .ensures))
     ∙ sym (cancels _ _
-    (has-place _ f (search needs) _ _ (c .before .before .before .before .before .before .place-of .ensures) (c .before .before .before .before .if1 .left))
+    (has-place _ f (search needs) _ _ (c .before .before .before .before .before .before .place-of .ensures)
+    (c .before .before .before .before .if1 .left))
     (λ k. c .before .before .if2 .left (c .before .before .before .kind .ensures ∙ k)))
 
 pub cancel-on-spec : {M : Type 1} → statement M

@@ -32,7 +32,8 @@ accepted-requires c κs = search needs
 
 returns-2 : tie.Need-returns-2
 returns-2 c =
-    c .accepted .ensures ∙ sym (gives-back _ _ (not-false _ (c .before .before .before .if1 .left)) (c .before .if2 .taken))
+    c .accepted .ensures ∙ sym (gives-back _ _ (not-false _ (c .before .before .before .if1 .left))
+    (c .before .if2 .taken))
 
 array-read-first : tie.Need-array-read-first
 array-read-first c = search needs
@@ -60,8 +61,10 @@ accepted-requires-2 c κs = search needs
 
 returns-3 : tie.Need-returns-3
 returns-3 c =
+    let p1 = c .before .before .before in
+    let p2 = p1 .before .before in
     c .accepted2 .ensures
-    ∙ handed-over _ _ _ (not-false _ (c .before .before .before .before .before .if1 .left)) (c .before .before .before .if2 .left) (c .before .leave .ensures)
+    ∙ handed-over _ _ _ (not-false _ (p2 .if1 .left)) (p1 .if2 .left) (c .before .leave .ensures)
 
 pub release-on-spec : {M : Type 1} → statement M
 release-on-spec =

@@ -41,16 +41,19 @@ returns-3 : tie.Need-returns-3
 returns-3 c = fails _ 2 (lt-leb _ _ (c .if3 .taken))
 
 holders-below-requires : tie.Need-holders-below-requires
-holders-below-requires c κs = n-small _ (sym (c .before .before .before .up-to-322 .ensures) ∙ not-false _ (c .before .before .if2 .left))
+holders-below-requires c κs = n-small _ (sym (c .before .before .before .up-to-322 .ensures) ∙ not-false _
+    (c .before .before .if2 .left))
 
 returns-4 : tie.Need-returns-4
 returns-4 c = fails-holders _ (sym (c .before .holders-below .ensures) ∙ not-true _ (c .if4 .taken))
 
 queue-fits-requires : tie.Need-queue-fits-requires
-queue-fits-requires c κs = (
-  n-small _ (sym (c .before .before .before .before .before .up-to-322 .ensures) ∙ not-false _ (c .before .before .before .before .if2 .left)),
-  (c .before .before .if3 .left, sym (c .before .holders-below .ensures) ∙ not-false _ (c .if4 .left)),
-)
+queue-fits-requires c κs =
+    let p1 = c .before .before .before .before in
+    let p2 = p1 .before in (
+      n-small _ (sym (p2 .up-to-322 .ensures) ∙ not-false _ (p1 .if2 .left)),
+      (c .before .before .if3 .left, sym (c .before .holders-below .ensures) ∙ not-false _ (c .if4 .left)),
+    )
 
 returns-5 : tie.Need-returns-5
 returns-5 c = fails-queue _ (sym (c .before .queue-fits .ensures) ∙ not-true _ (c .if5 .taken))
@@ -71,23 +74,37 @@ returns-7 c = fails _ 7 (sym (c .before .rest-is-zero .ensures) ∙ not-true _ (
 returns-8 : tie.Need-returns-8
 returns-8 c =
     let b = c .before in
-    idle (b .before .before .before .before .before .before .before .before .before .before .before .before .before .before .before .before .args .line) (c .if8 .taken)
-    ∙ passes _ (sym (b .before .before .before .before .before .before .before .before .before .before .before .before .before .before .before .up-to-32 .ensures) ∙ not-false _ (b .before .before .before .before .before .before .before .before .before .before .before .before .before .before .if1 .left))
-    (sym (b .before .before .before .before .before .before .before .before .before .before .before .before .before .up-to-322 .ensures) ∙ not-false _ (b .before .before .before .before .before .before .before .before .before .before .before .before .if2 .left))
+    idle (b .before .before .before .before .before .before .before .before .before .before .before
+    .before .before .before .before .before .args .line) (c .if8 .taken)
+    ∙ passes _ (sym (b .before .before .before .before .before .before .before .before .before .before
+    .before .before .before .before .before .up-to-32 .ensures) ∙ not-false _ (b .before .before .before
+    .before .before .before .before .before .before .before .before .before .before .before .if1 .left))
+    (sym (b .before .before .before .before .before .before .before .before .before .before .before
+    .before .before .up-to-322 .ensures) ∙ not-false _ (b .before .before .before .before .before .before
+    .before .before .before .before .before .before .if2 .left))
     (b .before .before .before .before .before .before .before .before .before .before .if3 .left)
-    (sym (b .before .before .before .before .before .before .before .queue-fits .ensures) ∙ not-false _ (b .before .before .before .before .before .before .if5 .left))
+    (sym (b .before .before .before .before .before .before .before .queue-fits .ensures) ∙ not-false _
+    (b .before .before .before .before .before .before .if5 .left))
     (omega (arith, b .before .before .before .before .before .held .ensures, b .before .before .before .if6 .left))
     (sym (b .before .before .rest-is-zero .ensures) ∙ not-false _ (b .before .if7 .left))
 
 returns-9 : tie.Need-returns-9
 returns-9 c =
     let b = c .before .before in
-    ap (λ (n : ℕ). eqb n (b .before .before .before .before .before .before .before .before .before .before .before .before .before .before .before .before .args .line .permits)) (b .before .before .before .before .before .held .ensures)
-    ∙ busy (b .before .before .before .before .before .before .before .before .before .before .before .before .before .before .before .before .args .line) (c .before .if8 .left)
-    ∙ passes _ (sym (b .before .before .before .before .before .before .before .before .before .before .before .before .before .before .before .up-to-32 .ensures) ∙ not-false _ (b .before .before .before .before .before .before .before .before .before .before .before .before .before .before .if1 .left))
-    (sym (b .before .before .before .before .before .before .before .before .before .before .before .before .before .up-to-322 .ensures) ∙ not-false _ (b .before .before .before .before .before .before .before .before .before .before .before .before .if2 .left))
+    ap (λ (n : ℕ). eqb n
+    (b .before .before .before .before .before .before .before .before .before .before .before .before
+    .before .before .before .before .args .line .permits)) (b .before .before .before .before .before .held .ensures)
+    ∙ busy (b .before .before .before .before .before .before .before .before .before .before .before
+    .before .before .before .before .before .args .line) (c .before .if8 .left)
+    ∙ passes _ (sym (b .before .before .before .before .before .before .before .before .before .before
+    .before .before .before .before .before .up-to-32 .ensures) ∙ not-false _ (b .before .before .before
+    .before .before .before .before .before .before .before .before .before .before .before .if1 .left))
+    (sym (b .before .before .before .before .before .before .before .before .before .before .before
+    .before .before .up-to-322 .ensures) ∙ not-false _ (b .before .before .before .before .before .before
+    .before .before .before .before .before .before .if2 .left))
     (b .before .before .before .before .before .before .before .before .before .before .if3 .left)
-    (sym (b .before .before .before .before .before .before .before .queue-fits .ensures) ∙ not-false _ (b .before .before .before .before .before .before .if5 .left))
+    (sym (b .before .before .before .before .before .before .before .queue-fits .ensures) ∙ not-false _
+    (b .before .before .before .before .before .before .if5 .left))
     (omega (arith, b .before .before .before .before .before .held .ensures, b .before .before .before .if6 .left))
     (sym (b .before .before .rest-is-zero .ensures) ∙ not-false _ (b .before .if7 .left))
 

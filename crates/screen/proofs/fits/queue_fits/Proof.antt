@@ -4,7 +4,8 @@ use native.Mathlib.Omega.{arith}
 use mathlib.Core.Path.{refl}
 use Prim.Native.Nat.{_-_}
 use Rattle.screen.specs.Line.{waiters}
-use Rattle.screen.proofs.Laws.Walks.{Walked, all-met, met-now, met-twice, misfit, too-high, walked-all, walked-none}
+use Rattle.screen.proofs.Laws.Walks.{Walked, all-met, met-now, met-twice}
+use Rattle.screen.proofs.Laws.Walks.{misfit, too-high, walked-all, walked-none}
 use Rattle.screen.proofs.fits.queue_fits.Statement.{statement}
 use Rattle.screen.proofs.fits.queue_fits.Tie as tie
 

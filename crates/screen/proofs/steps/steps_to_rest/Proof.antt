@@ -30,7 +30,8 @@ own-steps-requires c κs = search needs
 returns-2 : tie.Need-returns-2
 returns-2 c =
     c .own-steps .ensures
-    ∙ sym (some-steps _ _ _ (sym (ap (λ (m : Moved). m .answer) (c .before .before .before .call .ensures .0)) ∙ c .before .enum-told .given .1))
+    ∙ sym (some-steps _ _ _ (sym (ap (λ (m : Moved). m .answer)
+    (c .before .before .before .call .ensures .0)) ∙ c .before .enum-told .given .1))
 
 pub steps-to-rest-spec : {M : Type 1} → statement M
 steps-to-rest-spec =
