@@ -13,7 +13,7 @@ use Rattle.latch.specs.declared.record.Latch.{Latch}
 use Rattle.latch.specs.Fits.{fits}
 use Rattle.latch.specs.Schedule.{Entry, entries, run}
 
--- 10 await, 11 step, 12 give up, 13 count down.
+-- 10 await, 11 step, 12 give up, 13 count down; whoever runs calls refuses other codes before.
 abbrev pub opOf : ℕ → LatchOp
 opOf c =
     cond (eqb c 0x10) LatchOp.Await

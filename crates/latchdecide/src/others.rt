@@ -13,7 +13,7 @@ use latchtable::figures::with_begun;
 use latchtable::slots::in_phase;
 use latchtable::slots::with_phase;
 ghost use mathlib.Core.Path.{_≡_};
-ghost use mathlib.Core.Bool.{true, false};
+ghost use mathlib.Core.Bool.{false};
 ghost use lib.Dec.{eqb};
 ghost use Rattle.hub.specs.Phases.{isWaiting};
 ghost use Rattle.latch.specs.declared.moves.LatchOp.{LatchOp};
@@ -41,11 +41,14 @@ pub(crate) fn decide_await(full: bool, s: LatchSight) -> LatchEffect
     acted(in_phase(Phase::Acquiring), counted, Answer::Accepted, s)
 }
 
-// A give-up that the phase allows: kind 3 may not. What else is kept of the party stays.
-fn cancel_to(next: Phase, s: LatchSight) -> LatchEffect
-    ensures { λ r. ⌜ r ≡ effectOf (cancel true (eqb (s .kind) 3) next s) s ⌝ }
+// Can a party of this phase give up? 9, before kind 3 is looked at, 10. What else is kept of it stays.
+fn cancel_to(can: bool, next: Phase, s: LatchSight) -> LatchEffect
+    ensures { λ r. ⌜ r ≡ effectOf (cancel can (eqb (s .kind) 3) next s) s ⌝ }
 {
     let kind = s.kind;
+    if !can {
+        return refused(Refusal::NotWaiting, s);
+    }
     if kind == 3 {
         return refused(Refusal::NotCancellable, s);
     }
@@ -61,10 +64,10 @@ fn cancel_early(s: LatchSight) -> LatchEffect
     let slot = s.slot;
     let phase = slot.phase;
     match phase {
-        Phase::Acquiring => cancel_to(Phase::AcquiringMarked, s),
-        Phase::Suspending => cancel_to(Phase::SuspendingMarked, s),
-        Phase::Ticketed(t) => cancel_to(Phase::TicketedMarked(t), s),
-        _ => refused(Refusal::NotWaiting, s),
+        Phase::Acquiring => cancel_to(true, Phase::AcquiringMarked, s),
+        Phase::Suspending => cancel_to(true, Phase::SuspendingMarked, s),
+        Phase::Ticketed(t) => cancel_to(true, Phase::TicketedMarked(t), s),
+        _ => cancel_to(false, phase, s),
     }
 }
 
@@ -76,7 +79,7 @@ pub(crate) fn decide_cancel(s: LatchSight) -> LatchEffect
     let Phase::Waiting(t) = phase else {
         return cancel_early(s);
     };
-    cancel_to(Phase::Aborting(t), s)
+    cancel_to(true, Phase::Aborting(t), s)
 }
 
 pub(crate) fn decide_count_down(s: LatchSight) -> LatchEffect

@@ -1,3 +1,4 @@
 -- Laws that several proofs cite.
 pub mod Slots
+pub mod Figures
 pub mod Changes

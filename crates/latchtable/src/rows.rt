@@ -34,10 +34,11 @@ pub fn step_acquiring(phase: Phase, next: Phase, s: LatchSight) -> LatchEffect
     ensures { λ r. ⌜ r ≡ effectOf (stepAcquiring phase next (done (s .figures)) (s .slot .raising) s) s ⌝ }
 {
     let figures = s.figures;
+    let raising = s.slot.raising;
     if figures.count == 0 {
         return turned(free_slot(), Answer::Acquired, s);
     }
-    if !s.slot.raising {
+    if !raising {
         return turned(to_raise(phase), Answer::MustWait, s);
     }
     let raised = with_waiters(figures.waiters + 1, figures);

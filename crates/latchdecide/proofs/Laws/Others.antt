@@ -2,13 +2,15 @@
 use mathlib.Core.Path.{_≡_, refl, sym, ap, _∙_}
 use mathlib.Core.Bool.{Bool, true, false}
 use lib.Dec.{eqb}
+use Rattle.hub.specs.declared.answers.Answer.{Answer}
 use Rattle.hub.specs.declared.answers.Refusal.{Refusal}
 use Rattle.hub.specs.declared.record.Phase.{Phase}
 use Rattle.hub.specs.Table.{canCancel, givenUp}
 use Rattle.latch.specs.declared.moves.LatchOp.{LatchOp}
 use Rattle.latch.specs.declared.moves.LatchSight.{LatchSight}
 use Rattle.latch.specs.Moves.{Move, Refuse}
-use Rattle.latch.specs.Table.{await, cancel, decide}
+use Rattle.latch.specs.Record.{withPhase}
+use Rattle.latch.specs.Table.{await, cancel, decide, turn}
 use Rattle.latchtable.specs.declared.effect.LatchEffect.{LatchEffect}
 use Rattle.latchtable.specs.Effect.{effectOf}
 
@@ -21,7 +23,22 @@ module _ (a b full : Bool) (s : LatchSight) where
   unfolding await
   full-up e f g = rw (e, f, g)
 
--- Give up: what a phase that is known leads to; a phase in which nobody can give up.
+-- Give up: a phase in which nobody can; kind 3; any other kind.
+module _ (can three : Bool) (x : Phase) (s : LatchSight) where
+  pub cannot : can ≡ false → cancel can three x s ≡ Refuse Refusal.NotWaiting
+  unfolding cancel
+  cannot e = rw e
+
+  pub may-not : can ≡ true → three ≡ true → cancel can three x s ≡ Refuse Refusal.NotCancellable
+  unfolding cancel
+  may-not e f = rw (e, f)
+
+  pub may : can ≡ true → three ≡ false
+      → cancel can three x s ≡ turn (withPhase x (s .slot)) Answer.Accepted s
+  unfolding cancel
+  may e f = rw (e, f)
+
+-- What a phase that is known leads to; a phase in which nobody can give up.
 module _ (s : LatchSight) where
   pub gives-up : {f : Phase} {e : LatchEffect} → s .slot .phase ≡ f
       → e ≡ effectOf (cancel (canCancel f) (eqb (s .kind) 3) (givenUp f) s) s
@@ -30,7 +47,7 @@ module _ (s : LatchSight) where
   gives-up i h =
       h ∙ ap (λ (x : Phase). effectOf (cancel (canCancel x) (eqb (s .kind) 3) (givenUp x) s) s) (sym i)
 
-  pub not-waiting : canCancel (s .slot .phase) ≡ false
-      → decide LatchOp.Cancel false s ≡ Refuse Refusal.NotWaiting
+  pub not-waiting : (x : Phase) → canCancel (s .slot .phase) ≡ false
+      → decide LatchOp.Cancel false s ≡ cancel false (eqb (s .kind) 3) x s
   unfolding decide cancel
-  not-waiting e = rw e
+  not-waiting x e = rw e

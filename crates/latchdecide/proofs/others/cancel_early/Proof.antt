@@ -31,8 +31,8 @@ enum-known-phase c = search needs
 cancel-to-requires-3 : tie.Need-cancel-to-requires-3
 cancel-to-requires-3 c κs = search needs
 
-refused-requires : tie.Need-refused-requires
-refused-requires c κs = search needs
+cancel-to-requires-4 : tie.Need-cancel-to-requires-4
+cancel-to-requires-4 c κs = search needs
 
 returns : tie.Need-returns
 unfolding isOneOf givenUp
@@ -58,9 +58,9 @@ returns-4 c =
     let b = c .before .before .before in
     let s = b .args .s in
     let f = s .slot .phase in
-    c .refused .ensures
+    c .cancel-to4 .ensures
     ∙ ap (λ (m : Move). effectOf m s)
-    (sym (not-waiting s
+    (sym (not-waiting s f
     (ap (λ (w : Bool). cond w false (canCancel f)) (sym (b .pre))
     ∙ sym (phase-arm (allBut (3 ∷ 4 ∷ 5 ∷ [])) (λ x. cond (isWaiting x) false (canCancel x)) f refl
     (c .before .match .keys4)))))
@@ -75,7 +75,7 @@ cancel-early-spec =
     cancel-to-requires-2
     enum-known-phase
     cancel-to-requires-3
-    refused-requires
+    cancel-to-requires-4
     returns
     returns-2
     returns-3

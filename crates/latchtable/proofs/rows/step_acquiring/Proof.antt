@@ -28,8 +28,8 @@ turned-requires-2 c κs = search needs
 returns-2 : tie.Need-returns-2
 unfolding stepAcquiring
 returns-2 c =
-    let s = c .before .before .before .before .before .before .before .args .s in
-    rw (ne-eqb _ _ (c .before .before .before .before .if1 .left), not-true (s .slot .raising) (c .before .before .if2 .taken))
+    let s = c .before .before .before .before .before .before .args .s in
+    rw (ne-eqb _ _ (c .before .before .before .if1 .left), not-true (s .slot .raising) (c .before .before .if2 .taken))
     (acts s _ (c .turned2 .ensures) (c .before .to-raise .ensures) refl)
 
 add-with-waiters : tie.Need-add-with-waiters
@@ -47,8 +47,8 @@ acted-requires c κs = search needs
 returns-3 : tie.Need-returns-3
 unfolding stepAcquiring
 returns-3 c =
-    let s = c .before .before .before .before .before .before .before .before .before .args .s in
-    rw (ne-eqb _ _ (c .before .before .before .before .before .before .if1 .left), not-false (s .slot .raising) (c .before .before .before .before .if2 .left))
+    let s = c .before .before .before .before .before .before .before .before .args .s in
+    rw (ne-eqb _ _ (c .before .before .before .before .before .if1 .left), not-false (s .slot .raising) (c .before .before .before .before .if2 .left))
     (acts s _ (c .acted .ensures) (c .before .in-phase .ensures) (c .before .before .with-waiters .ensures))
 
 pub step-acquiring-spec : {M : Type 1} → statement M
