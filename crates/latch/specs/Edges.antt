@@ -174,7 +174,7 @@ cameFirst =
     ∷ at 0 Step 0 (plain 0x08)
     ∷ []
 
--- Giving up early, in asked; where the wait would begin it is given up.
+-- Giving up early, party 0 in asked and party 1 in raising; where the wait would begin it is given up.
 abbrev pub early : List Row
 early =
     at 2 Await 0 (plain 0x20)
@@ -186,6 +186,14 @@ early =
     ∷ at 2 Cancel 0 (plain 0x09)
     ∷ at 2 Step 0 (plain 0x2E)
     ∷ at 2 Step 0 (withNumber 0x30 0)
+    ∷ at 2 Await 1 (plain 0x20)
+    ∷ at 2 Step 1 (plain 0x22)
+    ∷ at 2 Cancel 1 (plain 0x20)
+    ∷ at 2 Step 1 (plain 0x22)
+    ∷ at 2 Step 1 (withNumber 0x23 1)
+    ∷ at 2 Step 1 (withNumber 0x24 1)
+    ∷ at 2 Step 1 (plain 0x2E)
+    ∷ at 2 Step 1 (withNumber 0x30 1)
     ∷ []
 
 -- Party n in each of the calls, and party n − 1.

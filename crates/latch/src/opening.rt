@@ -7,7 +7,7 @@ use hub::opening::up_to_32;
 use hub::record::Phase;
 use hub::slots::empty_seat;
 ghost use mathlib.Core.Path.{_≡_};
-ghost use Rattle.latch.specs.Opening.{figuresAt, fresh, notOpened, opening, upTo200};
+ghost use Rattle.latch.specs.Opening.{figuresAt, fresh, notOpened, opening, startCode, upTo200};
 ghost use Rattle.latch.specs.Record.{freeSlot};
 
 pub enum Start {
@@ -82,7 +82,8 @@ fn up_to_200(n: u8) -> bool
 
 // Opens a latch.
 pub fn open_latch(count: u8, parties: u8) -> Opened
-    ensures { λ r. ⌜ r ≡ opening count parties ⌝ }
+    ensures { λ r. ⌜ (r ≡ opening count parties)
+        × (startCode (r .start) ≡ startCode (opening count parties .start)) ⌝ }
 {
     if !up_to_32(parties) {
         return refused(Start::BadParties);

@@ -1,4 +1,3 @@
 -- What the proofs of this crate share.
 pub mod Codes
-pub mod Pairs
 pub mod Endings

@@ -1,6 +1,6 @@
 -- A list of calls as bytes. A call is its code and the party.
 use Prim.Native.Nat.{ℕ}
-use mathlib.Core.Bool.{Bool, true, false, _&&_}
+use mathlib.Core.Bool.{Bool}
 use mathlib.Core.List.{List, [], _∷_}
 use Rattle.hub.specs.Basics.{among}
 use Rattle.latch.specs.declared.moves.LatchCall.{LatchCall}
@@ -9,11 +9,6 @@ use Rattle.latchbatch.specs.Batch.{callFor}
 -- 10 await, 11 step, 12 give up, 13 count down.
 abbrev pub isCall : ℕ → Bool
 isCall c = among (0x10 ∷ 0x11 ∷ 0x12 ∷ 0x13 ∷ []) c
-
-unfoldable pub wellFormed : List ℕ → Bool
-wellFormed [] = true
-wellFormed (c ∷ []) = false
-wellFormed (c ∷ p ∷ l) = isCall c && wellFormed l
 
 unfoldable pub callsOf : List ℕ → List LatchCall
 callsOf [] = []

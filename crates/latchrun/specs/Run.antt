@@ -9,7 +9,8 @@ use Rattle.latch.specs.declared.opening.Start.{Start}
 use Rattle.latch.specs.declared.record.Latch.{Latch}
 use Rattle.latch.specs.Opening.{fresh, startCode, upTo200}
 use Rattle.latchbatch.specs.Batch.{framesOf}
-use Rattle.latchrun.specs.Bytes.{callsOf, wellFormed}
+use Rattle.run.specs.Bytes.{wellFormed}
+use Rattle.latchrun.specs.Bytes.{callsOf, isCall}
 use Rattle.latchrun.specs.declared.LatchRan.{LatchRan}
 
 pub record Ended : Type 0 where
@@ -32,7 +33,7 @@ runIf true true true true c n calls out =
 
 abbrev pub runOf : ℕ → ℕ → List ℕ → List ℕ → Ended
 runOf c n calls out =
-    runIf (upTo32 n) (upTo200 c) (wellFormed calls) (leb (length calls / 2) (length out / 7)) c n calls
+    runIf (upTo32 n) (upTo200 c) (wellFormed isCall calls) (leb (length calls / 2) (length out / 7)) c n calls
     out
 
 -- The end of a run as a number, for callers in other languages.

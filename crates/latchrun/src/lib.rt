@@ -6,7 +6,8 @@ use latch::opening::open_latch;
 use latchbatch::answer_calls;
 ghost use mathlib.Core.Path.{_≡_};
 ghost use Rattle.latch.specs.Opening.{startCode};
-ghost use Rattle.latchrun.specs.Bytes.{wellFormed};
+ghost use Rattle.run.specs.Bytes.{wellFormed};
+ghost use Rattle.latchrun.specs.Bytes.{isCall};
 ghost use Rattle.latchrun.specs.Run.{ranCode, runOf};
 
 // How a run ended. Only a run that is done writes to the buffer.
@@ -19,7 +20,7 @@ pub enum LatchRan {
 
 // Is each pair of bytes a call?
 fn well_formed(calls: &[u8]) -> bool
-    ensures { λ r. ⌜ r ≡ wellFormed (now (calls .entry)) ⌝ }
+    ensures { λ r. ⌜ r ≡ wellFormed isCall (now (calls .entry)) ⌝ }
 {
     let total = calls.len() / 2;
     if calls.len() % 2 == 1 {

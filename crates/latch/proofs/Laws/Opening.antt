@@ -1,6 +1,6 @@
 -- What an opening answers, from its two tests.
 use Prim.Native.Nat.{ℕ, _≤_}
-use mathlib.Core.Path.{_≡_, refl}
+use mathlib.Core.Path.{_≡_, refl, ap}
 use mathlib.Core.Bool.{Bool, true, false}
 use native.Mathlib.Omega.{arith}
 use borrow.Author.Tests.{leb-true}
@@ -10,11 +10,12 @@ use Rattle.hub.specs.declared.answers.Answer.{Answer}
 use Rattle.hub.specs.declared.answers.Refusal.{Refusal}
 use Rattle.hub.proofs.Laws.Bools.{first, second}
 use Rattle.latch.specs.declared.moves.LatchCall.{LatchCall}
+use Rattle.latch.specs.declared.opening.Opened.{Opened}
 use Rattle.latch.specs.declared.opening.Start.{Start}
 use Rattle.latch.specs.declared.record.Latch.{Latch}
 use Rattle.latch.specs.Calls.{called, checked, apply}
 use Rattle.latch.specs.Fits.{figuresFit, fits}
-use Rattle.latch.specs.Opening.{fresh, notOpened, opening, openingIf, upTo200}
+use Rattle.latch.specs.Opening.{fresh, notOpened, opening, openingIf, startCode, upTo200}
 
 module _ (a b : Bool) (c n : ℕ) where
   pub refused-3 : a ≡ false → openingIf a b c n ≡ notOpened Start.BadParties
@@ -58,3 +59,7 @@ in-range c n = go (upTo32 n) (upTo200 c) refl refl
           count = (leb-true 1 c (first (leb 1 c) _ y), leb-true c 200 (second (leb 1 c) _ y));
           latch = λ i. openingIf (x i) (y i) c n .latch;
         }
+
+-- A promise that gives how an opening went gives its code.
+pub with-code : {o d : Opened} → o ≡ d → (o ≡ d) × (startCode (o .start) ≡ startCode (d .start))
+with-code e = (e, ap (λ (x : Opened). startCode (x .start)) e)

@@ -19,7 +19,8 @@ use Rattle.latch.proofs.opening.Start as start
 use Rattle.latched.proofs.Claims.{every-record-fits}
 use Rattle.latchbatch.specs.Batch.{Lasting, answered, callFor, callsIn, framesOf}
 use Rattle.latchrun.specs.declared.LatchRan.{LatchRan}
-use Rattle.latchrun.specs.Bytes.{callsOf, wellFormed}
+use Rattle.run.specs.Bytes.{wellFormed}
+use Rattle.latchrun.specs.Bytes.{callsOf, isCall}
 use Rattle.latchrun.specs.Run.{written, runIf, runOf}
 
 -- All calls of the bytes are those that are answered.
@@ -71,11 +72,11 @@ module _ (c n : ℕ) (calls out : List ℕ) where
         go true false z = let y : _≡_ {A = ℕ} 0 1 = cc in absurd (omega arith)
         go true true z = record { parties = refl; count = refl; made = refl }
 
-    pub malformed : wellFormed calls ≡ false → Ends LatchRan.Malformed out
+    pub malformed : wellFormed isCall calls ≡ false → Ends LatchRan.Malformed out
     unfolding runIf
     malformed w = rw (passed .parties, passed .count, w) (refl, refl)
 
-    pub no-room : wellFormed calls ≡ true → length out / 7 < length calls / 2 → Ends LatchRan.NoRoom out
+    pub no-room : wellFormed isCall calls ≡ true → length out / 7 < length calls / 2 → Ends LatchRan.NoRoom out
     unfolding runIf
     no-room w l = rw (passed .parties, passed .count, w, lt-leb _ _ l) (refl, refl)
 
@@ -84,7 +85,7 @@ module _ (c n : ℕ) (calls out : List ℕ) where
     unfolding ReachedFits
     lasting = rw e (every-record-fits c n accepted)
 
-    pub done : (l : List ℕ) → wellFormed calls ≡ true → length calls / 2 ≤ length out / 7
+    pub done : (l : List ℕ) → wellFormed isCall calls ≡ true → length calls / 2 ≤ length out / 7
         → l ≡ answered (o .latch) (length calls / 2) calls out → Ends LatchRan.Done l
     unfolding runIf
     done l w m f =

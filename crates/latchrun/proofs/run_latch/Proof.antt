@@ -17,7 +17,7 @@ returns : tie.Need-returns
 returns c =
     let o = c .before in
     let a = o .before .before .before .args in
-    refused (a .count) (a .parties) (a .calls .now) _ _ (o .open-latch .ensures) (c .match .keys2)
+    refused (a .count) (a .parties) (a .calls .now) _ _ (o .open-latch .ensures .0) (c .match .keys2)
 
 well-formed-requires : tie.Need-well-formed-requires
 well-formed-requires c κs = search needs
@@ -31,7 +31,7 @@ returns-2 c =
     let w = c .before in
     let o = opened w in
     let a = o .before .before .before .args in
-    malformed (a .count) (a .parties) _ _ _ (o .open-latch .ensures) (w .before .enum-told .given .1)
+    malformed (a .count) (a .parties) _ _ _ (o .open-latch .ensures .0) (w .before .enum-told .given .1)
     (sym (w .well-formed .ensures) ∙ not-true _ (c .if1 .taken))
 
 returns-3 : tie.Need-returns-3
@@ -39,7 +39,7 @@ returns-3 c =
     let w = c .before .before in
     let o = opened w in
     let a = o .before .before .before .args in
-    no-room (a .count) (a .parties) _ _ _ (o .open-latch .ensures) (w .before .enum-told .given .1)
+    no-room (a .count) (a .parties) _ _ _ (o .open-latch .ensures .0) (w .before .enum-told .given .1)
     (sym (w .well-formed .ensures) ∙ not-false _ (c .before .if1 .left)) (c .if2 .taken)
 
 answer-calls-requires : tie.Need-answer-calls-requires
@@ -48,7 +48,7 @@ answer-calls-requires c κs =
     let w = e .before .before in
     let o = opened w in
     let a = o .before .before .before .args in (
-      lasting (a .count) (a .parties) (a .calls .now) (a .out .now) _ (o .open-latch .ensures)
+      lasting (a .count) (a .parties) (a .calls .now) (a .out .now) _ (o .open-latch .ensures .0)
           (w .before .enum-told .given .1),
       (omega arith, omega (arith, e .if2 .left)),
     )
@@ -62,7 +62,7 @@ returns-4 c =
     let w = e .before .before in
     let o = opened w in
     let a = o .before .before .before .args in
-    done (a .count) (a .parties) _ _ _ (o .open-latch .ensures) (w .before .enum-told .given .1) _
+    done (a .count) (a .parties) _ _ _ (o .open-latch .ensures .0) (w .before .enum-told .given .1) _
     (sym (w .well-formed .ensures) ∙ not-false _ (e .before .if1 .left)) (e .if2 .left)
     (c .before .before .answer-calls .ensures .1)
 

@@ -4,19 +4,20 @@ use native.Mathlib.Omega.{arith}
 use Prim.Native.Nat.{_-_, _/_}
 use lib.ListN.{length}
 use mathlib.Core.Path.{refl}
+use Rattle.run.proofs.Laws.Pairs.{Checked, odd, bad, good, all}
+use Rattle.latchrun.specs.Bytes.{isCall}
 use Rattle.latchrun.proofs.Laws.Codes.{under, over, a-code}
-use Rattle.latchrun.proofs.Laws.Pairs.{Checked, odd, bad, good, all}
 use Rattle.latchrun.proofs.well_formed.Statement.{statement}
 use Rattle.latchrun.proofs.well_formed.Tie as tie
 
 abbrev Inv-loop : tie.InvT-loop
-Inv-loop calls total i₀ i = Checked calls i
+Inv-loop calls total i₀ i = Checked isCall calls i
 
 abbrev μ-loop : tie.MeasureT-loop
 μ-loop calls total i₀ i = length calls / 2 - i
 
 returns : tie.Need-returns Inv-loop μ-loop
-returns c = odd _ (c .if1 .taken)
+returns c = odd isCall _ (c .if1 .taken)
 
 loop-holds : tie.Need-loop-holds Inv-loop μ-loop
 loop-holds c = record { within = omega arith; same = refl }
@@ -29,12 +30,12 @@ shared-slice-read-code c = search needs
 
 returns-2 : tie.Need-returns-2 Inv-loop μ-loop
 returns-2 c =
-    bad _ _ (c .before .before .before .loop .inv) (c .before .before .loop-test .taken)
+    bad isCall _ _ (c .before .before .before .loop .inv) (c .before .before .loop-test .taken)
     (under _ (c .if2 .taken))
 
 returns-3 : tie.Need-returns-3 Inv-loop μ-loop
 returns-3 c =
-    bad _ _ (c .before .before .before .before .loop .inv)
+    bad isCall _ _ (c .before .before .before .before .loop .inv)
     (c .before .before .before .loop-test .taken)
     (over _ (c .if3 .taken))
 
@@ -46,12 +47,12 @@ loop-less c = search needs
 
 loop-again : tie.Need-loop-again Inv-loop μ-loop
 loop-again c =
-    good _ _ (c .before .before .before .before .loop .inv)
+    good isCall _ _ (c .before .before .before .before .loop .inv)
     (c .before .before .before .loop-test .taken)
     (a-code _ (c .before .if2 .left) (c .if3 .left))
 
 returns-4 : tie.Need-returns-4 Inv-loop μ-loop
-returns-4 c = all _ _ (c .before .loop .inv) (c .before .before .if1 .left) (c .loop-test .left)
+returns-4 c = all isCall _ _ (c .before .loop .inv) (c .before .before .if1 .left) (c .loop-test .left)
 
 pub well-formed-spec : {M : Type 1} → statement M
 well-formed-spec =
