@@ -10,6 +10,7 @@ use lib.ListN.{length, getD, replicate}
 use Rattle.hub.specs.declared.answers.Answer.{Answer}
 use Rattle.hub.specs.declared.moves.Call.{Call}
 use Rattle.hub.specs.declared.opening.Opening.{Opening}
+use Rattle.hub.specs.declared.record.Outcome.{Outcome}
 use Rattle.hub.specs.declared.record.Figures.{Figures}
 use Rattle.hub.specs.declared.record.Hub.{Hub}
 use Rattle.hub.specs.declared.record.Phase.{Phase}
@@ -22,7 +23,8 @@ use Rattle.hub.specs.Counts.{countsOf, CountsAddUp}
 use Rattle.hub.specs.Demand3.{Accounts, Calm, Demand3, ReachedFits}
 use Rattle.hub.specs.Ledger.{Ledger, opened, phaseIn, enter, ledger, atCounter}
 use Rattle.hub.specs.Look.{look}
-use Rattle.hub.specs.Opening.{fresh, openingIf, opening, radiosDiffer}
+use Rattle.hub.specs.Opening.{fresh, opening, radiosDiffer, tests}
+use Rattle.hub.specs.Fits.{kindsFit}
 use Rattle.hub.specs.Phases.{isOneOf, isPlaceOf, isUnserved, holds, resumes, refuses}
 use Rattle.hub.specs.Queue.{Queue, phases}
 use Rattle.hub.specs.Queue as queue
@@ -31,6 +33,7 @@ use Rattle.hub.specs.Refinement.{Window, Shows, isSeven, heard, withoutS
 use Rattle.hub.specs.Ring.{PLACES, readSeat}
 use Rattle.hub.specs.Schedule.{run, answers, entries}
 use Rattle.hub.proofs.Laws.Bools.{first, second, if-true}
+use Rattle.hub.proofs.Laws.Opening.{by-opened, each-passed, ends, kinds-fit}
 use Rattle.hub.proofs.Laws.Lists.{weight-add, weight-map, weight-replicate, weight-same}
 use Rattle.hub.proofs.Laws.Phases.{every-phase}
 use Rattle.hub.proofs.Laws.Ranges.{sumFrom, sum-zero, sum-same, sum-split, sum-rotate}
@@ -56,27 +59,23 @@ pub record InRange (o : Opening) : Type 0 where
   pub permits : (1 ≤ o .permits) × (o .permits ≤ 32)
   pub parties : (1 ≤ o .parties) × (o .parties ≤ 32)
   pub differ : radiosDiffer o ≡ true
+  pub kinds : kindsFit o ≡ true
   pub hub : opening o .hub ≡ fresh o
 
 pub in-range : (o : Opening) → opening o .answer ≡ Answer.Opened → InRange o
-unfolding openingIf
-in-range o = go (upTo32 (o .permits)) (upTo32 (o .parties)) (radiosDiffer o) refl refl refl
+in-range o e =
+    let z = by-opened o _ _ (ends o (tests o)) e in
+    let each = each-passed o (z .0) in
+    record {
+      permits = range (o .permits) (each 0);
+      parties = range (o .parties) (each 1);
+      differ = each 2;
+      kinds = kinds-fit o (each 3) (each 4) (each 5);
+      hub = ap (λ (x : Outcome). x .hub) (z .1);
+    }
   where
     range : (x : ℕ) → upTo32 x ≡ true → (1 ≤ x) × (x ≤ 32)
     range x e = (leb-true 1 x (first (leb 1 x) _ e), leb-true x 32 (second (leb 1 x) _ e))
-
-    go : (a b d : Bool) → upTo32 (o .permits) ≡ a → upTo32 (o .parties) ≡ b → radiosDiffer o ≡ d
-        → openingIf a b d o .answer ≡ Answer.Opened → InRange o
-    go false b d x y z e = let i : _≡_ {A = ℕ} 0 1 = cc in let w : ⊥ = omega arith in absurd w
-    go true false d x y z e = let i : _≡_ {A = ℕ} 0 1 = cc in let w : ⊥ = omega arith in absurd w
-    go true true false x y z e = let i : _≡_ {A = ℕ} 0 1 = cc in let w : ⊥ = omega arith in absurd w
-    go true true true x y z e =
-        record {
-          permits = range (o .permits) x;
-          parties = range (o .parties) y;
-          differ = z;
-          hub = λ i. openingIf (x i) (y i) (z i) o .hub;
-        }
 
 -- A fresh record shows a fresh queue.
 fresh-tracks : (o : Opening) → 1 ≤ o .parties → o .parties ≤ PARTIES
@@ -287,6 +286,7 @@ module _ (o : Opening) (e : opening o .answer ≡ Answer.Opened) where
       (record {
         tracks = fresh-tracks o (start .parties .0) (start .parties .1);
         differ = unfold fresh in start .differ;
+        kinds = unfold fresh in start .kinds;
         radios = λ n. fresh-kept o (start .permits .1);
       })
 

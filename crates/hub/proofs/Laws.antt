@@ -6,6 +6,7 @@ pub mod Ranges
 pub mod Slots
 pub mod Seats
 pub mod Ring
+pub mod Kinds
 pub mod Opening
 pub mod Table
 pub mod Printed

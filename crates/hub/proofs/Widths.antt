@@ -16,7 +16,8 @@ use Rattle.hub.specs.declared.record.Place.{Place}
 use Rattle.hub.specs.declared.record.PlaceSlot.{PlaceSlot}
 use Rattle.hub.specs.Basics.{allFrom}
 use Rattle.hub.specs.Calls.{apply, called, checked, isFull, moveOf, tidied}
-use Rattle.hub.specs.Fits.{figuresClauses, figuresFit, fits, partyFits, placeFits, radiosFit}
+use Rattle.hub.specs.Fits.{figuresClauses, figuresFit, fits, kindsFit, partyFits, placeFits, radiosFit}
+use Rattle.hub.specs.Fits.{stateFits}
 use Rattle.hub.specs.Look.{look, seenBy}
 use Rattle.hub.specs.Moves.{Move, Refuse, Tell, Act, Put, Wake}
 use Rattle.hub.specs.Phases.{byTicket, byWaiter, ticketOf}
@@ -226,12 +227,13 @@ module _ (s : Sight) (few : s .party ≤ 255) where
 
 -- A caller that is not refused is below n, and n is at most 32.
 few-parties : (h : Hub) → fits h ≡ true → h .opening .parties ≤ 32
-unfolding fits figuresFit
+unfolding fits stateFits figuresFit
 few-parties h e =
     let parties = allFrom (partyFits h) 0 PARTIES in
     let places = allFrom (placeFits h) (h .oldest) PLACES in
     let f = figuresFit (h .opening) (h .figures) (h .oldest) in
-    let all = first f parties (first (f && parties) places (first (f && parties && places) (radiosFit h) e)) in
+    let state = first (stateFits h) (kindsFit (h .opening)) e in
+    let all = first f parties (first (f && parties) places (first (f && parties && places) (radiosFit h) state)) in
     let n = clause 1 (figuresClauses (h .opening) (h .figures) (h .oldest)) all in
     leb-true (h .opening .parties) 32 (second (leb 1 (h .opening .parties)) _ n)
 

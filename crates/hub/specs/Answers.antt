@@ -27,6 +27,9 @@ refusalCode Refusal.NotWaiting = 9
 refusalCode Refusal.NotCancellable = 10
 refusalCode Refusal.NotHolding = 11
 refusalCode Refusal.SameRadios = 14
+refusalCode Refusal.MiscountedKinds = 15
+refusalCode Refusal.UnknownKind = 16
+refusalCode Refusal.NoDesk = 17
 
 abbrev pub printed : Answer → Printed
 printed (Answer.Refused r) = plain (refusalCode r)

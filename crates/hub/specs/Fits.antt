@@ -16,7 +16,7 @@ use Rattle.hub.specs.declared.record.Place.the-variants.{Empty, Waiting 
 use Rattle.hub.specs.declared.record.Place.the-variants.{Cancelled, Refused}
 use Rattle.hub.specs.Basics.{allFrom, allOf, implies, upTo32}
 use Rattle.hub.specs.Look.{look}
-use Rattle.hub.specs.Opening.{radiosDiffer}
+use Rattle.hub.specs.Opening.{allPassed, kindTests, radiosDiffer}
 use Rattle.hub.specs.Phases.{byWaiter, isFree, isOneOf, isPlaceOf, ofRadios, stands, ticketOf}
 use Rattle.hub.specs.Radios.{radiosIn, radiosOf, rearranged}
 use Rattle.hub.specs.Record.{PARTIES, MAX-BEGUN, readSlot}
@@ -96,8 +96,15 @@ radiosFit h =
     && implies (h .opening .named)
     (rearranged (radiosIn (h .slots) (h .places) (h .pool)) (radiosOf (h .opening)))
 
--- All 32 parties, the places of all 256 tickets, and the radios.
-unfoldable pub fits : Hub → Bool
-fits h =
+-- A record whose kinds an opening is refused for does not fit.
+unfoldable pub kindsFit : Opening → Bool
+kindsFit o = allPassed (kindTests o)
+
+-- All but the kinds: all 32 parties, the places of all 256 tickets, and the radios.
+unfoldable pub stateFits : Hub → Bool
+stateFits h =
     figuresFit (h .opening) (h .figures) (h .oldest) && allFrom (partyFits h) 0 PARTIES
     && allFrom (placeFits h) (h .oldest) PLACES && radiosFit h
+
+unfoldable pub fits : Hub → Bool
+fits h = stateFits h && kindsFit (h .opening)

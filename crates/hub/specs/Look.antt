@@ -8,7 +8,7 @@ use Rattle.hub.specs.declared.record.Hub.{Hub}
 use Rattle.hub.specs.declared.record.PartySlot.{PartySlot}
 use Rattle.hub.specs.declared.record.PlaceSlot.{PlaceSlot}
 use Rattle.hub.specs.declared.record.Pool.{Pool}
-use Rattle.hub.specs.Kinds.{kindOf}
+use Rattle.hub.specs.Kinds.{kindIn}
 use Rattle.hub.specs.Phases.{byTicket, byWaiter}
 use Rattle.hub.specs.Radios.{handOf}
 use Rattle.hub.specs.Record.{emptySeat, freeSlot, readSlot}
@@ -20,7 +20,7 @@ seenBy slot seat f o q p =
     let a = byTicket emptySeat seat (slot p .phase) in
     record {
       party = p;
-      kind = kindOf p;
+      kind = kindIn (o .kinds) p;
       slot = slot p;
       seat = a;
       waiter = byWaiter freeSlot slot (a .place);

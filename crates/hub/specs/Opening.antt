@@ -1,8 +1,9 @@
--- Opening a hub, with refusals 2, 3 and 14.
+-- Opening a hub, with refusals 2, 3 and 14 to 17.
 use Prim.Native.Nat.{ℕ}
-use mathlib.Core.Bool.{Bool, true, false}
-use mathlib.Core.List.{List}
-use lib.ListN.{replicate}
+use mathlib.Core.Bool.{Bool, true, false, cond}
+use mathlib.Core.List.{List, [], _∷_, map}
+use lib.Dec.{eqb}
+use lib.ListN.{length, replicate}
 use lib.IntN.{pos}
 use Rattle.hub.specs.declared.answers.Answer.{Answer}
 use Rattle.hub.specs.declared.answers.Refusal.{Refusal}
@@ -11,18 +12,48 @@ use Rattle.hub.specs.declared.record.Figures.{Figures}
 use Rattle.hub.specs.declared.record.Hub.{Hub}
 use Rattle.hub.specs.declared.record.Outcome.{Outcome}
 use Rattle.hub.specs.declared.record.Pool.{Pool}
-use Rattle.hub.specs.Basics.{implies, upTo32}
+use Rattle.hub.specs.Basics.{allOf, implies, upTo32}
+use Rattle.hub.specs.Kinds.{builtIn, hasDesk, kindsKnown}
 use Rattle.hub.specs.Radios.{STORE, differ, radiosOf, padded}
 use Rattle.hub.specs.Record.{PARTIES, emptySeat, freeSlot}
 use Rattle.hub.specs.Ring.{PLACES}
 
--- Opening 01: K and n.
+-- Opening 01: K and n. Without kinds, here and in 02, it is the built-in table.
 abbrev pub sized : ℕ → ℕ → Opening
-sized k n = record { permits = k; parties = n; named = false; radios = replicate STORE 0 }
+sized k n =
+    record {
+      permits = k;
+      parties = n;
+      named = false;
+      radios = replicate STORE 0;
+      kinds = builtIn;
+      counted = true;
+    }
 
 -- Opening 02: K, n, and K radios.
 abbrev pub withRadios : ℕ → ℕ → List ℕ → Opening
-withRadios k n rs = record { permits = k; parties = n; named = true; radios = padded rs }
+withRadios k n rs =
+    record {
+      permits = k;
+      parties = n;
+      named = true;
+      radios = padded rs;
+      kinds = builtIn;
+      counted = true;
+    }
+
+-- Either of them with a house's own kinds. Those that are not 32 in number are not kept.
+abbrev pub withKinds : List ℕ → Opening → Opening
+withKinds ks o =
+    let whole = eqb (length ks) PARTIES in
+    record {
+      permits = o .permits;
+      parties = o .parties;
+      named = o .named;
+      radios = o .radios;
+      kinds = cond whole ks builtIn;
+      counted = whole;
+    }
 
 abbrev pub figuresAt : Opening → Figures
 figuresAt o =
@@ -58,16 +89,41 @@ nobody = sized 0 0
 abbrev pub notOpened : Refusal → Outcome
 notOpened r = record { answer = Answer.Refused r; hub = fresh nobody }
 
--- 2, then 3, then 14.
-unfoldable pub openingIf : Bool → Bool → Bool → Opening → Outcome
-openingIf false b d o = notOpened Refusal.BadPermits
-openingIf true false d o = notOpened Refusal.BadParties
-openingIf true true false o = notOpened Refusal.SameRadios
-openingIf true true true o = record { answer = Answer.Opened; hub = fresh o }
+-- A test of an opening, and what the opening is refused by if it fails.
+pub record Test : Type 0 where
+  pub passed : Bool
+  pub why : Refusal
+
+abbrev pub test : Bool → Refusal → Test
+test b r = record { passed = b; why = r }
+
+abbrev pub allPassed : List Test → Bool
+allPassed ts = allOf (map (λ (t : Test). t .passed) ts)
 
 -- No two radios of an opening are alike.
 unfoldable pub radiosDiffer : Opening → Bool
 radiosDiffer o = implies (o .named) (differ (radiosOf o))
 
+-- 15, 16, 17: all 32 kinds are looked at.
+abbrev pub kindTests : Opening → List Test
+kindTests o =
+    test (o .counted) Refusal.MiscountedKinds
+    ∷ test (kindsKnown (o .kinds)) Refusal.UnknownKind
+    ∷ test (hasDesk (o .kinds)) Refusal.NoDesk
+    ∷ []
+
+-- 2, 3 and 14 before them.
+abbrev pub tests : Opening → List Test
+tests o =
+    test (upTo32 (o .permits)) Refusal.BadPermits
+    ∷ test (upTo32 (o .parties)) Refusal.BadParties
+    ∷ test (radiosDiffer o) Refusal.SameRadios
+    ∷ kindTests o
+
+-- The first test that fails decides.
+unfoldable pub openingIf : List Test → Opening → Outcome
+openingIf [] o = record { answer = Answer.Opened; hub = fresh o }
+openingIf (t ∷ ts) o = cond (t .passed) (openingIf ts o) (notOpened (t .why))
+
 abbrev pub opening : Opening → Outcome
-opening o = openingIf (upTo32 (o .permits)) (upTo32 (o .parties)) (radiosDiffer o) o
+opening o = openingIf (tests o) o

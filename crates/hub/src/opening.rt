@@ -1,7 +1,10 @@
-// Opening a hub: "The counter, signed, K at opening", and refusals 2, 3 and 14.
+// Opening a hub: "The counter, signed, K at opening", and refusals 2, 3 and 14 to 17.
 
 use crate::answers::Answer;
 use crate::answers::Refusal;
+use crate::kinds::built_in;
+use crate::kinds::has_desk;
+use crate::kinds::kinds_known;
 use crate::record::Figures;
 use crate::record::Hub;
 use crate::record::Outcome;
@@ -11,9 +14,11 @@ use crate::slots::free_slot;
 ghost use mathlib.Core.Path.{_≡_};
 ghost use Rattle.hub.specs.Answers.{printed};
 ghost use Rattle.hub.specs.Basics.{upTo32};
+ghost use Rattle.hub.specs.Fits.{kindsFit};
 ghost use Prim.Native.Nat.{_≤_, _<_};
 ghost use lib.ListN.{take};
-ghost use Rattle.hub.specs.Opening.{figuresAt, fresh, notOpened, opening, poolAt, radiosDiffer, sized};
+ghost use Rattle.hub.specs.Opening.{figuresAt, fresh, kindTests, notOpened, opening, openingIf, poolAt};
+ghost use Rattle.hub.specs.Opening.{radiosDiffer, sized};
 ghost use Rattle.hub.specs.Radios.{differ};
 
 // What an opening asks for.
@@ -22,6 +27,8 @@ pub struct Opening {
     pub parties: u8, // n
     pub named: bool, // opening 02: each permit is a radio
     pub radios: [u8; 32], // the first K of them, of such an opening
+    pub kinds: [u8; 32], // of the parties; the built-in table if it gave none
+    pub counted: bool, // it gave 32 kinds, or none
 }
 
 // Opening 01: K and n.
@@ -33,6 +40,8 @@ pub fn sized(permits: u8, parties: u8) -> Opening
         parties,
         named: false,
         radios: [0; 32],
+        kinds: built_in(),
+        counted: true,
     }
 }
 
@@ -137,18 +146,60 @@ pub fn radios_differ(o: Opening) -> bool
     differ(radios, o.permits as usize)
 }
 
+// What the kinds of an opening are answered: 15, 16, 17, or that it is opened.
+fn kinds_answer(o: Opening) -> Answer
+    ensures { λ r. ⌜ r ≡ openingIf (kindTests o) o .answer ⌝ }
+{
+    if !o.counted {
+        return Answer::Refused(Refusal::MiscountedKinds);
+    }
+    let kinds = o.kinds;
+    if !kinds_known(kinds) {
+        return Answer::Refused(Refusal::UnknownKind);
+    }
+    if !has_desk(kinds) {
+        return Answer::Refused(Refusal::NoDesk);
+    }
+    Answer::Opened
+}
+
+// Do the kinds of a record fit?
+pub fn kinds_fit(o: Opening) -> bool
+    ensures { λ r. ⌜ r ≡ kindsFit o ⌝ }
+{
+    if !o.counted {
+        return false;
+    }
+    let kinds = o.kinds;
+    if !kinds_known(kinds) {
+        return false;
+    }
+    has_desk(kinds)
+}
+
+// What an opening is answered.
+pub fn opening_answer(o: Opening) -> Answer
+    ensures { λ r. ⌜ r ≡ opening o .answer ⌝ }
+{
+    if !up_to_32(o.permits) {
+        return Answer::Refused(Refusal::BadPermits);
+    }
+    if !up_to_32(o.parties) {
+        return Answer::Refused(Refusal::BadParties);
+    }
+    if !radios_differ(o) {
+        return Answer::Refused(Refusal::SameRadios);
+    }
+    kinds_answer(o)
+}
+
 // Opens a hub.
 pub fn open_hub(o: Opening) -> Outcome
     ensures { λ r. ⌜ (r ≡ opening o) × (printed (r .answer) ≡ printed (opening o .answer)) ⌝ }
 {
-    if !up_to_32(o.permits) {
-        return refused(Refusal::BadPermits);
-    }
-    if !up_to_32(o.parties) {
-        return refused(Refusal::BadParties);
-    }
-    if !radios_differ(o) {
-        return refused(Refusal::SameRadios);
+    let answer = opening_answer(o);
+    if let Answer::Refused(why) = answer {
+        return refused(why);
     }
     Outcome {
         answer: Answer::Opened,

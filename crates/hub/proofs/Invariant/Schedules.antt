@@ -228,6 +228,9 @@ refusal-code Refusal.NotWaiting = refl
 refusal-code Refusal.NotCancellable = refl
 refusal-code Refusal.NotHolding = refl
 refusal-code Refusal.SameRadios = refl
+refusal-code Refusal.MiscountedKinds = refl
+refusal-code Refusal.UnknownKind = refl
+refusal-code Refusal.NoDesk = refl
 
 abbrev pub entered : Ledger → Call → Answer → Ledger
 entered e c r = enter e (record { call = c; answer = printed r })

@@ -24,7 +24,7 @@ use Rattle.hub.specs.declared.record.Pool.{Pool}
 use Rattle.hub.specs.Answers.{Printed, printed}
 use Rattle.hub.specs.Basics.{count}
 use Rattle.hub.specs.Calls.{isFull, checked, moveOf, answerOf, apply, tidied, withPool, called}
-use Rattle.hub.specs.Fits.{fits}
+use Rattle.hub.specs.Fits.{fits, kindsFit}
 use Rattle.hub.specs.Ledger.{phaseIn}
 use Rattle.hub.specs.Look.{look, seenBy}
 use Rattle.hub.specs.Opening.{radiosDiffer}
@@ -276,6 +276,7 @@ module _ (k : ℕ) (h : Hub) (m : Queue) (r : Reached k h m) (c : Call) where
       record {
         tracks = t;
         differ = ap radiosDiffer o ∙ r .differ;
+        kinds = ap kindsFit o ∙ r .kinds;
         radios = λ n.
             let n′ = sym (ap (λ (x : Opening). x .named) o) ∙ n in
             called-kept h c n′ (r .radios n′);

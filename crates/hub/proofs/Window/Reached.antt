@@ -22,7 +22,7 @@ use Rattle.hub.specs.declared.record.Place.the-variants.{Cancelled, Refu
 use Rattle.hub.specs.declared.record.PlaceSlot.{PlaceSlot}
 use Rattle.hub.specs.Basics.{allOf, bit, implies, upTo32}
 use Rattle.hub.specs.Fits.{counterFits, figuresFit, inWindow, ticketFits, placeListed}
-use Rattle.hub.specs.Fits.{partyFits, standsAt, placeFits, radiosFit, fits}
+use Rattle.hub.specs.Fits.{partyFits, standsAt, placeFits, radiosFit, stateFits, fits}
 use Rattle.hub.specs.Ledger.{phaseIn}
 use Rattle.hub.specs.Look.{look, seenBy}
 use Rattle.hub.specs.Opening.{radiosDiffer}
@@ -260,12 +260,14 @@ radios-fit h d e =
     (all-true _ 0 256 (λ b x y. eq-eqb _ _ (e i .same b)))))
 
 pub reached-fits : (k : ℕ) (h : Hub) (m : Queue) → Reached k h m → 1 ≤ k → k ≤ 32 → fits h ≡ true
-unfolding fits
+unfolding fits stateFits
 reached-fits k h m r a b =
     let t = r .tracks in
     both _ _
     (both _ _
+    (both _ _
     (both _ _ (figures-fit k h m t a b)
     (all-true (partyFits h) 0 PARTIES (λ p i j. party-fits k h m t p)))
     (all-true (placeFits h) (h .oldest) PLACES (place-fits k h m t)))
-    (radios-fit h (r .differ) (r .radios))
+    (radios-fit h (r .differ) (r .radios)))
+    (r .kinds)

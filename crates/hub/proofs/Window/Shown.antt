@@ -14,7 +14,8 @@ use Rattle.hub.specs.declared.record.Phase.{Phase}
 use Rattle.hub.specs.declared.record.Place.{Place}
 use Rattle.hub.specs.declared.record.PlaceSlot.{PlaceSlot}
 use Rattle.hub.specs.Basics.{bit}
-use Rattle.hub.specs.Kinds.{kindOf}
+use Rattle.hub.specs.Fits.{kindsFit}
+use Rattle.hub.specs.Kinds.{kindIn}
 use Rattle.hub.specs.Ledger.{phaseIn}
 use Rattle.hub.specs.Look.{look, seenBy}
 use Rattle.hub.specs.Opening.{radiosDiffer}
@@ -45,6 +46,7 @@ pub record Tracks (k : ℕ) (h : Hub) (m : Queue) : Type 0 where
 pub record Reached (k : ℕ) (h : Hub) (m : Queue) : Type 0 where
   pub tracks : Tracks k h m
   pub differ : radiosDiffer (h .opening) ≡ true
+  pub kinds : kindsFit (h .opening) ≡ true
   pub radios : h .opening .named ≡ true → Kept h
 
 module _ (k : ℕ) (h : Hub) (m : Queue) (r : Tracks k h m) where
@@ -150,7 +152,7 @@ module _ (k : ℕ) (h : Hub) (m : Queue) (r : Tracks k h m) where
   look-same p = λ i.
       record {
         party = p;
-        kind = kindOf p;
+        kind = kindIn (r .shows .opening i .kinds) p;
         slot = readSlot (r .shows .slots i) p;
         seat = seat-same p i;
         waiter = byWaiter freeSlot (readSlot (r .shows .slots i)) (seat-same p i .place);
