@@ -144,22 +144,38 @@ pub mapped-size : {A B : Type 0} (f : A → B) (l : List A) (n : ℕ) → length
     → length l ≡ n
 mapped-size f l n e = sym (length-map l f) ∙ e
 
--- The whole: the figures, the parties, the places, the radios.
+-- The whole: the figures and the kinds, the parties, the places, the radios.
 module _ (h : Hub) where
-  pub figures-fail : figuresFit (h .opening) (h .figures) (h .oldest) ≡ false → false ≡ fits h
+  abbrev pub outlineFits : Bool
+  outlineFits = figuresFit (h .opening) (h .figures) (h .oldest) && kindsFit (h .opening)
+
+  no-state : (a b c d : Bool) → false ≡ (false && a && b && c) && d
+  no-state a b c d = refl
+
+  state-and-kinds : {a b : Bool} → a ≡ stateFits h → b ≡ kindsFit (h .opening) → a && b ≡ fits h
   unfolding fits
-  figures-fail e = rw e
+  state-and-kinds e f = λ i. e i && f i
+
+  pub outline-fails : outlineFits ≡ false → false ≡ fits h
+  unfolding fits stateFits
+  outline-fails e = go (figuresFit (h .opening) (h .figures) (h .oldest)) refl
+    where
+      go : (b : Bool) → figuresFit (h .opening) (h .figures) (h .oldest) ≡ b → false ≡ fits h
+      go true i = rw (sym (ap (λ (b : Bool). b && kindsFit (h .opening)) i) ∙ e, and-false)
+      go false i = rw i
 
   pub parties-fail : false ≡ allFrom (partyFits h) 0 PARTIES → false ≡ fits h
-  unfolding fits
+  unfolding fits stateFits
   parties-fail e = rw (sym e, and-false)
 
   pub places-fail : false ≡ allFrom (placeFits h) (h .oldest) PLACES → false ≡ fits h
-  unfolding fits
+  unfolding fits stateFits
   places-fail e = rw (sym e, and-false)
 
-  pub radios-left : {r : Bool} → figuresFit (h .opening) (h .figures) (h .oldest) ≡ true
+  pub radios-left : {r : Bool} → outlineFits ≡ true
       → true ≡ allFrom (partyFits h) 0 PARTIES → true ≡ allFrom (placeFits h) (h .oldest) PLACES
       → r ≡ radiosFit h → r ≡ fits h
-  unfolding fits
-  radios-left e p q i = rw (e, sym p, sym q) i
+  unfolding fits stateFits
+  radios-left {r} e p q i =
+      rw (first (figuresFit (h .opening) (h .figures) (h .oldest)) _ e, sym p, sym q, second _ (kindsFit (h .opening)) e)
+      (i ∙ sym (and-true _))
