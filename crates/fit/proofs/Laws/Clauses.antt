@@ -18,7 +18,7 @@ use Rattle.hub.specs.declared.record.PartySlot.{PartySlot}
 use Rattle.hub.specs.declared.record.PlaceSlot.{PlaceSlot}
 use Rattle.hub.specs.Basics.{allFrom, allOf, implies}
 use Rattle.hub.specs.Fits.{figuresClauses, figuresFit, inWindow, ticketFits, placeListed}
-use Rattle.hub.specs.Fits.{fits, partyFits, standsAt, placeFits, radiosFit}
+use Rattle.hub.specs.Fits.{fits, kindsFit, partyFits, standsAt, placeFits, radiosFit, stateFits}
 use Rattle.hub.specs.Look.{seenBy}
 use Rattle.hub.specs.Phases.{byTicket, byWaiter, isFree, isOneOf, ofRadios, ticketOf}
 use Rattle.hub.specs.Radios.{STORE}
@@ -26,7 +26,7 @@ use Rattle.hub.specs.Record.{PARTIES, MAX-BEGUN, emptySeat, freeSlot, readSlot}
 use Rattle.hub.specs.Ring.{PLACES, readPlace, readSeat}
 use Rattle.hub.proofs.record.Phase as phase
 use Rattle.hub.proofs.record.Place as place
-use Rattle.hub.proofs.Laws.Bools.{clause, second}
+use Rattle.hub.proofs.Laws.Bools.{clause, first, second}
 use Rattle.hub.proofs.Laws.Phases.{phases-alike, phase-arm, place-arm, allBut}
 use Rattle.fit.specs.Window.{ticketAt}
 use Rattle.fit.proofs.Laws.Ranges.{index-of}
@@ -149,13 +149,6 @@ module _ (h : Hub) where
   abbrev pub outlineFits : Bool
   outlineFits = figuresFit (h .opening) (h .figures) (h .oldest) && kindsFit (h .opening)
 
-  no-state : (a b c d : Bool) → false ≡ (false && a && b && c) && d
-  no-state a b c d = refl
-
-  state-and-kinds : {a b : Bool} → a ≡ stateFits h → b ≡ kindsFit (h .opening) → a && b ≡ fits h
-  unfolding fits
-  state-and-kinds e f = λ i. e i && f i
-
   pub outline-fails : outlineFits ≡ false → false ≡ fits h
   unfolding fits stateFits
   outline-fails e = go (figuresFit (h .opening) (h .figures) (h .oldest)) refl
@@ -176,6 +169,7 @@ module _ (h : Hub) where
       → true ≡ allFrom (partyFits h) 0 PARTIES → true ≡ allFrom (placeFits h) (h .oldest) PLACES
       → r ≡ radiosFit h → r ≡ fits h
   unfolding fits stateFits
-  radios-left {r} e p q i =
-      rw (first (figuresFit (h .opening) (h .figures) (h .oldest)) _ e, sym p, sym q, second _ (kindsFit (h .opening)) e)
-      (i ∙ sym (and-true _))
+  radios-left e p q i =
+      let f = figuresFit (h .opening) (h .figures) (h .oldest) in
+      let k = kindsFit (h .opening) in
+      rw (first f k e, sym p, sym q, second f k e) (i ∙ sym (and-true (radiosFit h)))
