@@ -49,9 +49,10 @@ pub fn call(mut hub: Hub, op: Op, party: u8) -> Outcome
     let hands = hub.pool.hands;
     let radio = hands[p];
     let kinds = hub.opening.kinds;
+    let kind = kinds[p];
     let s = Sight {
         party,
-        kind: kinds[p],
+        kind,
         slot,
         seat,
         waiter,
