@@ -47,6 +47,7 @@ pub fn answer_requests(hub: Hub, requests: &[u8], count: usize, form: bool, out:
     let mut places = hub.places;
     let mut slots = hub.slots;
     let mut pool = hub.pool;
+    let kinds = opening.kinds;
     let pairs = pairs::table();
     let width = reply_size(form);
     let mut i: usize = 0;
@@ -69,7 +70,7 @@ pub fn answer_requests(hub: Hub, requests: &[u8], count: usize, form: bool, out:
         let q = waiter_at(seat);
         let near = slots[(q % 32) as usize];
         let waiter = slot_within(q, near);
-        let kind = opening.kinds[own];
+        let kind = kinds[own];
         let radio = pool.hands[own];
         let op = op_of(code);
         let full = full_for(op, oldest, figures.issued, slots);
