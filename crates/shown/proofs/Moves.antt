@@ -127,7 +127,7 @@ module _ (h : Hub) (l : Line) (r : AtRest h) (g : Sound l) (s : Seen h l) (p : �
       record {
         answer = refl;
         woken = refl;
-        steps = ap₂ (λ (b c : Bool). cond c (toCounter b) TO-WAIT) (sym (s .opened .radios)) (sym e);
+        steps = ap₂ (λ (b c : Bool). cond c (toCounter b) TO-WAIT) (sym (s .opened .named)) (sym e);
         seen =
             other-holders _ l (s .opened) (set (phases h) p Phase.Holding)
             (write-phase (h .slots) p _) (set (l .holding) p true) (holding-set Phase.Holding)
@@ -181,7 +181,7 @@ module _ (h : Hub) (l : Line) (r : AtRest h) (g : Sound l) (s : Seen h l) (p : �
       record {
         answer = refl;
         woken = ap (λ (c : Bool). cond c (nextWaiter l) 0xFF) (sym e);
-        steps = ap₂ (λ (b c : Bool). cond c TO-HAND-OVER (toCounter b)) (sym (s .opened .radios)) (sym e);
+        steps = ap₂ (λ (b c : Bool). cond c TO-HAND-OVER (toCounter b)) (sym (s .opened .named)) (sym e);
         seen =
             other-holders _ l (s .opened) (set (phases h) p Phase.Free)
             (write-phase (h .slots) p _) (set (l .holding) p false) (holding-set Phase.Free)

@@ -26,12 +26,11 @@ use Rattle.shown.proofs.Parties.{parties-bits, parties-count}
 use Rattle.shown.proofs.Waiters.{among-waiters, is-first, nobody-waits}
 use Rattle.shown.proofs.Rest.{phases, apart, between, calm, free-at-rest, nextAt, nobody, next}
 
--- A line has K, n, whether there are radios, and the kinds from an opening o. (It is stated over its fields:
--- no move changes them.)
-pub record OpenedAs (o : Opening) (k n : ℕ) (named : Bool) (ks : List ℕ) : Type 0 where
+-- K, n, whether there are radios, and the kinds are those of an opening: what no move of a line changes.
+pub record OpenedAs (o : Opening) (k n : ℕ) (b : Bool) (ks : List ℕ) : Type 0 where
   pub permits : k ≡ o .permits
   pub parties : n ≡ o .parties
-  pub radios : named ≡ o .named
+  pub named : b ≡ o .named
   pub kinds : ks ≡ o .kinds
 
 abbrev pub SameOpening : Opening → Line → Type 0

@@ -52,7 +52,7 @@ fresh-seen : (o : Opening) → Seen (fresh o) (openedLine o)
 unfolding fresh openedLine isOneOf waitersOf waitersFrom waiters
 fresh-seen o =
     record {
-      opened = record { permits = refl; parties = refl; radios = refl; kinds = refl };
+      opened = record { permits = refl; parties = refl; named = refl; kinds = refl };
       holding = refl;
       waiters = refl;
     }
