@@ -6,7 +6,6 @@ mod admission; // what is answered before the table is asked
 
 use admission::admit;
 use admission::op_of;
-use hub::kinds;
 use hub::moves::Sight;
 use hub::record::Hub;
 use hub::record::Place;
@@ -48,7 +47,6 @@ pub fn answer_requests(hub: Hub, requests: &[u8], count: usize, form: bool, out:
     let mut places = hub.places;
     let mut slots = hub.slots;
     let mut pool = hub.pool;
-    let kinds = kinds::table();
     let pairs = pairs::table();
     let width = reply_size(form);
     let mut i: usize = 0;
@@ -71,7 +69,7 @@ pub fn answer_requests(hub: Hub, requests: &[u8], count: usize, form: bool, out:
         let q = waiter_at(seat);
         let near = slots[(q % 32) as usize];
         let waiter = slot_within(q, near);
-        let kind = kinds[own];
+        let kind = opening.kinds[own];
         let radio = pool.hands[own];
         let op = op_of(code);
         let full = full_for(op, oldest, figures.issued, slots);

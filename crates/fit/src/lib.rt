@@ -1,6 +1,7 @@
 // Does a record fit? The check of every clause, for any value of the type.
 
 use hub::opening::Opening;
+use hub::opening::kinds_fit;
 use hub::opening::up_to_32;
 use hub::phases::ticket;
 use hub::record::Figures;
@@ -13,7 +14,7 @@ ghost use mathlib.Core.Bool.{_&&_};
 ghost use Prim.Native.Nat.{_≤_, _<_};
 ghost use Rattle.hub.specs.Basics.{implies};
 ghost use Rattle.hub.specs.Fits.{counterFits, figuresFit, inWindow, ticketFits, placeListed};
-ghost use Rattle.hub.specs.Fits.{standsAt};
+ghost use Rattle.hub.specs.Fits.{kindsFit, standsAt};
 ghost use Rattle.hub.specs.Phases.{ofRadios};
 ghost use Rattle.fit.specs.Window.{ticketAt};
 
@@ -154,6 +155,16 @@ pub fn stands_at(phase: Phase, t: u32) -> bool
     }
 }
 
+// What is asked of the record apart from its parties, places and radios.
+fn figures_and_kinds_fit(opening: Opening, figures: Figures, oldest: u32) -> bool
+    ensures { λ r. ⌜ r ≡ figuresFit opening figures oldest && kindsFit opening ⌝ }
+{
+    if !figures_fit(opening, figures, oldest) {
+        return false;
+    }
+    kinds_fit(opening)
+}
+
 // The ticket whose place is at index i.
 pub fn ticket_at(oldest: u32, i: usize) -> u32
     requires { ⌜ (oldest ≤ 1000000) × (i < 256) ⌝ }
@@ -171,7 +182,7 @@ pub fn fits(hub: Hub) -> bool
     let opening = hub.opening;
     let figures = hub.figures;
     let oldest = hub.oldest;
-    if !figures_fit(opening, figures, oldest) {
+    if !figures_and_kinds_fit(opening, figures, oldest) {
         return false;
     }
     let n = opening.parties as usize;

@@ -57,7 +57,7 @@ pub fn answer_calls(latch: Latch, calls: &[u8], count: usize, out: &mut [u8]) ->
     let mut oldest = latch.oldest;
     let mut places = latch.places;
     let mut slots = latch.slots;
-    let kinds = kinds::table();
+    let kinds = kinds::built_in();
     let mut i: usize = 0;
     while i < count {
         let from = 2 * i;

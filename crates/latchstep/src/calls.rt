@@ -4,7 +4,8 @@
 use crate::reclaim::reclaim;
 use hub::answers::Answer;
 use hub::answers::Refusal;
-use hub::kinds::kind;
+use hub::kinds::built_in;
+use hub::kinds::kind_in;
 use hub::record::Hub;
 use hub::slots::empty_seat;
 use latch::moves::LatchOp;
@@ -52,7 +53,7 @@ pub fn call(mut latch: Latch, op: LatchOp, party: u8) -> LatchOutcome
     let figures = latch.figures;
     let s = LatchSight {
         party,
-        kind: kind(party),
+        kind: kind_in(built_in(), party),
         slot,
         seat,
         waiter,

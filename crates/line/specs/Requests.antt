@@ -3,12 +3,12 @@
 use Prim.Native.Nat.{ℕ, _+_, _%_}
 use mathlib.Core.Bool.{Bool, true, false, cond, not, _&&_, _||_}
 use mathlib.Core.List.{List, [], _∷_}
-use lib.Dec.{eqb, ltb}
-use lib.ListN.{length}
+use lib.Dec.{eqb, leb, ltb}
+use lib.ListN.{drop, length, take}
 use Rattle.hub.specs.declared.moves.Call.{Call}
 use Rattle.line.specs.declared.request.Header.{Header}
 use Rattle.hub.specs.declared.opening.Opening.{Opening}
-use Rattle.hub.specs.Opening.{sized, withRadios}
+use Rattle.hub.specs.Opening.{sized, withKinds, withRadios}
 use Rattle.line.specs.Frame.{isCall, opOf, codeOf}
 use Rattle.line.specs.Hex.{isDigit, spelled}
 
@@ -35,12 +35,17 @@ bytesOf [] = []
 bytesOf (a ∷ []) = []
 bytesOf (a ∷ b ∷ l) = spelled a b ∷ bytesOf l
 
--- An opening is its code, K, n, and behind them nothing if it is 01, K radios if it is 02. K is what the
--- line says, legal or not.
+-- An opening that is given kinds: the bytes that follow its others. Given none, it has the built-in table.
+unfoldable pub givenKinds : List ℕ → Opening → Opening
+givenKinds [] o = o
+givenKinds (k ∷ ks) o = withKinds (k ∷ ks) o
+
+-- An opening is its code, K, n, and K radios if it is 02; any more bytes are kinds, fewer are malformed. K is
+-- what the line says, legal or not.
 unfoldable pub openingIn : ℕ → ℕ → ℕ → List ℕ → Request
 openingIn c k n l =
-    cond (eqb c 0x01 && eqb (length l) 0) (toOpen (sized k n))
-    (cond (eqb c 0x02 && eqb (length l) k) (toOpen (withRadios k n l)) malformed)
+    cond (eqb c 0x01) (toOpen (givenKinds l (sized k n)))
+    (cond (eqb c 0x02 && leb k (length l)) (toOpen (givenKinds (drop k l) (withRadios k n (take k l)))) malformed)
 
 -- A call is two bytes, and what is longer may be an opening; no code, another code or another
 -- length is malformed.
@@ -57,7 +62,7 @@ spelledBy l = cond (unreadable l) [] (bytesOf l)
 unfoldable pub requestOf : List ℕ → Request
 requestOf l = requested (spelledBy l)
 
--- How many bytes an opening of code c with K has; 0 if the code is none of an opening.
+-- How many bytes an opening of code c with K has without kinds; 0 if the code is none of an opening.
 abbrev pub frameSize : ℕ → ℕ → ℕ
 frameSize c k = cond (eqb c 0x01) 3 (cond (eqb c 0x02) (3 + k) 0)
 

@@ -30,6 +30,9 @@ pub fn refusal_code(why: Refusal) -> u8
         Refusal::NotCancellable => 10,
         Refusal::NotHolding => 11,
         Refusal::SameRadios => 14,
+        Refusal::MiscountedKinds => 15,
+        Refusal::UnknownKind => 16,
+        Refusal::NoDesk => 17,
     }
 }
 

@@ -2,7 +2,6 @@
 // takes until everybody is at rest again. The steps are not walked: what they come to is stored. The record's
 // arrays and figures are locals meanwhile, altered in place, as in the crate batch; and no record is checked.
 
-use hub::kinds;
 use hub::record::Hub;
 use hub::record::Phase;
 use hub::record::Place;
@@ -49,7 +48,6 @@ pub fn perform_operations(hub: Hub, operations: &[u8], out: &mut [u8])
     let mut places = hub.places;
     let mut slots = hub.slots;
     let mut pool = hub.pool;
-    let kinds = kinds::table();
     let count = operations.len() / 2;
     let mut i: usize = 0;
     while i < count {
@@ -66,7 +64,7 @@ pub fn perform_operations(hub: Hub, operations: &[u8], out: &mut [u8])
         let slot = slots[own];
         let t = place_for(code, slot, figures);
         let seat = places[t];
-        let kind = kinds[own];
+        let kind = opening.kinds[own];
         let full = is_full_for(code, oldest, figures.issued, slots);
         let s = Seen {
             party,

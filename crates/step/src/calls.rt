@@ -5,7 +5,6 @@ use crate::reclaim::reclaim;
 use fit::fits;
 use hub::answers::Answer;
 use hub::answers::Refusal;
-use hub::kinds::kind;
 use hub::moves::Op;
 use hub::moves::Sight;
 use hub::record::Hub;
@@ -49,9 +48,11 @@ pub fn call(mut hub: Hub, op: Op, party: u8) -> Outcome
     let figures = hub.figures;
     let hands = hub.pool.hands;
     let radio = hands[p];
+    let kinds = hub.opening.kinds;
+    let kind = kinds[p];
     let s = Sight {
         party,
-        kind: kind(party),
+        kind,
         slot,
         seat,
         waiter,

@@ -19,7 +19,7 @@ use Rattle.hub.specs.declared.record.PlaceSlot.{PlaceSlot}
 use Rattle.hub.specs.declared.record.Pool.{Pool}
 use Rattle.hub.specs.Answers.{Printed, printed}
 use Rattle.hub.specs.Calls.{answerOf, apply, isFull, ringOf, withPool, withRing}
-use Rattle.hub.specs.Kinds.{kindOf}
+use Rattle.hub.specs.Kinds.{kindIn}
 use Rattle.hub.specs.Look.{look}
 use Rattle.hub.specs.Moves.{Move}
 use Rattle.hub.specs.Phases.{ticketOf}
@@ -250,7 +250,7 @@ sight c = sightOf (hub (head (entered c))) (party (head (entered c))) (seat c) (
 effect-is : (c : Decided)
     → let h = head (entering c) in
     c .decide-by .result ≡ effectOf (decide (op h) (full h) (sight (seen c))) (sight (seen c))
-unfolding readSlot kindOf handOf
+unfolding readSlot kindIn handOf
 effect-is c =
     let h = head (entering c) in
     let s : ℕ → Sight = λ k. of-kind k (sight (seen c)) in

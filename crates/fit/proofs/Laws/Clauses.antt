@@ -18,7 +18,7 @@ use Rattle.hub.specs.declared.record.PartySlot.{PartySlot}
 use Rattle.hub.specs.declared.record.PlaceSlot.{PlaceSlot}
 use Rattle.hub.specs.Basics.{allFrom, allOf, implies}
 use Rattle.hub.specs.Fits.{figuresClauses, figuresFit, inWindow, ticketFits, placeListed}
-use Rattle.hub.specs.Fits.{fits, partyFits, standsAt, placeFits, radiosFit}
+use Rattle.hub.specs.Fits.{fits, kindsFit, partyFits, standsAt, placeFits, radiosFit, stateFits}
 use Rattle.hub.specs.Look.{seenBy}
 use Rattle.hub.specs.Phases.{byTicket, byWaiter, isFree, isOneOf, ofRadios, ticketOf}
 use Rattle.hub.specs.Radios.{STORE}
@@ -26,7 +26,7 @@ use Rattle.hub.specs.Record.{PARTIES, MAX-BEGUN, emptySeat, freeSlot, readSlot}
 use Rattle.hub.specs.Ring.{PLACES, readPlace, readSeat}
 use Rattle.hub.proofs.record.Phase as phase
 use Rattle.hub.proofs.record.Place as place
-use Rattle.hub.proofs.Laws.Bools.{clause, second}
+use Rattle.hub.proofs.Laws.Bools.{clause, first, second}
 use Rattle.hub.proofs.Laws.Phases.{phases-alike, phase-arm, place-arm, allBut}
 use Rattle.fit.specs.Window.{ticketAt}
 use Rattle.fit.proofs.Laws.Ranges.{index-of}
@@ -144,22 +144,32 @@ pub mapped-size : {A B : Type 0} (f : A → B) (l : List A) (n : ℕ) → length
     → length l ≡ n
 mapped-size f l n e = sym (length-map l f) ∙ e
 
--- The whole: the figures, the parties, the places, the radios.
+-- The whole: the figures and the kinds, the parties, the places, the radios.
 module _ (h : Hub) where
-  pub figures-fail : figuresFit (h .opening) (h .figures) (h .oldest) ≡ false → false ≡ fits h
-  unfolding fits
-  figures-fail e = rw e
+  abbrev pub outlineFits : Bool
+  outlineFits = figuresFit (h .opening) (h .figures) (h .oldest) && kindsFit (h .opening)
+
+  pub outline-fails : outlineFits ≡ false → false ≡ fits h
+  unfolding fits stateFits
+  outline-fails e = go (figuresFit (h .opening) (h .figures) (h .oldest)) refl
+    where
+      go : (b : Bool) → figuresFit (h .opening) (h .figures) (h .oldest) ≡ b → false ≡ fits h
+      go true i = rw (sym (ap (λ (b : Bool). b && kindsFit (h .opening)) i) ∙ e, and-false)
+      go false i = rw i
 
   pub parties-fail : false ≡ allFrom (partyFits h) 0 PARTIES → false ≡ fits h
-  unfolding fits
+  unfolding fits stateFits
   parties-fail e = rw (sym e, and-false)
 
   pub places-fail : false ≡ allFrom (placeFits h) (h .oldest) PLACES → false ≡ fits h
-  unfolding fits
+  unfolding fits stateFits
   places-fail e = rw (sym e, and-false)
 
-  pub radios-left : {r : Bool} → figuresFit (h .opening) (h .figures) (h .oldest) ≡ true
+  pub radios-left : {r : Bool} → outlineFits ≡ true
       → true ≡ allFrom (partyFits h) 0 PARTIES → true ≡ allFrom (placeFits h) (h .oldest) PLACES
       → r ≡ radiosFit h → r ≡ fits h
-  unfolding fits
-  radios-left e p q i = rw (e, sym p, sym q) i
+  unfolding fits stateFits
+  radios-left e p q i =
+      let f = figuresFit (h .opening) (h .figures) (h .oldest) in
+      let k = kindsFit (h .opening) in
+      rw (first f k e, sym p, sym q, second f k e) (i ∙ sym (and-true (radiosFit h)))

@@ -9,10 +9,10 @@ use native.Mathlib.Omega.{arith}
 use lib.ListN.{length}
 use Rattle.hub.specs.declared.record.Hub.{Hub}
 use Rattle.hub.specs.Basics.{allFrom}
-use Rattle.hub.specs.Fits.{figuresFit, fits, partyFits, placeFits, radiosFit, standsAt}
+use Rattle.hub.specs.Fits.{figuresFit, fits, kindsFit, partyFits, placeFits, radiosFit, standsAt}
 use Rattle.hub.specs.Record.{readSlot}
 use Rattle.hub.specs.Ring.{readSeat}
-use Rattle.hub.proofs.Laws.Bools.{never}
+use Rattle.hub.proofs.Laws.Bools.{first, never}
 use Rattle.pool.proofs.Laws.Fits.{unnamed-fit}
 use Rattle.fit.specs.Window.{ticketAt}
 use Rattle.fit.proofs.Laws.Bools.{failed, passed}
@@ -20,7 +20,7 @@ use Rattle.fit.proofs.Laws.Ranges.{Left, one-fails, one-passes, none-le
 use Rattle.fit.proofs.Laws.Clauses.{oldest-small, parties-few, permits-few, mapped-size}
 use Rattle.fit.proofs.Laws.Clauses.{party-test, waiting-test, free-fits, past-parties}
 use Rattle.fit.proofs.Laws.Clauses.{waited, not-waited, past-slots}
-use Rattle.fit.proofs.Laws.Clauses.{figures-fail, parties-fail, places-fail, radios-left}
+use Rattle.fit.proofs.Laws.Clauses.{outline-fails, outlineFits, parties-fail, places-fail, radios-left}
 use Rattle.fit.proofs.fits.Statement.{statement}
 use Rattle.fit.proofs.fits.Tie as tie
 
@@ -102,8 +102,11 @@ hub5 c = hub (loop (turn5 c))
 abbrev index : At tie.At-loop5 → ℕ
 index c = 8 * turn5 c .loop3 .j + c .loop5 .k
 
+outline : (c : At tie.At-loop) → outlineFits (hub c) ≡ true
+outline c = passed (c .before .before .before .figures-and-kinds-fit .ensures) (c .before .before .if1 .left)
+
 figures : (c : At tie.At-loop) → figuresFit (hub c .opening) (hub c .figures) (hub c .oldest) ≡ true
-figures c = passed (c .before .before .before .figures-fit .ensures) (c .before .before .if1 .left)
+figures c = first _ (kindsFit (hub c .opening)) (outline c)
 
 -- No party below n is past the slots, and no sum with the oldest ticket past 32 bits.
 few : (c : At tie.At-loop) → hub c .opening .parties ≤ 32
@@ -151,11 +154,11 @@ stood c =
     ∙ waited (hub5 (turn c)) (index (turn c)) (omega arith) _
     (c .before .before .before .before .before .place .given .1)
 
-figures-fit-requires : At tie.Need-figures-fit-requires
-figures-fit-requires c κs = search needs
+figures-and-kinds-fit-requires : At tie.Need-figures-and-kinds-fit-requires
+figures-and-kinds-fit-requires c κs = search needs
 
 returns : At tie.Need-returns
-returns c = figures-fail _ (failed (c .before .figures-fit .ensures) (c .if1 .taken))
+returns c = outline-fails _ (failed (c .before .figures-and-kinds-fit .ensures) (c .if1 .taken))
 
 cast-n : At tie.Need-cast-n
 cast-n c = search needs
@@ -426,7 +429,7 @@ loop3-again-2 c =
 passes : (l : At tie.At-loop3) → 32 ≤ l .loop3 .j → {r : Bool} → r ≡ radiosFit (hub (loop l)) → r ≡ fits (hub (loop l))
 passes l i e =
     let q = l .before .before .before in
-    radios-left _ (figures (loop l))
+    radios-left _ (outline (loop l))
     (sym (not-false _ (l .before .if4 .left))
     ∙ none-left _ 32 _ (q .loop2 .free) _ (q .loop2 .inv .1) (omega arith))
     (none-left _ 256 _ true _ (l .loop3 .inv) (omega arith)) e
@@ -454,7 +457,7 @@ fits-spec =
     μ-loop5
     Inv-loop3
     μ-loop3
-    figures-fit-requires
+    figures-and-kinds-fit-requires
     returns
     cast-n
     loop-holds

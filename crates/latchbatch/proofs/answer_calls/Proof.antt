@@ -11,7 +11,7 @@ use Prim.Native.Nat.{ℕ, _+_, _-_, _*_, _%_, _≤_, _<_}
 use lib.ListN.{length, getD, set, length-map}
 use Rattle.hub.specs.declared.record.PlaceSlot.{PlaceSlot}
 use Rattle.hub.specs.Answers.{Printed, printed}
-use Rattle.hub.specs.Kinds.{kindOf}
+use Rattle.hub.specs.Kinds.{kindIn}
 use Rattle.hub.specs.Phases.{ticketOf}
 use Rattle.hub.specs.Ring.{PLACES, Ring, readSeat, writeSeat, skip, retire}
 use Rattle.line.specs.Frame.{frameOf, paper}
@@ -203,7 +203,7 @@ sight c = sightOf (latch (head (entered c))) (party (head (entered c))) (seat c)
 effect-is : (c : At tie.After-decide-by)
     → let h = head (entering c) in
     c .decide-by .result ≡ effectOf (decide (op h) (full h) (sight (seen c))) (sight (seen c))
-unfolding readSlot kindOf
+unfolding readSlot kindIn
 effect-is c =
     let h = head (entering c) in
     let s : ℕ → LatchSight = λ k. sightBy k (latch h) (party h) (seat (seen c)) (waiter (seen c)) in

@@ -167,6 +167,9 @@ refused-keeps Refusal.NotWaiting = refl
 refused-keeps Refusal.NotCancellable = refl
 refused-keeps Refusal.NotHolding = refl
 refused-keeps Refusal.SameRadios = refl
+refused-keeps Refusal.MiscountedKinds = refl
+refused-keeps Refusal.UnknownKind = refl
+refused-keeps Refusal.NoDesk = refl
 
 -- What one call leads to: the invariant, the ledger's agreement, and nobody let go before the mark.
 pub record Kept (n : ℕ) (e : Ledger) (c : LatchCall) (r : Answer) (m m′ : Queue) : Type 0 where

@@ -10,7 +10,7 @@ use Rattle.hub.specs.declared.record.Phase.{Phase}
 use Rattle.hub.specs.declared.record.Place.{Place}
 use Rattle.hub.specs.declared.record.PlaceSlot.{PlaceSlot}
 use Rattle.hub.specs.Basics.{bit}
-use Rattle.hub.specs.Kinds.{kindOf}
+use Rattle.hub.specs.Kinds.{builtIn, kindIn}
 use Rattle.hub.specs.Ledger.{phaseIn}
 use Rattle.hub.specs.Phases.{byTicket, byWaiter, isOneOf, isPlaceOf, ticketOf}
 use Rattle.hub.specs.Record.{emptySeat}
@@ -140,7 +140,7 @@ module _ (h : Latch) (m : Queue) (r : Tracks h m) where
   look-same p = λ i.
       record {
         party = p;
-        kind = kindOf p;
+        kind = kindIn builtIn p;
         slot = readSlot (r .shows .slots i) p;
         seat = seat-same p i;
         waiter = byWaiter freeSlot (readSlot (r .shows .slots i)) (seat-same p i .place);

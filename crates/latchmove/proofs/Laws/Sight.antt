@@ -9,7 +9,7 @@ use lib.Dec.{ltb}
 use lib.ListN.{length, List·getD-eq-default}
 use Rattle.hub.specs.declared.record.Place.{Place}
 use Rattle.hub.specs.declared.record.PlaceSlot.{PlaceSlot}
-use Rattle.hub.specs.Kinds.{kindOf}
+use Rattle.hub.specs.Kinds.{builtIn, kindIn}
 use Rattle.hub.specs.Phases.{byTicket, byWaiter, ticketOf}
 use Rattle.hub.specs.Record.{PARTIES, emptySeat}
 use Rattle.hub.specs.Ring.{readSeat}
@@ -64,7 +64,7 @@ sightBy k h p seat waiter =
     }
 
 abbrev pub sightOf : Latch → ℕ → PlaceSlot → LatchSlot → LatchSight
-sightOf h p seat waiter = sightBy (kindOf p) h p seat waiter
+sightOf h p seat waiter = sightBy (kindIn builtIn p) h p seat waiter
 
 pub looked : (h : Latch) (p : ℕ) (seat : PlaceSlot) (q : ℕ) (waiter : LatchSlot)
     → Reads h p seat q waiter → sightOf h p seat waiter ≡ look h p
@@ -72,7 +72,7 @@ unfolding seenBy
 looked h p seat q waiter r = λ i.
     record {
       party = p;
-      kind = kindOf p;
+      kind = kindIn builtIn p;
       slot = readSlot (h .slots) p;
       seat = place i;
       waiter = (stood ∙ ap (λ (a : PlaceSlot). byWaiter freeSlot (readSlot (h .slots)) (a .place)) place) i;

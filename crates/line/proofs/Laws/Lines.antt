@@ -6,7 +6,7 @@ use mathlib.Core.List.{List, [], _∷_}
 use native.Mathlib.Omega.{arith}
 use Rattle.hub.proofs.Laws.Bools.{first, second, if-true, if-false}
 use borrow.Author.Tests.{lt-ltb, le-ltb, ltb-true, eq-eqb, ne-eqb, eqb-false}
-use lib.Dec.{eqb, ltb}
+use lib.Dec.{eqb, leb, ltb}
 use lib.ListN.{length, getD, take, drop, length-drop}
 use lib.Seq.{take-all}
 use native.Mathlib.Nat.{le-of-eq}
@@ -275,7 +275,7 @@ no-header [] f e = refl
 no-header (c ∷ []) f e = refl
 no-header (c ∷ p ∷ []) f e = absurd (f refl)
 no-header (c ∷ k ∷ n ∷ l) f e =
-    go (eqb c 0x01 && eqb (length l) 0) (eqb c 0x02 && eqb (length l) k) _ _ e
+    go (eqb c 0x01) (eqb c 0x02 && leb k (length l)) _ _ e
   where
     go : (a b : Bool) (o p : Opening)
         → isOpening (cond a (toOpen o) (cond b (toOpen p) malformed)) ≡ false

@@ -1,23 +1,25 @@
--- The frame of an opening: its length says that it is one, and what is behind K and n are its radios.
-use Prim.Native.Nat.{ℕ, suc, _+_, _≤_, _<_}
+-- The frame of an opening: its length says that it is one, and behind K and n are its radios and its kinds.
+use Prim.Native.Nat.{ℕ, suc, _+_, _-_, _≤_, _<_}
 use mathlib.Core.Path.{_≡_, refl, sym, ap, _∙_}
 use mathlib.Core.Bool.{Bool, true, false, cond, _&&_}
 use mathlib.Core.List.{List, [], _∷_, _++_, append-assoc}
-use native.Mathlib.Decide.{ℕ-discrete, decLe}
+use native.Mathlib.Decide.{decLe}
 use native.Mathlib.Numerals.{add-one}
 use native.Mathlib.Omega.{arith}
-use borrow.Author.Tests.{eq-eqb, ne-eqb, eqb-true}
-use lib.Dec.{eqb}
-use Rattle.hub.proofs.Laws.Bools.{if-true, if-false}
+use borrow.Author.Tests.{eq-eqb, ne-eqb, eqb-true, le-leb, leb-true, le-ltb, lt-leb, lt-ltb}
+use lib.Dec.{eqb, leb, ltb}
 use lib.ListN.{length, getD, take, drop, set, replicate, length-append}
-use lib.Seq.{take-all, take-take, take-suc, take-append-le, take-set-lt, set-at, length-take-le}
+use lib.Seq.{take-all, take-take, take-suc, take-append-le, take-set-lt, set-at, length-take-le, drop-drop}
 use Rattle.hub.specs.declared.moves.Call.{Call}
 use Rattle.hub.specs.declared.opening.Opening.{Opening}
-use Rattle.hub.specs.Opening.{sized, withRadios}
+use Rattle.hub.specs.Kinds.{builtIn}
+use Rattle.hub.specs.Opening.{sized, withKinds, withRadios}
 use Rattle.hub.specs.Radios.{STORE, padded}
+use Rattle.hub.proofs.Laws.Radios.{padded-same}
 use Rattle.line.specs.Frame.{isCall}
-use Rattle.line.specs.Requests.{malformed, toOpen, toCall, openingIn}
+use Rattle.line.specs.Requests.{malformed, toOpen, toCall, givenKinds, openingIn}
 use Rattle.line.specs.Requests.{requested, frameSize, isOpening}
+use Rattle.line.proofs.Laws.Lines.{from}
 
 -- Fewer than three bytes are no opening.
 pub short : (l : List ℕ) → length l < 3 → false ≡ isOpening (requested l)
@@ -31,102 +33,168 @@ short (c ∷ p ∷ []) m = go (isCall c) _
     go false x = refl
 short (c ∷ k ∷ n ∷ l) m = absurd (omega arith)
 
--- No code is that of both openings.
-not-both : {A : Type 0} (c : ℕ) → eqb c 0x01 ≡ true → eqb c 0x02 ≡ true → A
-not-both c e f = absurd (omega (arith, eqb-true c 1 e, eqb-true c 2 f))
+-- How many bytes it has without kinds, by its code and K.
+abbrev size : List ℕ → ℕ
+size l = frameSize (getD l 0 0) (getD l 1 0)
 
-pub by-size : (l : List ℕ) → 3 ≤ length l
-    → eqb (length l) (frameSize (getD l 0 0) (getD l 1 0)) ≡ isOpening (requested l)
+by-size : (l : List ℕ) → 3 ≤ length l → (r : ℕ) → r ≡ size l
+    → ltb 0 r && leb r (length l) ≡ isOpening (requested l)
 unfolding requested openingIn
-by-size [] m = absurd (omega arith)
-by-size (c ∷ []) m = absurd (omega arith)
-by-size (c ∷ k ∷ []) m = absurd (omega arith)
-by-size (c ∷ k ∷ n ∷ l) m = go (eqb c 0x01) refl (eqb c 0x02) refl
+by-size [] m r e = absurd (omega arith)
+by-size (c ∷ []) m r e = absurd (omega arith)
+by-size (c ∷ k ∷ []) m r e = absurd (omega arith)
+by-size (c ∷ k ∷ n ∷ l) m r e =
+    ap (λ (s : ℕ). ltb 0 s && leb s (length (c ∷ k ∷ n ∷ l))) e ∙ go (eqb c 0x01) (eqb c 0x02) _ _
   where
-    same : (i j : ℕ) → Dec (i ≡ j) → eqb (suc (suc (suc i))) (3 + j) ≡ eqb i j
-    same i j (yes e) = eq-eqb (suc (suc (suc i))) (3 + j) (omega (arith, e)) ∙ sym (eq-eqb i j e)
-    same i j (no f) = ne-eqb (suc (suc (suc i))) (3 + j) (λ e. f (omega (arith, e))) ∙ sym (ne-eqb i j f)
+    same : Dec (k ≤ length l) → leb (3 + k) (suc (suc (suc (length l)))) ≡ leb k (length l)
+    same (yes e) = le-leb (3 + k) (suc (suc (suc (length l)))) (omega arith) ∙ sym (le-leb k (length l) e)
+    same (no f) =
+        lt-leb (3 + k) (suc (suc (suc (length l)))) (omega arith) ∙ sym (lt-leb k (length l) (omega arith))
 
     asks : (b : Bool) (o : Opening) → b ≡ isOpening (cond b (toOpen o) malformed)
     asks true o = refl
     asks false o = refl
 
-    go : (a : Bool) → eqb c 0x01 ≡ a → (b : Bool) → eqb c 0x02 ≡ b
-        → eqb (suc (suc (suc (length l)))) (cond a 3 (cond b (3 + k) 0))
-        ≡ isOpening
-        (cond (a && eqb (length l) 0) (toOpen (sized k n))
-        (cond (b && eqb (length l) k) (toOpen (withRadios k n l)) malformed))
-    go true e true f = not-both c e f
-    go true e false f = same (length l) 0 (ℕ-discrete (length l) 0) ∙ asks (eqb (length l) 0) _
-    go false e true f = same (length l) k (ℕ-discrete (length l) k) ∙ asks (eqb (length l) k) _
-    go false e false f = ne-eqb (suc (suc (suc (length l)))) 0 (λ z. omega (arith, z))
+    go : (a b : Bool) (o p : Opening)
+        → let s = cond a 3 (cond b (3 + k) 0) in
+        ltb 0 s && leb s (suc (suc (suc (length l))))
+        ≡ isOpening (cond a (toOpen o) (cond (b && leb k (length l)) (toOpen p) malformed))
+    go true b o p = le-leb 3 (suc (suc (suc (length l)))) (omega arith)
+    go false true o p = rw (lt-ltb 0 (3 + k) (omega arith)) (same (decLe k (length l)) ∙ asks (leb k (length l)) p)
+    go false false o p = refl
 
--- What an opening's frame asks for.
-abbrev opened : ℕ → ℕ → ℕ → List ℕ → Opening
-opened c k n l = cond (eqb c 0x01) (sized k n) (withRadios k n l)
+module _ (l : List ℕ) (m : 3 ≤ length l) (r : ℕ) (e : r ≡ size l) where
+  pub by-code : r ≤ 0 → ltb 0 r ≡ isOpening (requested l)
+  by-code z = let f = le-ltb 0 r z in f ∙ (rw f at (by-size l m r e))
 
-asked-for : (l : List ℕ) → isOpening (requested l) ≡ true
-    → toOpen (opened (getD l 0 0) (getD l 1 0) (getD l 2 0) (drop 3 l)) ≡ requested l
-unfolding requested openingIn
-asked-for [] t = let z : _≡_ {A = ℕ} 0 1 = cc in absurd (omega arith)
-asked-for (c ∷ []) t = let z : _≡_ {A = ℕ} 0 1 = cc in absurd (omega arith)
-asked-for (c ∷ p ∷ []) t =
+  pub by-length : 0 < r → leb r (length l) ≡ isOpening (requested l)
+  by-length z = rw (lt-ltb 0 r z) at (by-size l m r e)
+
+-- An opening that is given no kinds, of code c.
+abbrev withoutKinds : ℕ → ℕ → ℕ → List ℕ → List ℕ → Opening
+withoutKinds c k n rs ks =
+    record {
+      permits = k;
+      parties = n;
+      named = eqb c 0x02;
+      radios = rs;
+      kinds = ks;
+      counted = true;
+    }
+
+-- Where the radios and the kinds of a frame are.
+pub record Frame (l : List ℕ) : Type 0 where
+  pub least : 3 ≤ size l
+  pub most : size l ≤ length l
+  pub asks : toOpen
+      (givenKinds (drop (size l) l)
+      (withoutKinds (getD l 0 0) (getD l 1 0) (getD l 2 0) (padded (take (size l - 3) (drop 3 l))) builtIn))
+      ≡ requested l
+
+pub in-frame : (l : List ℕ) → isOpening (requested l) ≡ true → Frame l
+unfolding requested openingIn padded
+in-frame [] t = let z : _≡_ {A = ℕ} 0 1 = cc in absurd (omega arith)
+in-frame (c ∷ []) t = let z : _≡_ {A = ℕ} 0 1 = cc in absurd (omega arith)
+in-frame (c ∷ p ∷ []) t =
     let z : _≡_ {A = Bool} false true = short (c ∷ p ∷ []) (omega arith) ∙ t in
     let n : _≡_ {A = ℕ} 0 1 = cc in
     absurd (omega arith)
-asked-for (c ∷ k ∷ n ∷ l) t =
-    go (eqb c 0x01) refl (eqb c 0x02) refl (eqb (length l) 0) (eqb (length l) k) t
+in-frame (c ∷ k ∷ n ∷ l) t =
+    let g = go (eqb c 0x01) refl (eqb c 0x02) refl (leb k (length l)) refl t in
+    record { least = g .0; most = g .1; asks = g .2 }
   where
-    go : (a : Bool) → eqb c 0x01 ≡ a → (b : Bool) → eqb c 0x02 ≡ b → (p q : Bool)
-        → isOpening
-        (cond (a && p) (toOpen (sized k n)) (cond (b && q) (toOpen (withRadios k n l)) malformed))
-        ≡ true
-        → toOpen (cond a (sized k n) (withRadios k n l))
-        ≡ cond (a && p) (toOpen (sized k n)) (cond (b && q) (toOpen (withRadios k n l)) malformed)
-    go true e true f p q i = not-both c e f
-    go true e false f true q i = refl
-    go true e false f false q i = let z : _≡_ {A = ℕ} 0 1 = cc in absurd (omega arith)
-    go false e true f p true i = refl
-    go false e true f p false i = let z : _≡_ {A = ℕ} 0 1 = cc in absurd (omega arith)
-    go false e false f p q i = let z : _≡_ {A = ℕ} 0 1 = cc in absurd (omega arith)
+    whole : List ℕ
+    whole = c ∷ k ∷ n ∷ l
 
-module _ (l : List ℕ) (t : isOpening (requested l) ≡ true) where
-  pub long : 3 ≤ length l
-  long = go (decLe 3 (length l))
+    own : Bool → List ℕ → Opening
+    own b rs =
+        record { permits = k; parties = n; named = b; radios = padded rs; kinds = builtIn; counted = true }
+
+    past-three : (k : ℕ) → 3 + k - 3 ≡ k
+    past-three k = omega arith
+
+    go : (a : Bool) → eqb c 0x01 ≡ a → (b : Bool) → eqb c 0x02 ≡ b → (m : Bool) → leb k (length l) ≡ m
+        → let s = cond a 3 (cond b (3 + k) 0) in
+        let q =
+        cond a (toOpen (givenKinds l (sized k n)))
+        (cond (b && m) (toOpen (givenKinds (drop k l) (withRadios k n (take k l)))) malformed) in
+        isOpening q ≡ true
+        → (3 ≤ s) × (s ≤ length whole) × (toOpen (givenKinds (drop s whole) (own b (take (s - 3) l))) ≡ q)
+    go true e true f m g t = absurd (omega (arith, eqb-true c 1 e, eqb-true c 2 f))
+    go true e false f m g t = (omega arith, omega arith, refl)
+    go false e true f true g t = (
+      omega arith,
+      omega (arith, leb-true k (length l) g),
+      (λ i. toOpen (givenKinds (sym (drop-drop k 3 whole) i) (own true (take (past-three k i) l)))),
+    )
+    go false e true f false g t = let z : _≡_ {A = ℕ} 0 1 = cc in absurd (omega arith)
+    go false e false f m g t = let z : _≡_ {A = ℕ} 0 1 = cc in absurd (omega arith)
+
+-- What is read of it: r bytes, the radios of which are in rs, and then the kinds.
+pub asked-for : (l : List ℕ) → Frame l → (r : ℕ) → r ≡ size l → (rs ks : List ℕ)
+    → rs ≡ padded (take (r - 3) (drop 3 l)) → ks ≡ builtIn
+    → toOpen
+    (givenKinds (take (length l - r) (drop r l)) (withoutKinds (getD l 0 0) (getD l 1 0) (getD l 2 0) rs ks))
+    ≡ requested l
+asked-for l f r e rs ks g h =
+    let c = withoutKinds (getD l 0 0) (getD l 1 0) (getD l 2 0) in
+    (λ i. toOpen (givenKinds (from r l i) (c (g i) (h i))))
+    ∙ (λ i. toOpen (givenKinds (drop (e i) l) (c (padded (take (e i - 3) (drop 3 l))) builtIn)))
+    ∙ f .asks
+
+-- An opening that is given kinds, by their number.
+module _ (ks : List ℕ) (o : Opening) where
+  abbrev pub kept : List ℕ → Bool → Opening
+  kept l b =
+      record {
+        permits = o .permits;
+        parties = o .parties;
+        named = o .named;
+        radios = o .radios;
+        kinds = l;
+        counted = b;
+      }
+
+  pub given-none : length ks ≡ 0 → o ≡ givenKinds ks o
+  unfolding givenKinds
+  given-none = go ks
     where
-      go : Dec (3 ≤ length l) → 3 ≤ length l
-      go (yes m) = m
-      go (no f) =
-          let z : false ≡ true = short l (omega arith) ∙ t in
-          let n : _≡_ {A = ℕ} 0 1 = cc in
-          absurd (omega arith)
+      go : (l : List ℕ) → length l ≡ 0 → o ≡ givenKinds l o
+      go [] e = refl
+      go (k ∷ l) e = absurd (omega (arith, e))
 
-  pub plain-frame : getD l 0 0 ≡ 0x01 → toOpen (sized (getD l 1 0) (getD l 2 0)) ≡ requested l
-  plain-frame e =
-      ap toOpen (sym (if-true (eqb (getD l 0 0) 0x01) _ _ (eq-eqb (getD l 0 0) 0x01 e))) ∙ asked-for l t
+  given-some : (length ks ≡ 0 → ⊥) → withKinds ks o ≡ givenKinds ks o
+  unfolding givenKinds
+  given-some = go ks
+    where
+      go : (l : List ℕ) → (length l ≡ 0 → ⊥) → withKinds l o ≡ givenKinds l o
+      go [] f = absurd (f refl)
+      go (k ∷ l) f = refl
 
-  pub named-frame : (getD l 0 0 ≡ 0x01 → ⊥) → (radios : List ℕ) → radios ≡ padded (drop 3 l)
-      → toOpen (record { permits = getD l 1 0; parties = getD l 2 0; named = true; radios = radios })
-      ≡ requested l
-  named-frame f radios e =
-      ap
-      (λ (rs : List ℕ).
-      toOpen (record { permits = getD l 1 0; parties = getD l 2 0; named = true; radios = rs })) e
-      ∙ ap toOpen (sym (if-false (eqb (getD l 0 0) 0x01) (sized (getD l 1 0) (getD l 2 0)) _
-      (ne-eqb (getD l 0 0) 0x01 f)))
-      ∙ asked-for l t
+  by-number : (b : Bool) → eqb (length ks) 32 ≡ b → withKinds ks o ≡ kept (cond b ks builtIn) b
+  by-number b e = ap (λ (b : Bool). kept (cond b ks builtIn) b) e
+
+  module _ (f : length ks ≡ 0 → ⊥) (l : List ℕ) where
+    pub miscounted : (length ks ≡ 32 → ⊥) → l ≡ builtIn → kept l false ≡ givenKinds ks o
+    miscounted n e =
+        ap (λ (l : List ℕ). kept l false) e ∙ sym (by-number false (ne-eqb (length ks) 32 n)) ∙ given-some f
+
+    pub whole : length ks ≡ 32 → l ≡ padded ks → kept l true ≡ givenKinds ks o
+    whole n e =
+        ap (λ (l : List ℕ). kept l true) (e ∙ padded-same ks n)
+        ∙ sym (by-number true (eq-eqb (length ks) 32 n)) ∙ given-some f
 
 -- The first i of m are copied into 32 bytes.
-pub record Copied (m radios : List ℕ) (i : ℕ) : Type 0 where
+pub record Copied (m bytes : List ℕ) (i : ℕ) : Type 0 where
   pub within : i ≤ length m
-  pub copied : radios ≡ padded (take i m)
+  pub copied : bytes ≡ padded (take i m)
 
 pub none : (m : List ℕ) → Copied m (replicate STORE 0) 0
 unfolding padded
 none m = record { within = omega arith; copied = refl }
 
-module _ (m radios : List ℕ) (i : ℕ) (d : Copied m radios i) where
-  pub one-more : i < length m → i < STORE → (x : ℕ) → x ≡ getD m i 0 → Copied m (set radios i x) (i + 1)
+module _ (m bytes : List ℕ) (i : ℕ) (d : Copied m bytes i) where
+  pub one-more : i < length m → i < STORE → (x : ℕ) → x ≡ getD m i 0 → Copied m (set bytes i x) (i + 1)
   unfolding padded
   one-more a b x e =
       record {
@@ -148,10 +216,10 @@ module _ (m radios : List ℕ) (i : ℕ) (d : Copied m radios i) where
           ap (λ (n : ℕ). take n m) (add-one i) ∙ take-suc m i 0 a
           ∙ ap (λ (y : ℕ). take i m ++ (y ∷ [])) (sym e)
 
-  pub all-copied : length m ≤ i → radios ≡ padded m
+  pub all-copied : length m ≤ i → bytes ≡ padded m
   all-copied a = d .copied ∙ ap padded (take-all i m a)
 
-  pub full : STORE ≤ i → radios ≡ padded m
+  pub full : STORE ≤ i → bytes ≡ padded m
   unfolding padded
   full a =
       let s = length-take-le i m (d .within) in

@@ -18,7 +18,7 @@ use Rattle.hub.specs.declared.record.Pool.{Pool}
 use Rattle.hub.specs.Answers.{printed, refusalCode}
 use Rattle.hub.specs.Calls.{checked, isFull, tidied}
 use Rattle.hub.specs.Fits.{fits}
-use Rattle.hub.specs.Kinds.{kindOf}
+use Rattle.hub.specs.Kinds.{kindIn}
 use Rattle.hub.specs.Look.{look, seenBy}
 use Rattle.hub.specs.Phases.{atRest, byWaiter, isOneOf, isWaiting}
 use Rattle.hub.specs.Radios.{fetch, handOf, handTo, moved, poolAfter, putBack}
@@ -85,7 +85,7 @@ module _ (h : Hub) (p : ℕ) where
   seenOf c =
       record {
         party = p;
-        kind = kindOf p;
+        kind = kindIn (h .opening .kinds) p;
         named = h .opening .named;
         slot = readSlot (h .slots) p;
         seat = readSeat (h .places) (ticketAt c);
@@ -294,7 +294,7 @@ module _ (h : Hub) (p : ℕ) where
             let x = readSlot (h .slots) p .phase in
             subst (Comes 0x12 (planAt 0x12)) (by-table 0x12)
             (subst (λ (b : Bool).
-            Comes 0x12 (planAt 0x12) (byMove (cancel b (eqb (kindOf p) 3) (givenUp x) (look h p)) h (callBy 0x12)))
+            Comes 0x12 (planAt 0x12) (byMove (cancel b (eqb (kindIn (h .opening .kinds) p) 3) (givenUp x) (look h p)) h (callBy 0x12)))
             (sym (gives-up x rest)) (cancels _ _ _))
 
         give-back : AsPlanned 0x13

@@ -22,7 +22,7 @@ use Rattle.hub.specs.declared.record.Pool.{Pool}
 use Rattle.hub.specs.Answers.{printed}
 use Rattle.hub.specs.Calls.{ringOf}
 use Rattle.hub.specs.Fits.{fits}
-use Rattle.hub.specs.Kinds.{kindOf}
+use Rattle.hub.specs.Kinds.{kindIn}
 use Rattle.hub.specs.Radios.{moved}
 use Rattle.hub.specs.Record.{emptySeat, readSlot, withPhase, writeSlot}
 use Rattle.hub.specs.Ring.{PLACES, Ring, readSeat, writeSeat, skip, retire}
@@ -216,7 +216,7 @@ index-is c = c .before .before .before .place-for .ensures
 plan-is : (c : Planned)
     → let h = head (entered c) in
     plan c ≡ planAt (hub h) (party h) (code h)
-unfolding readSlot readSeat kindOf
+unfolding readSlot readSeat kindIn
 plan-is c =
     let h = head (entered c) in
     let s = readSlot (h .loop .slots) (party h) in

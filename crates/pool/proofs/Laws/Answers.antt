@@ -92,6 +92,9 @@ module _ (p : ℕ) (q : Pool) where
   refused Refusal.NotCancellable = refl
   refused Refusal.NotHolding = refl
   refused Refusal.SameRadios = refl
+  refused Refusal.MiscountedKinds = refl
+  refused Refusal.UnknownKind = refl
+  refused Refusal.NoDesk = refl
 
   -- The radio of a party goes back to the store.
   pub stored : (a : Answer) → OneOf (24 ∷ 15 ∷ []) (tagOf answer.the-type a)

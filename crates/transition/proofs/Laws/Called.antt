@@ -19,6 +19,7 @@ use Rattle.hub.specs.Answers.{printed}
 use Rattle.hub.specs.Basics.{allFrom}
 use Rattle.hub.specs.Calls.{answerOf, apply, called, checked, isFull, withPool}
 use Rattle.hub.specs.Fits.{fits, figuresClauses, figuresFit, counterFits, partyFits, placeFits, radiosFit}
+use Rattle.hub.specs.Fits.{kindsFit, stateFits}
 use Rattle.hub.specs.Look.{look, seenBy}
 use Rattle.hub.specs.Moves.{Move, Refuse}
 use Rattle.hub.specs.Radios.{poolAfter}
@@ -98,12 +99,13 @@ pub record Counted (h : Hub) : Type 0 where
   pub oldest : h .oldest ≤ MAX-BEGUN
 
 pub counted : (h : Hub) → fits h ≡ true → Counted h
-unfolding fits figuresFit
+unfolding fits stateFits figuresFit
 counted h e =
     let parties = allFrom (partyFits h) 0 PARTIES in
     let places = allFrom (placeFits h) (h .oldest) PLACES in
     let f = figuresFit (h .opening) (h .figures) (h .oldest) in
-    let all = first f parties (first (f && parties) places (first (f && parties && places) (radiosFit h) e)) in
+    let state = first (stateFits h) (kindsFit (h .opening)) e in
+    let all = first f parties (first (f && parties) places (first (f && parties && places) (radiosFit h) state)) in
     let cs = figuresClauses (h .opening) (h .figures) (h .oldest) in
     let k = clause 0 cs all in
     let n = clause 1 cs all in

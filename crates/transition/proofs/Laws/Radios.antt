@@ -15,7 +15,7 @@ use Rattle.hub.specs.declared.record.Hub.{Hub}
 use Rattle.hub.specs.declared.record.Pool.{Pool}
 use Rattle.hub.specs.Answers.{Printed, printed}
 use Rattle.hub.specs.Basics.{allFrom, implies}
-use Rattle.hub.specs.Fits.{figuresFit, fits, partyFits, placeFits, radiosFit}
+use Rattle.hub.specs.Fits.{figuresFit, fits, kindsFit, partyFits, placeFits, radiosFit, stateFits}
 use Rattle.hub.specs.Opening.{radiosDiffer}
 use Rattle.hub.specs.Radios.{STORE, moved, poolAfter, radiosIn, radiosOf, rearranged, padded}
 use Rattle.hub.specs.Record.{PARTIES}
@@ -50,6 +50,9 @@ refused-pool true Refusal.NotWaiting p q = refl
 refused-pool true Refusal.NotCancellable p q = refl
 refused-pool true Refusal.NotHolding p q = refl
 refused-pool true Refusal.SameRadios p q = refl
+refused-pool true Refusal.MiscountedKinds p q = refl
+refused-pool true Refusal.UnknownKind p q = refl
+refused-pool true Refusal.NoDesk p q = refl
 
 few-radios : (o : Opening) → length (radiosOf o) ≤ STORE
 unfolding radiosOf padded
@@ -62,12 +65,13 @@ stored-within h =
 
 -- On a hub with radios whose record fits.
 pub few-stored : (h : Hub) → fits h ≡ true → h .opening .named ≡ true → h .pool .stored ≤ STORE
-unfolding fits radiosFit rearranged
+unfolding fits stateFits radiosFit rearranged
 few-stored h e n =
     let parties = allFrom (partyFits h) 0 PARTIES in
     let places = allFrom (placeFits h) (h .oldest) PLACES in
     let f = figuresFit (h .opening) (h .figures) (h .oldest) in
-    let r = second (radiosDiffer (h .opening)) _ (second (f && parties && places) (radiosFit h) e) in
+    let state = first (stateFits h) (kindsFit (h .opening)) e in
+    let r = second (radiosDiffer (h .opening)) _ (second (f && parties && places) (radiosFit h) state) in
     let same = rearranged (radiosIn (h .slots) (h .places) (h .pool)) (radiosOf (h .opening)) in
     let s : same ≡ true = sym (ap (λ (b : Bool). implies b same) n) ∙ r in
     let l = length (radiosIn (h .slots) (h .places) (h .pool)) in

@@ -12,7 +12,7 @@ use Rattle.hub.specs.declared.record.Hub.{Hub}
 use Rattle.hub.specs.declared.record.PartySlot.{PartySlot}
 use Rattle.hub.specs.declared.record.Place.{Place}
 use Rattle.hub.specs.declared.record.PlaceSlot.{PlaceSlot}
-use Rattle.hub.specs.Kinds.{kindOf}
+use Rattle.hub.specs.Kinds.{kindIn}
 use Rattle.hub.specs.Look.{look, seenBy}
 use Rattle.hub.specs.Phases.{byTicket, byWaiter, ticketOf}
 use Rattle.hub.specs.Radios.{handOf}
@@ -54,7 +54,7 @@ abbrev pub sightOf : Hub → ℕ → PlaceSlot → PartySlot → Sight
 sightOf h p seat waiter =
     record {
       party = p;
-      kind = kindOf p;
+      kind = kindIn (h .opening .kinds) p;
       slot = readSlot (h .slots) p;
       seat = seat;
       waiter = waiter;
@@ -87,7 +87,7 @@ unfolding seenBy
 looked h p seat q waiter r has = λ i.
     record {
       party = p;
-      kind = kindOf p;
+      kind = kindIn (h .opening .kinds) p;
       slot = readSlot (h .slots) p;
       seat = place i;
       waiter = (stood ∙ ap (λ (a : PlaceSlot). byWaiter freeSlot (readSlot (h .slots)) (a .place)) place) i;

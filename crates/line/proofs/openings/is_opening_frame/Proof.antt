@@ -1,12 +1,8 @@
 -- `is_opening_frame` meets its contract: the length of a frame says whether it is an opening.
 use borrow.Author.Needs.{needs}
-use mathlib.Core.Path.{ap, _∙_}
-use Prim.Native.Nat.{ℕ}
-use lib.Dec.{eqb}
-use lib.ListN.{length}
-use Rattle.line.proofs.Laws.Openings.{short, by-size}
 use Rattle.line.proofs.openings.is_opening_frame.Statement.{statement}
 use Rattle.line.proofs.openings.is_opening_frame.Tie as tie
+use Rattle.line.proofs.Laws.Openings.{short, by-code, by-length}
 
 returns : tie.Need-returns
 returns c = short _ (c .if1 .taken)
@@ -22,9 +18,13 @@ frame-size-requires c κs = search needs
 
 returns-2 : tie.Need-returns-2
 returns-2 c =
-    let e = c .before .before .before in
-    let l = e .before .before .args .bytes .now in
-    ap (λ (n : ℕ). eqb (length l) n) (c .frame-size .ensures) ∙ by-size l (e .if1 .left)
+    let f = c .before in
+    by-length _ (f .before .before .before .if1 .left) _ (f .frame-size .ensures) (c .if2 .taken)
+
+returns-3 : tie.Need-returns-3
+returns-3 c =
+    let f = c .before in
+    by-code _ (f .before .before .before .if1 .left) _ (f .frame-size .ensures) (c .if2 .left)
 
 pub is-opening-frame-spec : {M : Type 1} → statement M
 is-opening-frame-spec =
@@ -34,4 +34,5 @@ is-opening-frame-spec =
     shared-slice-read-frame-size
     shared-slice-read-frame-size-2
     frame-size-requires
-    returns-2)
+    returns-2
+    returns-3)

@@ -19,6 +19,7 @@ use Rattle.hub.specs.declared.record.Pool.{Pool}
 use Rattle.hub.specs.Answers.{printed}
 use Rattle.hub.specs.Calls.{called, isFull, ringOf, withPool, withRing}
 use Rattle.hub.specs.Fits.{fits}
+use Rattle.hub.specs.Kinds.{kindIn}
 use Rattle.hub.specs.Phases.{ticketOf}
 use Rattle.hub.specs.Radios.{handOf, moved}
 use Rattle.hub.specs.Record.{emptySeat, readSlot, writeSlot}
@@ -34,7 +35,7 @@ use Rattle.transition.proofs.Laws.Called.{outcome-is}
 use Rattle.transition.proofs.Laws.Indexed.{reads, stores}
 use Rattle.transition.proofs.Laws.Loops.{tidy}
 use Rattle.transition.proofs.Laws.Radios.{few-stored, with-radios, without-radios}
-use Rattle.transition.proofs.Laws.Sight.{Reads, of-kind, sightOf}
+use Rattle.transition.proofs.Laws.Sight.{Reads, sightOf}
 use Rattle.transition.proofs.Laws.Stored.{made, nobody, stored, few-turns}
 use Rattle.step.proofs.calls.call.Statement.{statement}
 use Rattle.step.proofs.calls.call.Tie as tie
@@ -53,10 +54,10 @@ size c = search mapped-size
 abbrev tested : tie.After-slot-within → tie.Else2
 tested c = c .before .before .before .before .before .before
 
-abbrev seen : tie.After-kind → tie.After-slot-within
+abbrev seen : tie.After-kinds → tie.After-slot-within
 seen c = c .before .before .before
 
-abbrev kinded : tie.After-decide → tie.After-kind
+abbrev kinded : tie.After-decide → tie.After-kinds
 kinded c = c .before .before
 
 abbrev decided : tie.After-put → tie.After-decide
@@ -69,7 +70,7 @@ abbrev pooled : tie.After-first → tie.Joined4
 pooled c = c .before .before
 
 -- The same from further on.
-abbrev start : tie.After-kind → tie.Start
+abbrev start : tie.After-kinds → tie.Start
 start c = tested (seen c) .before .before .before
 
 abbrev begin : tie.After-decide → tie.Start
@@ -86,21 +87,21 @@ within-slots : (c : tie.Else2) → party (c .before .before .before) < 32
 within-slots c = omega (arith, c .if2 .left, counts (c .before) .parties)
 
 -- What the code has read is what the party sees.
-abbrev ticketAt : tie.After-kind → ℕ
+abbrev ticketAt : tie.After-kinds → ℕ
 ticketAt c = seen c .before .before .before .before .seat-index .result
 
-abbrev seat : tie.After-kind → PlaceSlot
+abbrev seat : tie.After-kinds → PlaceSlot
 seat c = getD (hub (start c) .places) (ticketAt c) emptySeat
 
-abbrev waiter : tie.After-kind → PartySlot
+abbrev waiter : tie.After-kinds → PartySlot
 waiter c = seen c .slot-within .result
 
-index : (c : tie.After-kind)
+index : (c : tie.After-kinds)
     → ticketAt c ≡ ticketOf (readSlot (hub (start c) .slots) (party (start c)) .phase) % PLACES
 unfolding readSlot
 index c = seen c .before .before .before .before .seat-index .ensures
 
-reading : (c : tie.After-kind)
+reading : (c : tie.After-kinds)
     → Reads (hub (start c)) (party (start c)) (seat c) (seen c .before .before .waiter-at .result)
     (waiter c)
 unfolding readSlot
@@ -109,7 +110,7 @@ reading c =
     (seen c .before .before .waiter-at .ensures) (seen c .slot-within .ensures)
 
 -- The effect is that of the call.
-abbrev sight : tie.After-kind → Sight
+abbrev sight : tie.After-kinds → Sight
 sight c = sightOf (hub (start c)) (party (start c)) (seat c) (waiter c)
 
 abbrev full : tie.After-decide → Bool
@@ -119,11 +120,8 @@ full c =
 effect-is : (c : tie.After-decide)
     → let s = sight (kinded c) in
     c .decide .result ≡ effectOf (decide (begin c .args .op) (full c) s) s
-unfolding readSlot handOf
-effect-is c =
-    let s : ℕ → Sight = λ k. of-kind k (sight (kinded c)) in
-    c .decide .ensures
-    ∙ ap (λ (k : ℕ). effectOf (decide (begin c .args .op) (full c) (s k)) (s k)) (kinded c .kind .ensures)
+unfolding readSlot handOf kindIn
+effect-is c = c .decide .ensures
 
 turns-most : (c : tie.After-decide) → c .decide .result .turns ≤ 256
 turns-most c =
@@ -246,8 +244,8 @@ slot-within-requires c κs = search needs
 array-read-radio : tie.Need-array-read-radio
 array-read-radio c = within-slots (tested (c .before .before))
 
-kind-requires : tie.Need-kind-requires
-kind-requires c κs = search needs
+array-read-kind : tie.Need-array-read-kind
+array-read-kind c = within-slots (tested (seen c))
 
 decide-requires : tie.Need-decide-requires
 decide-requires c κs =
@@ -352,7 +350,7 @@ call-spec =
     element-copy-out-near
     slot-within-requires
     array-read-radio
-    kind-requires
+    array-read-kind
     decide-requires
     cast-v
     mul-woke
