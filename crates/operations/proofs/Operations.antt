@@ -48,6 +48,9 @@ refusal-still Refusal.NotWaiting p q = refl
 refusal-still Refusal.NotCancellable p q = refl
 refusal-still Refusal.NotHolding p q = refl
 refusal-still Refusal.SameRadios p q = refl
+refusal-still Refusal.MiscountedKinds p q = refl
+refusal-still Refusal.UnknownKind p q = refl
+refusal-still Refusal.NoDesk p q = refl
 
 module _ (h : Hub) (a : AtRest h) where
   -- What a move comes to.

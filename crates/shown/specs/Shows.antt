@@ -63,10 +63,13 @@ pub record Alike (h : Hub) (l : Line) (rs : List Request) : Type 0 where
   pub holders : holdersOf (hubAfter h rs) ≡ holders (lineAfter l rs)
   pub waiters : waitersOf (hubAfter h rs) ≡ waiters (lineAfter l rs)
   pub told : hubTold h rs ≡ lineTold l rs
+  -- The screen goes by the hub's kinds.
+  pub kinds : hubAfter h rs .opening .kinds ≡ lineAfter l rs .kinds
   -- Nobody is busy.
   pub atRest : (p : ℕ) → rests (hubAfter h rs) p ≡ true
 
--- For every opening that is accepted, with radios or without, and every list of operations.
+-- For every opening that is accepted, with radios or without, with a house's own kinds or without, and every list
+-- of operations.
 unfoldable pub ScreenShows : Type 0
 ScreenShows =
     (o : Opening) → opening o .answer ≡ Answer.Opened → (rs : List Request)
