@@ -16,8 +16,6 @@ use hub::slots::empty_seat;
 use hub::slots::free_slot;
 use hub::slots::with_phase;
 use hub::slots::with_place;
-use line::answer::print_of;
-use line::answer::put;
 use run::Ran;
 use run::hub_run;
 use run::run_calls;
@@ -26,6 +24,8 @@ use step::calls::cancel;
 use step::calls::release;
 use step::calls::step;
 use transition::counts::counts;
+use writer::answer::print_of;
+use writer::answer::put;
 
 // A hexadecimal digit, in capitals.
 fn digit(n: u8) -> u8 {

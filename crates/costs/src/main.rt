@@ -8,8 +8,8 @@ use hub::moves::Op;
 use hub::opening::sized;
 use hub::record::Hub;
 use hub::record::Outcome;
-use line::answer::print_of;
 use transition::counts::counts;
+use writer::answer::print_of;
 
 // The record after an ask and three steps: with the permit held, the party waits.
 fn waits(hub: Hub, party: u8) -> Hub {

@@ -2,13 +2,13 @@
 
 use hub::Figures;
 use hub::Hub;
-use line::answer::Print;
-use line::signed::twos_complement;
-use line::text::put_line;
 use transition::counts::counts;
+use writer::answer::Print;
+use writer::signed::twos_complement;
+use writer::text::put_line;
 ghost use mathlib.Core.Path.{_≡_};
 ghost use lib.ListN.{length};
-ghost use Rattle.line.specs.Frame.{twosComplement};
+ghost use Rattle.writer.specs.Frame.{twosComplement};
 ghost use Rattle.line.specs.Program.{closing};
 
 // The counter as it is printed.

@@ -19,8 +19,8 @@ use latch::record::LatchSlot;
 use latchstep::calls::call;
 use libc::STDIN_FILENO;
 use libc::STDOUT_FILENO;
-use line::answer::print_of;
-use line::answer::put;
+use writer::answer::print_of;
+use writer::answer::put;
 ghost use Prim.Native.Nat.{_+_, _<_, _≤_};
 
 // Only this function and `bytes_of` know the record's fields.

@@ -18,13 +18,13 @@ use hub::slots::with_phase;
 use hub::slots::with_place;
 use libc::STDIN_FILENO;
 use libc::STDOUT_FILENO;
-use line::answer::print_of;
-use line::answer::put;
-use line::signed::twos_complement;
 use radios::opening_of;
 use radios::pool_of;
 use radios::put_radios;
 use step::calls::call;
+use writer::answer::print_of;
+use writer::answer::put;
+use writer::signed::twos_complement;
 ghost use Prim.Native.Nat.{_+_, _<_, _≤_};
 
 // Only this function and `bytes_of` know the record's fields.

@@ -2,9 +2,9 @@
 use borrow.Author.Needs.{needs}
 use mathlib.Core.Path.{ap, _∙_}
 use mathlib.Core.Bool.{Bool}
-use Rattle.line.specs.Form.{formOf, replySize}
-use Rattle.line.proofs.form.put_reply.Statement.{statement}
-use Rattle.line.proofs.form.put_reply.Tie as tie
+use Rattle.writer.specs.Form.{formOf, replySize}
+use Rattle.writer.proofs.form.put_reply.Statement.{statement}
+use Rattle.writer.proofs.form.put_reply.Tie as tie
 
 put-line-by-requires : tie.Need-put-line-by-requires
 put-line-by-requires c κs =

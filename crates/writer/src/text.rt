@@ -4,9 +4,9 @@ use crate::answer::Print;
 use crate::pairs;
 ghost use mathlib.Core.Path.{_≡_};
 ghost use lib.ListN.{length};
-ghost use Rattle.line.specs.Frame.{frameOf, paper};
-ghost use Rattle.line.specs.Hex.{textOf};
-ghost use Rattle.line.specs.Tables.{Pairs};
+ghost use Rattle.writer.specs.Frame.{frameOf, paper};
+ghost use Rattle.writer.specs.Hex.{textOf};
+ghost use Rattle.writer.specs.Tables.{Pairs};
 
 // The line, by a table that is lent.
 pub(crate) fn put_line_by(pairs: &[u16; 256], out: &mut [u8], party: u8, p: Print)

@@ -5,9 +5,9 @@ use crate::answer::put;
 use crate::text::put_line_by;
 ghost use mathlib.Core.Path.{_≡_};
 ghost use lib.ListN.{length};
-ghost use Rattle.line.specs.Form.{formOf, inForm, replySize};
-ghost use Rattle.line.specs.Frame.{frameOf, paper};
-ghost use Rattle.line.specs.Tables.{Pairs};
+ghost use Rattle.writer.specs.Form.{formOf, inForm, replySize};
+ghost use Rattle.writer.specs.Frame.{frameOf, paper};
+ghost use Rattle.writer.specs.Tables.{Pairs};
 
 // A form is a bool and no enum: an enum is passed by its address, and then the compiler does not
 // see that a program uses one form only. A line cost a twelfth more.

@@ -2,12 +2,12 @@
 use borrow.Author.Needs.{needs}
 use native.Mathlib.Omega.{arith}
 use lib.ListN.{length-set}
-use Rattle.line.proofs.Laws.Filled.{all-set}
-use Rattle.line.proofs.Laws.Tables.{line-by-pairs}
-use Rattle.line.specs.Frame.{paper}
+use Rattle.writer.proofs.Laws.Filled.{all-set}
+use Rattle.writer.proofs.Laws.Tables.{line-by-pairs}
+use Rattle.writer.specs.Frame.{paper}
 use mathlib.Core.Path.{_∙_}
-use Rattle.line.proofs.text.put_line_by.Statement.{statement}
-use Rattle.line.proofs.text.put_line_by.Tie as tie
+use Rattle.writer.proofs.text.put_line_by.Statement.{statement}
+use Rattle.writer.proofs.text.put_line_by.Tie as tie
 
 cast-said : tie.Need-cast-said
 cast-said c = search needs
