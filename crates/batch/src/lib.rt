@@ -6,6 +6,9 @@ mod admission; // what is answered before the table is asked
 
 use admission::admit;
 use admission::op_of;
+use encoding::answer::plain;
+use encoding::answer::print_of;
+use encoding::pairs;
 use hub::kinds;
 use hub::moves::Sight;
 use hub::record::Hub;
@@ -21,15 +24,12 @@ use transition::sight::waiter_at;
 use transition::tidy::can_retire;
 use transition::tidy::can_skip;
 use transition::tidy::is_untidy;
-use writer::answer::plain;
-use writer::answer::print_of;
 use writer::form::put_reply;
 use writer::form::reply_size;
-use writer::pairs;
 ghost use mathlib.Core.Path.{_≡_};
 ghost use Prim.Native.Nat.{_*_, _≤_};
 ghost use lib.ListN.{length};
-ghost use Rattle.writer.specs.Form.{formOf, replySize};
+ghost use Rattle.encoding.specs.Form.{formOf, replySize};
 ghost use Rattle.line.specs.Program.{after};
 ghost use Rattle.batch.specs.Batch.{Reachable, replied, requestsIn};
 

@@ -3,6 +3,8 @@
 // The expected output, beside this program, was written by hand from the paper.
 
 use board::call_on_board;
+use encoding::answer::print_of;
+use encoding::answer::put;
 use hub::answers::Answer;
 use hub::moves::Op;
 use hub::opening::sized;
@@ -24,8 +26,6 @@ use step::calls::cancel;
 use step::calls::release;
 use step::calls::step;
 use transition::counts::counts;
-use writer::answer::print_of;
-use writer::answer::put;
 
 // A hexadecimal digit, in capitals.
 fn digit(n: u8) -> u8 {

@@ -1,5 +1,6 @@
 // What a line is answered: 12, then 13, then the operation's own.
 
+use encoding::answer::print_of;
 use hub::opening::Opening;
 use line::request::OPENING;
 use line::request::read_header;
@@ -9,7 +10,6 @@ use screen::Operation;
 use screen::calls::call;
 use screen::calls::open_line;
 use screen::steps::steps_to_rest;
-use writer::answer::print_of;
 ghost use mathlib.Core.Path.{_≡_};
 ghost use Rattle.line.specs.Requests.{requestOf};
 ghost use Rattle.deskline.specs.Replies.{askedBy, isOpen, opened, operated, respond, told};

@@ -2,6 +2,9 @@
 // figures are locals while they are, altered in place. A record that is reached from an opening fits:
 // so there is no check of the whole record here.
 
+use encoding::answer::plain;
+use encoding::answer::print_of;
+use encoding::answer::put;
 use hub::kinds;
 use hub::record::Hub;
 use hub::record::Place;
@@ -19,9 +22,6 @@ use transition::sight::waiter_at;
 use transition::tidy::can_retire;
 use transition::tidy::can_skip;
 use transition::tidy::is_untidy;
-use writer::answer::plain;
-use writer::answer::print_of;
-use writer::answer::put;
 ghost use mathlib.Core.Path.{_≡_};
 ghost use Prim.Native.Nat.{_*_, _≤_};
 ghost use lib.ListN.{length};

@@ -4,6 +4,9 @@
 
 mod radios; // the radios' part of a record
 
+use encoding::answer::print_of;
+use encoding::answer::put;
+use encoding::signed::twos_complement;
 use hub::moves::Op;
 use hub::record::Figures;
 use hub::record::Hub;
@@ -22,9 +25,6 @@ use radios::opening_of;
 use radios::pool_of;
 use radios::put_radios;
 use step::calls::call;
-use writer::answer::print_of;
-use writer::answer::put;
-use writer::signed::twos_complement;
 ghost use Prim.Native.Nat.{_+_, _<_, _≤_};
 
 // Only this function and `bytes_of` know the record's fields.

@@ -1,5 +1,6 @@
 // One whole operation by value, on any record: the call, then the party's steps until it is at rest.
 
+use encoding::answer::print_of;
 use hub::answers::Answer;
 use hub::moves::Op;
 use hub::phases::phase_rank;
@@ -7,7 +8,6 @@ use hub::record::Hub;
 use operations::Operated;
 use step::calls::call;
 use step::calls::step;
-use writer::answer::print_of;
 ghost use mathlib.Core.Path.{_≡_};
 ghost use mathlib.Core.Bool.{cond};
 ghost use lib.Dec.{eqb};

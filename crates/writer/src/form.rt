@@ -1,13 +1,13 @@
 // The two forms in which a reply is written: a line of text, or seven bytes.
 
-use crate::answer::Print;
-use crate::answer::put;
 use crate::text::put_line_by;
+use encoding::answer::Print;
+use encoding::answer::put;
 ghost use mathlib.Core.Path.{_≡_};
 ghost use lib.ListN.{length};
-ghost use Rattle.writer.specs.Form.{formOf, inForm, replySize};
-ghost use Rattle.writer.specs.Frame.{frameOf, paper};
-ghost use Rattle.writer.specs.Tables.{Pairs};
+ghost use Rattle.encoding.specs.Form.{formOf, inForm, replySize};
+ghost use Rattle.encoding.specs.Frame.{frameOf, paper};
+ghost use Rattle.encoding.specs.Tables.{Pairs};
 
 // A form is a bool and no enum: an enum is passed by its address, and then the compiler does not
 // see that a program uses one form only. A line cost a twelfth more.

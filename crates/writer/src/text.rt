@@ -1,12 +1,12 @@
 // An answer as a line: fourteen characters and the line feed.
 
-use crate::answer::Print;
-use crate::pairs;
+use encoding::answer::Print;
+use encoding::pairs;
 ghost use mathlib.Core.Path.{_≡_};
 ghost use lib.ListN.{length};
-ghost use Rattle.writer.specs.Frame.{frameOf, paper};
-ghost use Rattle.writer.specs.Hex.{textOf};
-ghost use Rattle.writer.specs.Tables.{Pairs};
+ghost use Rattle.encoding.specs.Frame.{frameOf, paper};
+ghost use Rattle.encoding.specs.Hex.{textOf};
+ghost use Rattle.encoding.specs.Tables.{Pairs};
 
 // The line, by a table that is lent.
 pub(crate) fn put_line_by(pairs: &[u16; 256], out: &mut [u8], party: u8, p: Print)

@@ -15,7 +15,7 @@ use Rattle.hub.specs.declared.moves.Call.{Call}
 use Rattle.hub.specs.declared.opening.Opening.{Opening}
 use Rattle.hub.specs.Opening.{sized, withRadios}
 use Rattle.hub.specs.Radios.{STORE, padded}
-use Rattle.writer.specs.Frame.{isCall}
+use Rattle.encoding.specs.Frame.{isCall}
 use Rattle.line.specs.Requests.{malformed, toOpen, toCall, openingIn}
 use Rattle.line.specs.Requests.{requested, frameSize, isOpening}
 

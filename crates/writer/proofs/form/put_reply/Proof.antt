@@ -2,7 +2,7 @@
 use borrow.Author.Needs.{needs}
 use mathlib.Core.Path.{ap, _∙_}
 use mathlib.Core.Bool.{Bool}
-use Rattle.writer.specs.Form.{formOf, replySize}
+use Rattle.encoding.specs.Form.{formOf, replySize}
 use Rattle.writer.proofs.form.put_reply.Statement.{statement}
 use Rattle.writer.proofs.form.put_reply.Tie as tie
 

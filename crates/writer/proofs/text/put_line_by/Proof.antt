@@ -2,9 +2,9 @@
 use borrow.Author.Needs.{needs}
 use native.Mathlib.Omega.{arith}
 use lib.ListN.{length-set}
-use Rattle.writer.proofs.Laws.Filled.{all-set}
-use Rattle.writer.proofs.Laws.Tables.{line-by-pairs}
-use Rattle.writer.specs.Frame.{paper}
+use Rattle.encoding.proofs.Laws.Filled.{all-set}
+use Rattle.encoding.proofs.Laws.Tables.{line-by-pairs}
+use Rattle.encoding.specs.Frame.{paper}
 use mathlib.Core.Path.{_∙_}
 use Rattle.writer.proofs.text.put_line_by.Statement.{statement}
 use Rattle.writer.proofs.text.put_line_by.Tie as tie

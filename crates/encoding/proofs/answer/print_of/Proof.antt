@@ -3,8 +3,8 @@ use borrow.Author.Needs.{needs}
 use mathlib.Core.Path.{_≡_, refl, sym, ap, _∙_}
 use Rattle.hub.specs.declared.answers.Answer.{Answer}
 use Rattle.hub.specs.Answers.{Printed, plain, printed}
-use Rattle.writer.proofs.answer.print_of.Statement.{statement}
-use Rattle.writer.proofs.answer.print_of.Tie as tie
+use Rattle.encoding.proofs.answer.print_of.Statement.{statement}
+use Rattle.encoding.proofs.answer.print_of.Tie as tie
 
 shown : {a b : Answer} {r : Printed} → a ≡ b → r ≡ printed b → r ≡ printed a
 shown e f = f ∙ ap printed (sym e)

@@ -1,7 +1,7 @@
 // The counter as four bytes: two's complement.
 
 ghost use mathlib.Core.Path.{_≡_};
-ghost use Rattle.writer.specs.Frame.{twosComplement};
+ghost use Rattle.encoding.specs.Frame.{twosComplement};
 
 pub fn twos_complement(n: i32) -> u32
     ensures { λ r. ⌜ r ≡ twosComplement n ⌝ }

@@ -8,7 +8,7 @@ use lib.IntN.{ℤ, pos, negsuc}
 use Rattle.hub.specs.declared.moves.Op.{Op}
 use Rattle.hub.specs.Answers.{Printed}
 use Rattle.hub.specs.Basics.{among}
-use Rattle.writer.specs.declared.answer.Print.{Print}
+use Rattle.encoding.specs.declared.answer.Print.{Print}
 
 -- 10 ask, 11 step, 12 give up, 13 give back, 14 which radio.
 abbrev pub isCall : ℕ → Bool

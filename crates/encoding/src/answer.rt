@@ -5,7 +5,7 @@ use hub::answers::Refusal;
 ghost use mathlib.Core.Path.{_≡_};
 ghost use lib.ListN.{length};
 ghost use Rattle.hub.specs.Answers.{plain, printed, refusalCode, withNumber};
-ghost use Rattle.writer.specs.Frame.{frameOf, paper};
+ghost use Rattle.encoding.specs.Frame.{frameOf, paper};
 
 // What an answer prints: its code, the woken party and the number.
 pub struct Print {

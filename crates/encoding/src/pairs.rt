@@ -1,6 +1,6 @@
 // The two characters of each byte, so that a line is written two characters at a time.
 
-ghost use Rattle.writer.specs.Tables.{Pairs};
+ghost use Rattle.encoding.specs.Tables.{Pairs};
 
 // The first character is the low half.
 const PAIRS: [u16; 256] = [

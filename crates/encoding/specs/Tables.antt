@@ -4,7 +4,7 @@ use mathlib.Core.Path.{_≡_}
 use mathlib.Core.Bool.{cond}
 use mathlib.Core.List.{List}
 use lib.ListN.{getD}
-use Rattle.writer.specs.Hex.{digitOf, isDigit, charOf}
+use Rattle.encoding.specs.Hex.{digitOf, isDigit, charOf}
 
 -- At each byte its two characters, the first in the low half.
 pub record Pairs (l : List ℕ) : Type 0 where

@@ -9,9 +9,9 @@ use lib.Dec.{eqb}
 use lib.ListN.{length, getD}
 use Rattle.hub.proofs.Laws.Bools.{first, second}
 use Rattle.hub.specs.Answers.{Printed}
-use Rattle.writer.specs.Frame.{frameOf}
-use Rattle.writer.specs.Hex.{digitOf, isDigit, spelled, byteOf, charOf, hexOf, textOf}
-use Rattle.writer.specs.Tables.{Pairs, Values, valueOf}
+use Rattle.encoding.specs.Frame.{frameOf}
+use Rattle.encoding.specs.Hex.{digitOf, isDigit, spelled, byteOf, charOf, hexOf, textOf}
+use Rattle.encoding.specs.Tables.{Pairs, Values, valueOf}
 
 -- The test passes at each entry and its place, counted from i.
 abbrev pub every : (ℕ → ℕ → Bool) → ℕ → List ℕ → Bool

@@ -11,9 +11,9 @@ use lib.Signed.{ltZ, nonNeg}
 use mir.Syntax.{w32}
 use mir.Val.{SFits, Fits, toZ, ofZ}
 use mir.Facts.{toZ-ofZ}
-use Rattle.writer.specs.Frame.{twosComplement}
-use Rattle.writer.proofs.signed.twos_complement.Statement.{statement}
-use Rattle.writer.proofs.signed.twos_complement.Tie as tie
+use Rattle.encoding.specs.Frame.{twosComplement}
+use Rattle.encoding.proofs.signed.twos_complement.Statement.{statement}
+use Rattle.encoding.proofs.signed.twos_complement.Tie as tie
 
 -- What the test for a negative number says.
 below-zero : (P : ℤ → Type 0) → ((n : ℕ) → P (negsuc n)) → (z : ℤ) → ltZ z (pos 0) ≡ true → P z

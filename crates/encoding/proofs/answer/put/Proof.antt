@@ -2,9 +2,9 @@
 use borrow.Author.Needs.{needs}
 use native.Mathlib.Omega.{arith}
 use lib.ListN.{length-set}
-use Rattle.writer.proofs.Laws.Filled.{all-set}
-use Rattle.writer.proofs.answer.put.Statement.{statement}
-use Rattle.writer.proofs.answer.put.Tie as tie
+use Rattle.encoding.proofs.Laws.Filled.{all-set}
+use Rattle.encoding.proofs.answer.put.Statement.{statement}
+use Rattle.encoding.proofs.answer.put.Tie as tie
 
 slice-write-out : tie.Need-slice-write-out
 slice-write-out c = search needs

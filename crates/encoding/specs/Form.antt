@@ -3,7 +3,7 @@
 use Prim.Native.Nat.{ℕ}
 use mathlib.Core.Bool.{Bool, true, false}
 use mathlib.Core.List.{List}
-use Rattle.writer.specs.Hex.{textOf}
+use Rattle.encoding.specs.Hex.{textOf}
 
 pub data Form : Type 0 where
   asText : Form
