@@ -3,6 +3,8 @@
 // The expected output, beside this program, was written by hand from the paper.
 
 use board::call_on_board;
+use encoding::answer::print_of;
+use encoding::answer::put;
 use hub::answers::Answer;
 use hub::moves::Op;
 use hub::opening::sized;
@@ -16,8 +18,6 @@ use hub::slots::empty_seat;
 use hub::slots::free_slot;
 use hub::slots::with_phase;
 use hub::slots::with_place;
-use line::answer::print_of;
-use line::answer::put;
 use run::Ran;
 use run::hub_run;
 use run::run_calls;

@@ -1,10 +1,10 @@
 // One whole operation by value, on any record: the call, then the party's steps until it is at rest.
 
+use encoding::answer::print_of;
 use hub::answers::Answer;
 use hub::moves::Op;
 use hub::phases::phase_rank;
 use hub::record::Hub;
-use line::answer::print_of;
 use operations::Operated;
 use step::calls::call;
 use step::calls::step;

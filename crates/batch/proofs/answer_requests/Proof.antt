@@ -27,8 +27,8 @@ use Rattle.hub.specs.Radios.{handOf}
 use Rattle.hub.specs.Record.{emptySeat, readSlot, writeSlot}
 use Rattle.hub.specs.Ring.{PLACES, Ring, readSeat, writeSeat, skip, retire}
 use Rattle.hub.specs.Table.{decide, withResumed}
-use Rattle.line.specs.Frame.{opOf, frameOf, paper}
-use Rattle.line.specs.Form.{formOf, inForm}
+use Rattle.encoding.specs.Frame.{opOf, frameOf, paper}
+use Rattle.encoding.specs.Form.{formOf, inForm}
 use Rattle.line.specs.Program.{after, respond}
 use Rattle.table.specs.declared.effect.Effect.{Effect}
 use Rattle.table.specs.Effect.{effectOf}

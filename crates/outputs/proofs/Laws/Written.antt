@@ -19,8 +19,8 @@ use Rattle.hub.proofs.Demand3.{InRange, in-range}
 use Rattle.hub.proofs.Laws.Bools.{first, second, if-true, if-false}
 use Rattle.hub.proofs.Laws.Ranges.{one-true}
 use Rattle.hub.proofs.Radios.Length.{radios-length}
-use Rattle.line.specs.Frame.{isCall, codeOf}
-use Rattle.line.specs.Hex.{digitOf, byteOf, charOf, hexOf, textOf}
+use Rattle.encoding.specs.Frame.{isCall, codeOf}
+use Rattle.encoding.specs.Hex.{digitOf, byteOf, charOf, hexOf, textOf}
 use Rattle.line.specs.Program.{linesFrom}
 use Rattle.line.specs.Requests.{malformed, toOpen, toCall, allDigits, bytesOf, openingIn, requested, requestOf}
 use Rattle.line.proofs.Laws.Codes.{is-call, op-back}

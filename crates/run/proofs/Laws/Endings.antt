@@ -17,8 +17,8 @@ use Rattle.hub.specs.declared.record.Outcome.{Outcome}
 use Rattle.hub.specs.Basics.{upTo32}
 use Rattle.hub.specs.Opening.{fresh, openingIf, opening, radiosDiffer}
 use Rattle.hub.proofs.Laws.Opening.{accepted}
-use Rattle.line.specs.Form.{asBytes}
-use Rattle.line.specs.Frame.{isCall}
+use Rattle.encoding.specs.Form.{asBytes}
+use Rattle.encoding.specs.Frame.{isCall}
 use Rattle.line.specs.Requests.{Request, toOpen, toCall, isOpening}
 use Rattle.batch.specs.Batch.{replied, Reachable}
 use Rattle.batch.proofs.Laws.Reachable.{reachable-open, opening-reachable}
