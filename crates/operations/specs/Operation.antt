@@ -11,6 +11,7 @@ use Rattle.hub.specs.Calls.{called}
 use Rattle.hub.specs.Calm.{rests, stepBy}
 use Rattle.hub.specs.Schedule.{Entry, entries, run}
 use Rattle.operations.specs.declared.Operated.{Operated}
+use Rattle.operations.specs.declared.Told.{Told}
 
 -- The steps of party p from h on until it is at rest, at most n.
 unfoldable pub stepsOf : ℕ → Hub → ℕ → List Call
@@ -39,3 +40,7 @@ operated h c =
       steps = length (stepsAfter h c);
       hub = run h calls;
     }
+
+-- What is told of it.
+abbrev pub toldOf : Operated → Told
+toldOf r = record { answer = r .answer; woken = r .woken; steps = r .steps }
