@@ -31,7 +31,7 @@ use Rattle.operations.proofs.Reached.{at-rest, resting}
 use Rattle.operations.proofs.Rest.{AtRest}
 use Rattle.operations.proofs.Shapes.{Comes, ask-permit, ask-wait, give-back, give-up, hand-over}
 use Rattle.operations.proofs.Waits.{next-waits}
-use Rattle.operations.proofs.Walk.{operated-by, stop}
+use Rattle.operations.proofs.Walk.{operated-refused}
 
 -- A refusal moves no radio.
 refusal-still : (r : Refusal) (p : ℕ) (q : Pool) → moved (printed (Answer.Refused r)) p q ≡ q
@@ -59,12 +59,12 @@ module _ (h : Hub) (a : AtRest h) where
   refused c r e =
       record {
         same =
-            operated-by h c (Answer.Refused r)
+            operated-refused h c (Answer.Refused r)
             (called-by h c (Refuse r) e
             ∙ ap (λ (q : Pool). record { answer = Answer.Refused r; hub = withPool q h })
             (still (h .opening .named) (printed (Answer.Refused r)) (c .party) (h .pool)
             (refusal-still r (c .party) (h .pool))))
-            refl (stop (a .calm (c .party))) (omega arith);
+            refl (a .calm (c .party));
         rest = a .calm;
       }
 
