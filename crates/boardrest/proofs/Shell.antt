@@ -322,12 +322,12 @@ module _ {M : Type 1} (𝓤 : URA M) (H : Heap 𝓤) (A : Atoms 𝓤) (W : Given
 
 module _ {M : Type 1} (𝓤 : URA M) (H : Heap 𝓤) (A : Atoms 𝓤) (W : Given 𝓤 H A)
     (D : Hub → Op → ℕ → Operated) (κ : Lft) (q : Share) (b o : ℕ) (γ : GName) (h : Hub) (a : Op) (n : ℕ)
-    (is-op : Is O.the-row a (opVal a ∷ [])) where
+    (u : Val) (is-op : Is O.the-row a (u ∷ [])) where
   abbrev x : RefT Hub × (Op × (ℕ × Unit {0}))
   x = (record { ptr = (b, o); name = γ; now = h }, (a, (n, tt)))
 
   abbrev at : List Val × (List Val × (List Val × Unit {0}))
-  at = (vptr b o ∷ [], (opVal a ∷ [], (vint w8 n ∷ [], tt)))
+  at = (vptr b o ∷ [], (u ∷ [], (vint w8 n ∷ [], tt)))
 
   abbrev bound : walkOf 𝓤 H A shell.ended stayed (shellClauses 𝓤 D) .Ghost
   bound = (((κ, tt), (q, tt), tt, x, at), tt)
@@ -359,30 +359,30 @@ module _ {M : Type 1} (𝓤 : URA M) (H : Heap 𝓤) (A : Atoms 𝓤) (W : Given
       tt,
       tt,
       (a, (n, T.struct .as-values h)),
-      (opVal a ∷ [], (vint w8 n ∷ [], held 𝓤 H A W by-op a (opVal a) is-op h n)),
+      (u ∷ [], (vint w8 n ∷ [], held 𝓤 H A W by-op a u is-op h n)),
     ),
     tt,
   )
 
   hands-over : n < 2 ^ 8 → Is T.the-row h (hubVal h ∷ []) → ent 𝓤 (sem 𝓤 H A ftrue) (Core 𝓤 H A D .pre to-core)
-  hands-over = goes-core 𝓤 H A W by-op a (opVal a) is-op h n
+  hands-over = goes-core 𝓤 H A W by-op a u is-op h n
 
   are : Is T.the-row h (hubVal h ∷ [])
-      → Typed (mirs (fields T.the-type)) (flat (fields T.the-type) (held 𝓤 H A W by-op a (opVal a) is-op h n))
-  are = typed 𝓤 H A W by-op a (opVal a) is-op h n
+      → Typed (mirs (fields T.the-type)) (flat (fields T.the-type) (held 𝓤 H A W by-op a u is-op h n))
+  are = typed 𝓤 H A W by-op a u is-op h n
 
   module _ (key : Name) (C : Calls 𝓤 H) (Λ : Loops 𝓤 H) (fm : FmC 𝓤 H (W .laws) C)
       (known : Triple 𝓤 (C key) (Core 𝓤 H A D)) where
     walk :
         n < 2 ^ 8
         → ent 𝓤 (onEntry 𝓤 H A shell.signature (κ, tt) (q, tt) x at)
-        (WpFn 𝓤 H C Λ (shellFn key) (vptr b o ∷ opVal a ∷ vint w8 n ∷ []) Post)
+        (WpFn 𝓤 H C Λ (shellFn key) (vptr b o ∷ u ∷ vint w8 n ∷ []) Post)
     walk fits =
         qed W ((‵ (flft κ q) ⊛ ‵ ftrue)
         ∷ ‵ (owns (MutRef (named 0) κ T.the-row ∷ O.the-row ∷ u8 ∷ []) x at) ∷ []) ∵
         split ! $ move ! (2 ∷ []) $ fsplit ! $ fsplit3 ! $ keep ! (1 ∷ 2 ∷ 4 ∷ []) $
         -- [what the caller sees; the borrow; the token]
-        enter ! C Λ (shellFn key) (vptr b o ∷ opVal a ∷ vint w8 n ∷ []) _ $
+        enter ! C Λ (shellFn key) (vptr b o ∷ u ∷ vint w8 n ∷ []) _ $
         alloc1 ! (λ l₀. alloc1 ! (λ l₁. alloc1 ! (λ l₂. alloc1 ! (λ l₃. alloc1 ! (λ l₄.
         alloc1 ! (λ l₅. alloc1 ! (λ l₆. alloc1 ! (λ l₇. alloc1 ! (λ l₈. alloc1 ! (λ l₉.
         alloc1 ! (λ l₁₀. alloc0 ! $ params1 ! $
@@ -422,11 +422,10 @@ module _ {M : Type 1} (𝓤 : URA M) (H : Heap 𝓤) (A : Atoms 𝓤) (W : Given
         -- [what the outcome owns; the record; what it owned; the open borrow; …; _10; …]
         land ! (from ! (stop !))
         (init ! 18 refl (LL.lawful R.the-type R′.the-laws 𝓤 H A W .typed r _ is′ .0)) $
-        rewrite ! 18 (λ (u : Val). ‵ (fat fullShare R′.mir l₄ 0 u))
-        (ap only (LL.tells R.the-type R′.the-laws r _ is′)) refl $
-        -- [what the outcome owns; the record; what it owned; the open borrow; …]
         drop ! $ move ! (1 ∷ []) $ drop ! $ forget ! 4 refl $ forget ! 6 refl $ forget ! 8 refl $
         forget ! 10 refl $ forget ! 12 refl $ forget ! 14 refl $ forget ! 18 refl $ forget ! 20 refl $
+        rewrite ! 16 (λ (w : Val). ‵ (fat fullShare R′.mir l₄ 0 w))
+        (ap only (LL.tells R.the-type R′.the-laws r _ is′)) refl $
         stores 𝓤 H A W κ q b o γ C Λ l₀ l₁ l₂ l₃ l₄ l₅ l₆ l₇ l₈ l₉ l₁₀ _ _ _ _ _ _ (r .hub) Post
         (parts r v is′ .1 .1 .1 .0)
         (LL.lawful T.the-type T′.the-laws 𝓤 H A W .typed (r .hub) _ (parts r v is′ .1 .1 .1 .0) .0)
@@ -448,7 +447,7 @@ module _ {M : Type 1} (𝓤 : URA M) (H : Heap 𝓤) (A : Atoms 𝓤) (W : Given
       ))
       (λ κs qs bounds y g are. via 𝓤 _ (fst∗ 𝓤 _ (emp 𝓤))
       (walk 𝓤 H A W D (κs .0) (qs .0) (y .0 .ptr .0) (y .0 .ptr .1) (y .0 .name) (y .0 .now)
-      (y .1 .0) (y .1 .1 .0) (are .1 .0) key C Λ fm known (are .1 .1 .0 .1)))
+      (y .1 .0) (y .1 .1 .0) (opVal (y .1 .0)) (are .1 .0) key C Λ fm known (are .1 .1 .0 .1)))
 
   goes : AllGo 𝓤 H A W 1 (shell.signature .params) (shell.ended .kept) stayed
   goes =

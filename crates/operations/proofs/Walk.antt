@@ -110,12 +110,9 @@ operated-by h c y {h₁} {h₂} {ys} e q w i =
     (sym (if-false (turnsDown y) [] _ (ap (λ (r : Printed). ltb (r .code) 0x20) q)))
     (walk-steps MOST-STEPS w i))
 
--- or it is refused, on a record on which its party is at rest.
-pub operated-refused : (h : Hub) (c : Call) (y : Answer) {h₁ : Hub}
-    → called h c ≡ record { answer = y; hub = h₁ } → printed y .woken ≡ 0xFF → rests h₁ (c .party) ≡ true
+-- or it is refused, and that is all.
+pub operated-alone : (h : Hub) (c : Call) (y : Answer) {h₁ : Hub}
+    → called h c ≡ record { answer = y; hub = h₁ } → printed y .woken ≡ 0xFF → turnsDown y ≡ true
     → operated h c ≡ record { answer = y; woken = 0xFF; steps = 0; hub = h₁ }
-operated-refused h c y {h₁} e q z = operated-from h c y h₁ e q (go (turnsDown y))
-  where
-    go : (b : Bool) → Steps h₁ [] h₁ (cond b [] (stepsOf MOST-STEPS h₁ (c .party)))
-    go true = none h₁
-    go false = walk-steps MOST-STEPS (stop z) (omega arith)
+operated-alone h c y {h₁} e q t =
+    operated-from h c y h₁ e q (subst (Steps h₁ [] h₁) (sym (if-true (turnsDown y) [] _ t)) (none h₁))
