@@ -187,10 +187,10 @@ of-records D n xs vs p =
     (p .0, ((p .1 .0 .0, sym (length-map xs (D .to)) ∙ p .1 .0 .1), each-record D xs (p .0) (p .1 .1)))
 
 -- the MIR of the shell over the function called key, for the call whose tag is k
-abbrev reads : ℕ → ℕ → Body → Body
+abbrev pub reads : ℕ → ℕ → Body → Body
 reads i k = seq (assign (place i []) (rvOpd (copy (place 1 (deref T′.mir ∷ field k ∷ [])))))
 
-abbrev ref : Ty
+abbrev pub ref : Ty
 ref = tyRef (named 0) mut (pointee (T.the-row .written))
 
 abbrev pub shellFn : Name → ℕ → Fn
@@ -308,6 +308,57 @@ tagged Op.Cancel = EL.owes O.the-type O′.the-laws Op.Cancel tt
 tagged Op.Release = EL.owes O.the-type O′.the-laws Op.Release tt
 tagged Op.Radio = EL.owes O.the-type O′.the-laws Op.Radio tt
 
+-- a record's fields, for a function over them that is called with operation a, whose machine value is u, and party n
+module _ {M : Type 1} (𝓤 : URA M) (H : Heap 𝓤) (A : Atoms 𝓤) (W : Given 𝓤 H A)
+    (D : Hub → Op → ℕ → Outcome) (a : Op) (u : Val) (is-op : Is O.the-row a (u ∷ [])) (h : Hub) (n : ℕ) where
+  -- the machine's values of the fields
+  abbrev pub held : Valss (fields T.the-type)
+  held = valss (fields T.the-type) (LL.spells (T.the-type .parts) T′.the-laws) (T.the-type .to h)
+
+  -- which are of their types
+  pub typed : Is T.the-row h (hubVal h ∷ []) → Typed (mirs (fields T.the-type)) (flat (fields T.the-type) held)
+  typed is =
+      typeds 𝓤 H A (fields T.the-type) (LL.lawfuls 𝓤 H A W (T.the-type .parts) T′.the-laws)
+      (T.the-type .to h) held (LL.owed T.the-type T′.the-laws h _ is)
+
+  -- the call
+  abbrev pub to-core : Core 𝓤 H A D .Ghost
+  to-core = ((tt, tt, tt, (a, (n, T.struct .as-values h)), (u ∷ [], (vint w8 n ∷ [], held))), tt)
+
+  pub goes-core :
+      n < 2 ^ 8 → Is T.the-row h (hubVal h ∷ []) → ent 𝓤 (sem 𝓤 H A ftrue) (Core 𝓤 H A D .pre to-core)
+  goes-core fits is =
+      let e = LL.owed T.the-type T′.the-laws h _ is in
+      qed W (‵ ftrue ∷ []) ∵
+      owned ! Pool.the-row (Is Pool.the-row) (LL.makes Pool.the-type Pool′.the-plain 𝓤 H A) (h .pool) _
+      (e .1 .1 .1 .1 .1 .0) $ fjoin ! $
+      owned ! (Array PartySlot.the-row 32) (Is (Array PartySlot.the-row 32))
+      (array-makes 𝓤 H A W PartySlot.the-row (LL.makes PartySlot.the-type PartySlot′.the-plain 𝓤 H A) 32)
+      (h .slots) _ (of-records PartySlot.the-type 32 (h .slots) _ (e .1 .1 .1 .1 .0)) $ fjoin ! $
+      owned ! (Array PlaceSlot.the-row 256) (Is (Array PlaceSlot.the-row 256))
+      (array-makes 𝓤 H A W PlaceSlot.the-row (LL.makes PlaceSlot.the-type PlaceSlot′.the-plain 𝓤 H A) 256)
+      (h .places) _ (of-records PlaceSlot.the-type 256 (h .places) _ (e .1 .1 .1 .0)) $ fjoin ! $
+      owned ! u32 (Is u32) (uint-makes 𝓤 H A W w32) (h .oldest) _ (e .1 .1 .0) $ fjoin ! $
+      owned ! Figures.the-row (Is Figures.the-row) (LL.makes Figures.the-type Figures′.the-plain 𝓤 H A)
+      (h .figures) _ (e .1 .0) $ fjoin ! $
+      owned ! Opening.the-row (Is Opening.the-row) (LL.makes Opening.the-type Opening′.the-plain 𝓤 H A)
+      (h .opening) _ (e .0) $ fjoin ! $
+      owned ! u8 (Is u8) (uint-makes 𝓤 H A W w8) n _ (refl, fits) $ fjoin ! $
+      owned ! O.the-row (Is O.the-row) (EL.makes O.the-type O′.the-plain 𝓤 H A) a _ is-op $ fjoin ! $
+      nothing ! $ join ! $ frame ! $ done !
+
+module _ {M : Type 1} (𝓤 : URA M) (H : Heap 𝓤) (A : Atoms 𝓤) (W : Given 𝓤 H A) (b o : ℕ) where
+  -- field k behind the reference, where the record is the head of the context and entry m the reference
+  pub behind :
+      {K : Type 0} {Γ : List (Item 𝓤)} {e : Ty × ℕ} {E : Locals 𝓤 H} {l : ℕ} {vs : Vals} {τ : Ty} {d : ℕ}
+      → K → (m k : ℕ)
+      → nth 𝓤 H A m (‵ (fat fullShare T′.mir b o (vstruct vs)) ∷ Γ) ≡ ‵ (fat fullShare ref l 0 (vptr b o))
+      → fieldOf T′.mir k ≡ Option.some (τ, d)
+      → Rv K W (‵ (fat fullShare T′.mir b o (vstruct vs)) ∷ Γ) (e ∷ (ref, l) ∷ E)
+      (rvOpd (copy (place 1 (deref T′.mir ∷ field k ∷ [])))) (getV vs k)
+  behind t m k r f =
+      of-opd t (load t (from t (hop t (look t m r) (fld t f (stop t)))) (look-in t 0 (sub t k f (whole t))))
+
 module _ {M : Type 1} (𝓤 : URA M) (H : Heap 𝓤) (A : Atoms 𝓤) (W : Given 𝓤 H A)
     (D : Hub → Op → ℕ → Outcome) (a : Op) (k : ℕ) (is-op : Is O.the-row a (tagVal k ∷ []))
     (κ : Lft) (q : Share) (b o : ℕ) (γ : GName) (h : Hub) (n : ℕ) where
@@ -341,53 +392,13 @@ module _ {M : Type 1} (𝓤 : URA M) (H : Heap 𝓤) (A : Atoms 𝓤) (W : Given
       move ! (1 ∷ 0 ∷ []) $ fjoin ! $ frame ! $
       owned ! P.the-row (Is P.the-row) (EL.makes P.the-type P′.the-plain 𝓤 H A) (r .answer) _ is $ done !
 
-  -- the machine's values of the fields
-  abbrev held : Valss (fields T.the-type)
-  held = valss (fields T.the-type) (LL.spells (T.the-type .parts) T′.the-laws) (T.the-type .to h)
+  -- the fields, handed over
+  abbrev given : Core 𝓤 H A D .Ghost
+  given = to-core 𝓤 H A W D a (tagVal k) is-op h n
 
-  -- which are of their types
-  typed : Is T.the-row h (hubVal h ∷ []) → Typed (mirs (fields T.the-type)) (flat (fields T.the-type) held)
-  typed is =
-      typeds 𝓤 H A (fields T.the-type) (LL.lawfuls 𝓤 H A W (T.the-type .parts) T′.the-laws)
-      (T.the-type .to h) held (LL.owed T.the-type T′.the-laws h _ is)
-
-  -- the call of the function over the fields
-  abbrev to-core : Core 𝓤 H A D .Ghost
-  to-core =
-      ((tt, tt, tt, (a, (n, T.struct .as-values h)), (tagVal k ∷ [], (vint w8 n ∷ [], held))), tt)
-
-  goes-core :
-      n < 2 ^ 8 → Is T.the-row h (hubVal h ∷ []) → ent 𝓤 (sem 𝓤 H A ftrue) (Core 𝓤 H A D .pre to-core)
-  goes-core fits is =
-      let e = LL.owed T.the-type T′.the-laws h _ is in
-      qed W (‵ ftrue ∷ []) ∵
-      owned ! Pool.the-row (Is Pool.the-row) (LL.makes Pool.the-type Pool′.the-plain 𝓤 H A) (h .pool) _
-      (e .1 .1 .1 .1 .1 .0) $ fjoin ! $
-      owned ! (Array PartySlot.the-row 32) (Is (Array PartySlot.the-row 32))
-      (array-makes 𝓤 H A W PartySlot.the-row (LL.makes PartySlot.the-type PartySlot′.the-plain 𝓤 H A) 32)
-      (h .slots) _ (of-records PartySlot.the-type 32 (h .slots) _ (e .1 .1 .1 .1 .0)) $ fjoin ! $
-      owned ! (Array PlaceSlot.the-row 256) (Is (Array PlaceSlot.the-row 256))
-      (array-makes 𝓤 H A W PlaceSlot.the-row (LL.makes PlaceSlot.the-type PlaceSlot′.the-plain 𝓤 H A) 256)
-      (h .places) _ (of-records PlaceSlot.the-type 256 (h .places) _ (e .1 .1 .1 .0)) $ fjoin ! $
-      owned ! u32 (Is u32) (uint-makes 𝓤 H A W w32) (h .oldest) _ (e .1 .1 .0) $ fjoin ! $
-      owned ! Figures.the-row (Is Figures.the-row) (LL.makes Figures.the-type Figures′.the-plain 𝓤 H A)
-      (h .figures) _ (e .1 .0) $ fjoin ! $
-      owned ! Opening.the-row (Is Opening.the-row) (LL.makes Opening.the-type Opening′.the-plain 𝓤 H A)
-      (h .opening) _ (e .0) $ fjoin ! $
-      owned ! u8 (Is u8) (uint-makes 𝓤 H A W w8) n _ (refl, fits) $ fjoin ! $
-      owned ! O.the-row (Is O.the-row) (EL.makes O.the-type O′.the-plain 𝓤 H A) a _ is-op $ fjoin ! $
-      nothing ! $ join ! $ frame ! $ done !
-
-  -- field k behind the reference, where the record is the head of the context and entry m the reference
-  behind :
-      {K : Type 0} {Γ : List (Item 𝓤)} {e : Ty × ℕ} {E : Locals 𝓤 H} {l : ℕ} {vs : Vals} {τ : Ty} {d : ℕ}
-      → K → (m k : ℕ)
-      → nth 𝓤 H A m (‵ (fat fullShare T′.mir b o (vstruct vs)) ∷ Γ) ≡ ‵ (fat fullShare ref l 0 (vptr b o))
-      → fieldOf T′.mir k ≡ Option.some (τ, d)
-      → Rv K W (‵ (fat fullShare T′.mir b o (vstruct vs)) ∷ Γ) (e ∷ (ref, l) ∷ E)
-      (rvOpd (copy (place 1 (deref T′.mir ∷ field k ∷ [])))) (getV vs k)
-  behind t m k r f =
-      of-opd t (load t (from t (hop t (look t m r) (fld t f (stop t)))) (look-in t 0 (sub t k f (whole t))))
+  are : Is T.the-row h (hubVal h ∷ [])
+      → Typed (mirs (fields T.the-type)) (flat (fields T.the-type) (held 𝓤 H A W D a (tagVal k) is-op h n))
+  are = typed 𝓤 H A W D a (tagVal k) is-op h n
 
   module _ (key : Name) (C : Calls 𝓤 H) (Λ : Loops 𝓤 H) (fm : FmC 𝓤 H (W .laws) C)
       (known : Triple 𝓤 (C key) (Core 𝓤 H A D)) where
@@ -413,14 +424,14 @@ module _ {M : Type 1} (𝓤 : URA M) (H : Heap 𝓤) (A : Atoms 𝓤) (W : Given
         -- [the record; what it owns; the open borrow; both its names; _10; …; _9; …; _0; …]
         assigns ! (agg ! (and-then ! (lit ! small) (no-more !))) (from ! (stop !))
         (init ! 17 refl (EL.lawful O.the-type O′.the-laws 𝓤 H A W tt .typed a _ is-op .0)) $
-        assigns ! (behind ! 23 0 refl refl) (from ! (stop !)) (init ! 15 refl (typed is .0)) $
-        assigns ! (behind ! 23 1 refl refl) (from ! (stop !)) (init ! 13 refl (typed is .1 .0)) $
-        assigns ! (behind ! 23 2 refl refl) (from ! (stop !)) (init ! 11 refl (typed is .1 .1 .0)) $
-        assigns ! (behind ! 23 3 refl refl) (from ! (stop !)) (init ! 9 refl (typed is .1 .1 .1 .0)) $
-        assigns ! (behind ! 23 4 refl refl) (from ! (stop !)) (init ! 7 refl (typed is .1 .1 .1 .1 .0)) $
-        assigns ! (behind ! 23 5 refl refl) (from ! (stop !)) (init ! 5 refl (typed is .1 .1 .1 .1 .1 .0)) $
-        nothing ! $ use1 W (raw (Core 𝓤 H A D .pre to-core)) (goes-core fits is) $
-        calls-at ! fm (Core 𝓤 H A D) known to-core
+        assigns ! (behind 𝓤 H A W b o ! 23 0 refl refl) (from ! (stop !)) (init ! 15 refl (are is .0)) $
+        assigns ! (behind 𝓤 H A W b o ! 23 1 refl refl) (from ! (stop !)) (init ! 13 refl (are is .1 .0)) $
+        assigns ! (behind 𝓤 H A W b o ! 23 2 refl refl) (from ! (stop !)) (init ! 11 refl (are is .1 .1 .0)) $
+        assigns ! (behind 𝓤 H A W b o ! 23 3 refl refl) (from ! (stop !)) (init ! 9 refl (are is .1 .1 .1 .0)) $
+        assigns ! (behind 𝓤 H A W b o ! 23 4 refl refl) (from ! (stop !)) (init ! 7 refl (are is .1 .1 .1 .1 .0)) $
+        assigns ! (behind 𝓤 H A W b o ! 23 5 refl refl) (from ! (stop !)) (init ! 5 refl (are is .1 .1 .1 .1 .1 .0)) $
+        nothing ! $ use1 W (raw (Core 𝓤 H A D .pre given)) (goes-core 𝓤 H A W D a (tagVal k) is-op h n fits is) $
+        calls-at ! fm (Core 𝓤 H A D) known given
         (and-then ! (load ! (from ! (stop !)) (look ! 18 refl))
         (and-then ! (load ! (from ! (stop !)) (look ! 22 refl))
         (and-then ! (load ! (from ! (stop !)) (look ! 16 refl))
