@@ -27,8 +27,8 @@ use Rattle.hub.specs.Ring.{PLACES, readSeat}
 use Rattle.hub.specs.Table.{decide}
 use Rattle.hub.proofs.Laws.Printed.{with-printed}
 use Rattle.fit.proofs.Laws.Clauses.{mapped-size}
-use Rattle.table.specs.declared.effect.Effect.{Effect}
-use Rattle.table.specs.Effect.{effectOf}
+use Rattle.effects.specs.declared.effect.Effect.{Effect}
+use Rattle.effects.specs.Effect.{effectOf}
 use Rattle.transition.specs.Tidied.{tidiedBy}
 use Rattle.transition.proofs.Laws.Called.{asks, radiosAfter, unfit, no-such-party, Counted, counted}
 use Rattle.transition.proofs.Laws.Called.{outcome-is}
