@@ -2,7 +2,6 @@
 // at rest. A shell takes the hub by reference, hands its fields to a function over them, which calls the by-value
 // core, and stores the record that comes back, as in the crate board.
 
-use hub::Answer;
 use hub::Figures;
 use hub::Hub;
 use hub::Op;
