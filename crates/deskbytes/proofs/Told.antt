@@ -12,7 +12,7 @@ use Rattle.hub.specs.declared.record.Hub.{Hub}
 use Rattle.hub.specs.Answers.{printed}
 use Rattle.hub.specs.Opening.{opening}
 use Rattle.hub.proofs.Laws.Bools.{first, second}
-use Rattle.line.specs.Frame.{opOf}
+use Rattle.encoding.specs.Frame.{opOf}
 use Rattle.operations.specs.declared.Told.{Told}
 use Rattle.operations.specs.Operation.{operated}
 use Rattle.run.specs.Bytes.{callsOf, wellFormed}
