@@ -21,7 +21,7 @@ use Rattle.hub.specs.Schedule.{entries}
 use Rattle.hub.proofs.Demand3.{in-range, demand3}
 use Rattle.hub.proofs.Laws.Bools.{first, second}
 use Rattle.hub.proofs.Laws.Lists.{weight-map, weight-replicate}
-use Rattle.line.specs.Form.{asBytes}
+use Rattle.encoding.specs.Form.{asBytes}
 use Rattle.line.specs.Program.{unopened, Reply, replyOf, replies, rendered, linesOf}
 use Rattle.line.specs.Requests.{requestOf}
 use Rattle.outputs.specs.Schedule.{Schedule, unstarted, started, repliesOf, leftBy, Holds, scheduleOf}

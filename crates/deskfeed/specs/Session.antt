@@ -7,9 +7,9 @@ use Rattle.reader.specs.Reading.{KEPT, asked, past}
 use Rattle.frame.specs.Session.{joined, rest}
 use Rattle.line.specs.Program.{linesOf}
 use Rattle.line.specs.Requests.{Request, requestOf}
+use Rattle.hub.specs.Record.{PARTIES}
 use Rattle.screen.specs.declared.record.Line.{Line}
 use Rattle.screen.specs.Moves.{noLine}
-use Rattle.screen.specs.Reached.{IsLine}
 use Rattle.deskfeed.specs.declared.session.Session.{Session}
 use Rattle.deskline.specs.Replies.{askedBy, respond}
 use Rattle.deskline.specs.Text.{lineText}
@@ -50,10 +50,12 @@ toldAll s (p ∷ ps) = told s p ++ toldAll (fed s p) ps
 unfoldable pub InPieces : Type 0
 InPieces = (pieces : List (List ℕ)) → toldAll atStart pieces ≡ outputOf (joined pieces)
 
--- A line that can be printed: at most 32 wait.
+-- A line that can be printed: of its arrays those that say who holds and who waits have 32 elements, and at most 32
+-- wait.
 pub record Printable (l : Line) : Type 0 where
-  pub arrays : IsLine l
-  pub few : l .waiting ≤ 32
+  pub holding : length (l .holding) ≡ PARTIES
+  pub queue : length (l .queue) ≡ PARTIES
+  pub few : l .waiting ≤ PARTIES
 
 -- What `feed` and `finish` ask of a session, and what every input leads to.
 pub record Sound (s : Session) : Type 0 where

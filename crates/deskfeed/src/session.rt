@@ -2,6 +2,7 @@
 
 use deskline::reply::respond;
 use deskline::text::put_line;
+use hub::opening::sized;
 use reader::KEPT;
 use reader::Reader;
 use screen::Line;
@@ -30,7 +31,7 @@ pub fn begin() -> Session
     ensures { λ r. ⌜ r ≡ atStart ⌝ }
 {
     Session {
-        line: Line::open(0, 0, false),
+        line: Line::open(sized(0, 0)),
         reader: Reader {
             line: [0; KEPT],
             len: 0,

@@ -16,8 +16,8 @@ use Rattle.hub.specs.declared.record.Outcome.{Outcome}
 use Rattle.hub.specs.Opening.{fresh, opening, sized, withRadios}
 use Rattle.hub.specs.OwnKinds.{WithoutKinds, calledBefore, openingBefore}
 use Rattle.hub.proofs.OwnKinds.{called-before, opened-before, opened-without, still-without}
-use Rattle.line.specs.Form.{asText}
-use Rattle.line.specs.Frame.{isCall, opOf}
+use Rattle.encoding.specs.Form.{asText}
+use Rattle.encoding.specs.Frame.{isCall, opOf}
 use Rattle.line.specs.Program.{Reply, Response, after, beforeOpen, closing, isOpen, linesOf, outputOf}
 use Rattle.line.specs.Program.{rendered, replies, reported, respond, unopened, whenOpen}
 use Rattle.line.specs.Requests.{Request, malformed, toOpen, toCall, frameSize, givenKinds, isOpening}

@@ -14,7 +14,7 @@ use Rattle.hub.specs.Ring.{readSeat, writeSeat, skip, retire}
 use Rattle.hub.specs.Table.{stepAcquiring, stepSuspending, stepTicketed, stepReleasing, stepResuming}
 use Rattle.hub.specs.Table.{resumeWaiter, stepResumingAt, stepAborting, stepCancelling, stepRefusing}
 use Rattle.hub.specs.Table.{stepIn, acquire, cancel, givenUp, release, decide}
-use Rattle.line.specs.Hex.{digitOf}
+use Rattle.encoding.specs.Hex.{digitOf}
 use Rattle.line.specs.Requests.{allDigits, bytesOf, givenKinds, openingIn, requested, spelledBy, requestOf}
 use Rattle.line.specs.Program.{whenOpen, beforeOpen, respond, replies, after, rendered, linesFrom}
 use Rattle.line.specs.Program.{outputOf}

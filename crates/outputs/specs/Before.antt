@@ -9,7 +9,7 @@ use lib.ListN.{getD, length}
 use Rattle.hub.specs.declared.record.Hub.{Hub}
 use Rattle.hub.specs.Opening.{sized, withRadios}
 use Rattle.hub.specs.OwnKinds.{calledBefore, openingBefore}
-use Rattle.line.specs.Form.{asText}
+use Rattle.encoding.specs.Form.{asText}
 use Rattle.line.specs.Program.{Reply, Response, closing, isOpen, linesOf, outputOf, rendered, reported}
 use Rattle.line.specs.Program.{turnedDown, unopened}
 use Rattle.line.specs.Requests.{Request, malformed, toOpen, toCall, frameSize, isOpening, requested, spelledBy}

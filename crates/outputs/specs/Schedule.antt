@@ -14,9 +14,9 @@ use Rattle.hub.specs.Ledger.{ledger, opened}
 use Rattle.hub.specs.Opening.{opening, sized, withRadios}
 use Rattle.hub.specs.Radios.{radiosOf}
 use Rattle.hub.specs.Schedule.{entries, run}
-use Rattle.line.specs.Form.{asText}
-use Rattle.line.specs.Frame.{codeOf}
-use Rattle.line.specs.Hex.{textOf}
+use Rattle.encoding.specs.Form.{asText}
+use Rattle.encoding.specs.Frame.{codeOf}
+use Rattle.encoding.specs.Hex.{textOf}
 use Rattle.line.specs.Program.{unopened, isOpen, Reply, replyOf, replies, rendered}
 use Rattle.line.specs.Program.{closing, linesOf, outputOf}
 use Rattle.line.specs.Requests.{Request, malformed, toOpen, toCall, givenKinds, requestOf}

@@ -8,7 +8,7 @@ use Rattle.hub.specs.declared.record.Hub.{Hub}
 use Rattle.hub.specs.declared.record.Outcome.{Outcome}
 use Rattle.hub.specs.Answers.{printed, refusalCode}
 use Rattle.hub.specs.Opening.{opening}
-use Rattle.line.specs.Frame.{isCall}
+use Rattle.encoding.specs.Frame.{isCall}
 use Rattle.line.specs.Requests.{Request, malformed, toOpen, toCall}
 use Rattle.run.specs.Bytes.{wellFormed, callsOf, framesOf}
 use Rattle.run.specs.declared.Ran.{Ran}

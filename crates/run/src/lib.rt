@@ -2,17 +2,17 @@
 // What the third demand says of schedules it says of these answers.
 
 use batch::answer_requests;
+use encoding::answer::refusal_code;
 use hub::answers::Answer;
 use hub::answers::Refusal;
 use hub::opening::Opening;
 use hub::opening::open_hub;
-use line::answer::refusal_code;
-use line::form::BYTES;
 use line::openings::is_opening_frame;
 use line::openings::opening_in;
+use writer::form::BYTES;
 ghost use mathlib.Core.Path.{_≡_};
 ghost use Rattle.hub.specs.Opening.{opening};
-ghost use Rattle.line.specs.Frame.{isCall};
+ghost use Rattle.encoding.specs.Frame.{isCall};
 ghost use Rattle.line.specs.Requests.{requested};
 ghost use Rattle.run.specs.Bytes.{wellFormed};
 ghost use Rattle.run.specs.Run.{framedRun, ranCode, runFrom};

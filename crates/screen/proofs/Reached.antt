@@ -11,5 +11,5 @@ pub fits-if-reached : FitsIfReached
 unfolding FitsIfReached
 fits-if-reached = (
   λ l r. fits l (reached-sound l r .fit),
-  λ l s e. sound-reached l (record { fit = fit l e; holding = s .holding; queue = s .queue }),
+  λ l s e. sound-reached l (s .kinds) (record { fit = fit l e; holding = s .holding; queue = s .queue }),
 )

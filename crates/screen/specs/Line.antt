@@ -4,18 +4,20 @@ use mathlib.Core.Bool.{Bool, false, cond}
 use mathlib.Core.List.{List, [], _∷_}
 use lib.Dec.{eqb}
 use lib.ListN.{getD, length, replicate, take}
+use Rattle.hub.specs.declared.opening.Opening.{Opening}
 use Rattle.hub.specs.Basics.{among}
 use Rattle.hub.specs.Radios.{padded}
 use Rattle.hub.specs.Record.{PARTIES}
 use Rattle.screen.specs.declared.record.Line.{Line}
 
--- K permits, n parties, and whether there are radios. Nobody holds and nobody waits.
-unfoldable pub openedLine : ℕ → ℕ → Bool → Line
-openedLine k n named =
+-- Of an opening the line keeps K, n, whether there are radios, and the kinds. Nobody holds and nobody waits.
+unfoldable pub openedLine : Opening → Line
+openedLine o =
     record {
-      permits = k;
-      parties = n;
-      named = named;
+      permits = o .permits;
+      parties = o .parties;
+      named = o .named;
+      kinds = o .kinds;
       holding = replicate PARTIES false;
       queue = replicate PARTIES 0;
       waiting = 0;
@@ -52,6 +54,7 @@ withHolding hs l =
       permits = l .permits;
       parties = l .parties;
       named = l .named;
+      kinds = l .kinds;
       holding = hs;
       queue = l .queue;
       waiting = l .waiting;
@@ -63,6 +66,7 @@ withWaiters ws l =
       permits = l .permits;
       parties = l .parties;
       named = l .named;
+      kinds = l .kinds;
       holding = l .holding;
       queue = padded ws;
       waiting = length ws;

@@ -10,8 +10,8 @@ use Rattle.hub.specs.declared.moves.Call.{Call}
 use Rattle.hub.specs.declared.moves.Op.{Op}
 use Rattle.hub.specs.declared.opening.Opening.{Opening}
 use Rattle.hub.specs.Answers.{printed}
-use Rattle.hub.specs.Kinds.{kindOf}
-use Rattle.hub.specs.Opening.{opening}
+use Rattle.hub.specs.Kinds.{kindIn}
+use Rattle.hub.specs.Opening.{allPassed, nobody, opening, tests}
 use Rattle.screen.specs.declared.record.Line.{Line}
 use Rattle.screen.specs.declared.record.Moved.{Moved}
 use Rattle.screen.specs.declared.record.Operation.{Operation}
@@ -76,28 +76,25 @@ checked true true l m = m
 
 unfoldable pub ownMove : Line → Operation → ℕ → Moved
 ownMove l Operation.Acquire p = acquire (not (holdsIn l p) && not (waitsIn l p)) (hasPermit l) l p
-ownMove l Operation.Cancel p = cancel (waitsIn l p) (eqb (kindOf p) 3) l p
+ownMove l Operation.Cancel p = cancel (waitsIn l p) (eqb (kindIn (l .kinds) p) 3) l p
 ownMove l Operation.Release p = release (holdsIn l p) (hasWaiter l) l p
 
 -- What an operation of party p answers, and the line that it leaves.
 unfoldable pub moved : Line → Operation → ℕ → Moved
 moved l o p = checked (lineFits l) (ltb p (l .parties)) l (ownMove l o p)
 
--- Is an answer 20; is it 1F?
+-- Is an answer 20?
 abbrev pub isAccepted : Answer → Bool
 isAccepted y = eqb (printed y .code) 0x20
 
-abbrev pub isOpened : Answer → Bool
-isOpened y = eqb (printed y .code) 0x1F
-
 -- A refused opening makes no line; what stands in its place refuses every operation by 1.
 abbrev pub noLine : Line
-noLine = openedLine 0 0 false
+noLine = openedLine nobody
 
 -- An opening is answered as at the hub.
 unfoldable pub lineOpening : Opening → Moved
 lineOpening o =
     record {
       answer = opening o .answer;
-      line = cond (isOpened (opening o .answer)) (openedLine (o .permits) (o .parties) (o .named)) noLine;
+      line = cond (allPassed (tests o)) (openedLine o) noLine;
     }

@@ -1,10 +1,13 @@
 -- A line fits exactly if its moves reach it.
 use Prim.Native.Nat.{ℕ}
 use mathlib.Core.Path.{_≡_}
-use mathlib.Core.Bool.{Bool, true}
+use mathlib.Core.Bool.{true}
 use mathlib.Core.List.{List, [], _∷_}
 use lib.ListN.{length}
-use Rattle.hub.specs.Basics.{upTo32}
+use Rattle.hub.specs.declared.answers.Answer.{Answer}
+use Rattle.hub.specs.declared.opening.Opening.{Opening}
+use Rattle.hub.specs.Opening.{opening}
+use Rattle.hub.specs.Radios.{STORE}
 use Rattle.hub.specs.Record.{PARTIES}
 use Rattle.screen.specs.declared.record.Line.{Line}
 use Rattle.screen.specs.declared.record.Operation.{Operation}
@@ -23,20 +26,23 @@ unfoldable pub lineAfter : Line → List Request → Line
 lineAfter l [] = l
 lineAfter l (r ∷ rs) = lineAfter (moved l (r .operation) (r .party) .line) rs
 
--- From an opening with K and n in range.
-pub record LineReached (l : Line) : Type 0 where
-  pub permits : ℕ
-  pub parties : ℕ
-  pub named : Bool
-  pub requests : List Request
-  pub someLinks : upTo32 permits ≡ true
-  pub someParties : upTo32 parties ≡ true
-  pub leads : lineAfter (openedLine permits parties named) requests ≡ l
+-- Values of the types: their arrays have 32 elements.
+pub record IsOpening (o : Opening) : Type 0 where
+  pub radios : length (o .radios) ≡ STORE
+  pub kinds : length (o .kinds) ≡ PARTIES
 
--- A value of the type: its arrays have 32 elements.
 pub record IsLine (l : Line) : Type 0 where
+  pub kinds : length (l .kinds) ≡ PARTIES
   pub holding : length (l .holding) ≡ PARTIES
   pub queue : length (l .queue) ≡ PARTIES
+
+-- From an opening that is accepted.
+pub record LineReached (l : Line) : Type 0 where
+  pub start : Opening
+  pub arrays : IsOpening start
+  pub accepted : opening start .answer ≡ Answer.Opened
+  pub requests : List Request
+  pub leads : lineAfter (openedLine start) requests ≡ l
 
 -- Every line that is reached fits, and every line that fits is reached.
 unfoldable pub FitsIfReached : Type 0

@@ -11,10 +11,10 @@ use crate::record::Moved;
 use crate::record::Operation;
 use hub::answers::Answer;
 use hub::answers::Refusal;
-use hub::kinds::kind;
+use hub::kinds::kind_in;
 use hub::opening::Opening;
-use hub::opening::radios_differ;
-use hub::opening::up_to_32;
+use hub::opening::opening_answer;
+use hub::opening::sized;
 ghost use mathlib.Core.Path.{_≡_};
 ghost use mathlib.Core.Bool.{true};
 ghost use Prim.Native.Nat.{_<_};
@@ -25,13 +25,15 @@ ghost use Rattle.screen.specs.Moves.{accepted, lineOpening, moved, ownMo
 
 impl Line {
     // The line of a hub that was just opened; nothing is checked here.
-    pub fn open(permits: u8, parties: u8, named: bool) -> Line
-        ensures { λ r. ⌜ r ≡ openedLine permits parties named ⌝ }
+    pub fn open(o: Opening) -> Line
+        ensures { λ r. ⌜ r ≡ openedLine o ⌝ }
     {
+        let kinds = o.kinds;
         Line {
-            permits,
-            parties,
-            named,
+            permits: o.permits,
+            parties: o.parties,
+            named: o.named,
+            kinds,
             holding: [false; 32],
             queue: [0; 32],
             waiting: 0,
@@ -61,18 +63,13 @@ fn accepted(line: Line) -> Moved
 pub fn open_line(o: Opening) -> Moved
     ensures { λ r. ⌜ (r ≡ lineOpening o) × (printed (r .answer) ≡ printed (lineOpening o .answer)) ⌝ }
 {
-    if !up_to_32(o.permits) {
-        return refused(Refusal::BadPermits, Line::open(0, 0, false));
-    }
-    if !up_to_32(o.parties) {
-        return refused(Refusal::BadParties, Line::open(0, 0, false));
-    }
-    if !radios_differ(o) {
-        return refused(Refusal::SameRadios, Line::open(0, 0, false));
+    let answer = opening_answer(o);
+    if let Answer::Refused(why) = answer {
+        return refused(why, Line::open(sized(0, 0)));
     }
     Moved {
         answer: Answer::Opened,
-        line: Line::open(o.permits, o.parties, o.named),
+        line: Line::open(o),
     }
 }
 
@@ -106,7 +103,8 @@ fn cancel_on(line: Line, party: u8) -> Moved
     if line.waiting as usize <= at {
         return refused(Refusal::NotWaiting, line);
     }
-    if kind(party) == 3 {
+    let kinds = line.kinds;
+    if kind_in(kinds, party) == 3 {
         return refused(Refusal::NotCancellable, line);
     }
     accepted(leave(line, at))

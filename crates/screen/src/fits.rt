@@ -1,14 +1,17 @@
 // Is a line one that its moves reach?
 
 use crate::record::Line;
+use hub::kinds::has_desk;
+use hub::kinds::kinds_known;
 use hub::opening::up_to_32;
 ghost use mathlib.Core.Path.{_≡_};
 ghost use mathlib.Core.Bool.{true, _&&_};
 ghost use Prim.Native.Nat.{_≤_};
-ghost use lib.Dec.{eqb, ltb};
+ghost use lib.Dec.{eqb, leb, ltb};
 ghost use lib.ListN.{drop};
+ghost use Rattle.hub.specs.Basics.{allPass, implies};
 ghost use Rattle.hub.specs.Radios.{differ};
-ghost use Rattle.screen.specs.Fits.{allPass, everybody, held, lineFits};
+ghost use Rattle.screen.specs.Fits.{everybody, held, lineFits};
 ghost use Rattle.screen.specs.Line.{holders};
 
 // How many hold.
@@ -88,6 +91,16 @@ fn rest_is_zero(line: Line) -> bool
     true
 }
 
+// Does nobody wait, or do K hold?
+fn full_if_waiting(waiting: u8, held: u8, permits: u8) -> bool
+    ensures { λ r. ⌜ r ≡ implies (leb 1 waiting) (eqb held permits) ⌝ }
+{
+    if waiting < 1 {
+        return true;
+    }
+    held == permits
+}
+
 pub fn line_fits(line: Line) -> bool
     ensures { λ r. ⌜ r ≡ lineFits line ⌝ }
 {
@@ -113,8 +126,12 @@ pub fn line_fits(line: Line) -> bool
     if !rest_is_zero(line) {
         return false;
     }
-    if line.waiting < 1 {
-        return true;
+    let kinds = line.kinds;
+    if !kinds_known(kinds) {
+        return false;
     }
-    held == line.permits
+    if !has_desk(kinds) {
+        return false;
+    }
+    full_if_waiting(line.waiting, held, line.permits)
 }

@@ -6,6 +6,7 @@ pub struct Line {
     pub permits: u8, // links, K
     pub parties: u8, // n
     pub named: bool, // does the hub have radios?
+    pub kinds: [u8; 32], // of the parties, as at the hub
     pub holding: [bool; 32], // each party: does it hold?
     pub queue: [u8; 32], // the parties that wait, in their order; behind them 0
     pub waiting: u8, // how many wait

@@ -15,7 +15,7 @@ use Rattle.hub.specs.declared.record.Hub.{Hub}
 use Rattle.hub.specs.declared.record.Phase.{Phase}
 use Rattle.hub.specs.Calls.{checked, isFull, tidied}
 use Rattle.hub.specs.Fits.{fits}
-use Rattle.hub.specs.Kinds.{kindOf}
+use Rattle.hub.specs.Kinds.{kindIn}
 use Rattle.hub.specs.Ledger.{phaseIn}
 use Rattle.hub.specs.Look.{look, seenBy}
 use Rattle.hub.specs.Phases.{isFree, isHolding, isOneOf, isWaiting, ticketOf}
@@ -44,7 +44,7 @@ use Rattle.shown.specs.Shows.{isSixOrSeven}
 use Rattle.shown.proofs.Parties.{without-behind}
 use Rattle.shown.proofs.Waiters.{comes, leaves, stays}
 use Rattle.shown.proofs.Rest.{phases, apart, between, calm, cancel-at-rest, next, nextAt}
-use Rattle.shown.proofs.Seen.{Seen, holds-same, waits-same, free-same, permit-same}
+use Rattle.shown.proofs.Seen.{SameOpening, Seen, holds-same, waits-same, free-same, permit-same}
 use Rattle.shown.proofs.Seen.{line-first, next-same, waiter-same}
 
 -- What an operation came to at the hub, and the screen's move.
@@ -55,16 +55,13 @@ pub record Same (x : Operated) (l : Line) (o : Operation) (y : Moved) : Type 0 w
   pub seen : Seen (x .hub) (y .line)
 
 -- A record whose phases are ls, and a line with others that hold; with others that wait.
-module _ (h : Hub) (l : Line) (k : l .permits ≡ h .opening .permits) (n : l .parties ≡ h .opening .parties)
-    (named : l .named ≡ h .opening .named) (ls : List Phase) (e : phases h ≡ ls) where
+module _ (h : Hub) (l : Line) (o : SameOpening (h .opening) l) (ls : List Phase) (e : phases h ≡ ls) where
   other-holders : (hs : List Bool) → hs ≡ map isHolding ls
       → waiters l ≡ waitersFrom 0 (h .figures .issued) ls → Seen h (withHolding hs l)
   unfolding waiters waitersOf
   other-holders hs f w =
       record {
-        permits = k;
-        parties = n;
-        named = named;
+        opened = o;
         holding = f ∙ ap (map isHolding) (sym e);
         waiters = w ∙ ap (waitersFrom 0 (h .figures .issued)) (sym e);
       }
@@ -74,9 +71,7 @@ module _ (h : Hub) (l : Line) (k : l .permits ≡ h .opening .permits) (n : l .p
   unfolding waitersOf
   other-waiters ws i f w =
       record {
-        permits = k;
-        parties = n;
-        named = named;
+        opened = o;
         holding = f ∙ ap (map isHolding) (sym e);
         waiters = waiters-of l (l .holding) ws i ∙ w ∙ ap (waitersFrom 0 (h .figures .issued)) (sym e);
       }
@@ -132,9 +127,9 @@ module _ (h : Hub) (l : Line) (r : AtRest h) (g : Sound l) (s : Seen h l) (p : �
       record {
         answer = refl;
         woken = refl;
-        steps = ap₂ (λ (b c : Bool). cond c (toCounter b) TO-WAIT) (sym (s .named)) (sym e);
+        steps = ap₂ (λ (b c : Bool). cond c (toCounter b) TO-WAIT) (sym (s .opened .named)) (sym e);
         seen =
-            other-holders _ l (s .permits) (s .parties) (s .named) (set (phases h) p Phase.Holding)
+            other-holders _ l (s .opened) (set (phases h) p Phase.Holding)
             (write-phase (h .slots) p _) (set (l .holding) p true) (holding-set Phase.Holding)
             (waiting-kept Phase.Holding refl (not-waiting now (inl f)));
       }
@@ -144,7 +139,7 @@ module _ (h : Hub) (l : Line) (r : AtRest h) (g : Sound l) (s : Seen h l) (p : �
         woken = refl;
         steps = ap (λ (c : Bool). cond c (toCounter (l .named)) TO-WAIT) (sym e);
         seen =
-            other-waiters _ l (s .permits) (s .parties) (s .named)
+            other-waiters _ l (s .opened)
             (set (phases h) p (Phase.Waiting (h .figures .issued))) (write-phase (h .slots) p _)
             (waiters l ++ p ∷ []) j
             (holding-kept (Phase.Waiting (h .figures .issued)) (sym (not-holding now (inl f))))
@@ -166,7 +161,7 @@ module _ (h : Hub) (l : Line) (r : AtRest h) (g : Sound l) (s : Seen h l) (p : �
         woken = refl;
         steps = refl;
         seen =
-            other-waiters _ l (s .permits) (s .parties) (s .named) (set (phases h) p Phase.Free)
+            other-waiters _ l (s .opened) (set (phases h) p Phase.Free)
             (write-phase (h .slots) p _) (without p (waiters l)) j
             (holding-kept Phase.Free (sym (not-holding now (inr f))))
             (ap (without p) (s .waiters)
@@ -186,9 +181,9 @@ module _ (h : Hub) (l : Line) (r : AtRest h) (g : Sound l) (s : Seen h l) (p : �
       record {
         answer = refl;
         woken = ap (λ (c : Bool). cond c (nextWaiter l) 0xFF) (sym e);
-        steps = ap₂ (λ (b c : Bool). cond c TO-HAND-OVER (toCounter b)) (sym (s .named)) (sym e);
+        steps = ap₂ (λ (b c : Bool). cond c TO-HAND-OVER (toCounter b)) (sym (s .opened .named)) (sym e);
         seen =
-            other-holders _ l (s .permits) (s .parties) (s .named) (set (phases h) p Phase.Free)
+            other-holders _ l (s .opened) (set (phases h) p Phase.Free)
             (write-phase (h .slots) p _) (set (l .holding) p false) (holding-set Phase.Free)
             (waiting-kept Phase.Free refl (not-waiting now (inr f)));
       }
@@ -199,7 +194,7 @@ module _ (h : Hub) (l : Line) (r : AtRest h) (g : Sound l) (s : Seen h l) (p : �
         steps = ap (λ (c : Bool). cond c TO-HAND-OVER (toCounter (l .named))) (sym e);
         seen =
             other-waiters _ (withHolding (set (set (l .holding) p false) (nextWaiter l) true) l)
-            (s .permits) (s .parties) (s .named) (set (set (phases h) q Phase.Holding) p Phase.Free)
+            (s .opened) (set (set (phases h) q Phase.Holding) p Phase.Free)
             (write-phase (writeSlot (h .slots) q _) p _
             ∙ ap (λ (x : List Phase). set x p Phase.Free) (write-phase (h .slots) q _))
             (drop 1 (waiters l)) j
@@ -275,15 +270,19 @@ module _ (h : Hub) (l : Line) (r : AtRest h) (g : Sound l) (s : Seen h l) (p : �
       (free-same h l r g s p ∙ ap isFree (sym (read-phase (h .slots) p)))
       (acquire-by i _ (sym (free-same h l r g s p)) e full)
   own-same i Operation.Cancel full =
-      let k = eqb (kindOf p) 3 in
       let x = givenUp (readSlot (h .slots) p .phase) in
       subst
+      (λ (ks : List ℕ).
+      Follows (byMove (table.cancel (canCancel (readSlot (h .slots) p .phase)) (eqb (kindIn ks p) 3) x (look h p)) h
+      (callOf Operation.Cancel p)) Operation.Cancel (ownMove l Operation.Cancel p))
+      (s .opened .kinds)
+      (subst
       (λ (b : Bool).
-      Follows (byMove (table.cancel b k x (look h p)) h (callOf Operation.Cancel p)) Operation.Cancel
-      (ownMove l Operation.Cancel p))
+      Follows (byMove (table.cancel b (eqb (kindIn (l .kinds) p) 3) x (look h p)) h (callOf Operation.Cancel p))
+      Operation.Cancel (ownMove l Operation.Cancel p))
       (waits-same h l r g s p ∙ sym (cancel-at-rest now (calm h r p))
       ∙ ap canCancel (sym (read-phase (h .slots) p)))
-      (cancel-by _ (sym (waits-same h l r g s p)) k x)
+      (cancel-by _ (sym (waits-same h l r g s p)) (eqb (kindIn (l .kinds) p) 3) x))
   own-same i Operation.Release full =
       subst
       (λ (b : Bool).
@@ -318,7 +317,7 @@ module _ (h : Hub) (l : Line) (r : AtRest h) (g : Sound l) (s : Seen h l) (p : �
       subst (λ (b : Bool). Follows (hubBy b there o) o (moved l o p)) (sym fit)
       (subst (λ (b : Bool). Follows (hubBy true there o) o (screen.checked b (ltb p (l .parties)) l own))
       (sym (fits-line l (g .fit)))
-      (subst (λ (n : ℕ). Follows (hubBy true there o) o (screen.checked true (ltb p n) l own)) (sym (s .parties))
+      (subst (λ (n : ℕ). Follows (hubBy true there o) o (screen.checked true (ltb p n) l own)) (sym (s .opened .parties))
       (checked-same o there refl)))
 
   -- Every operation.

@@ -7,6 +7,7 @@ use native.Mathlib.Omega.{arith}
 use borrow.Author.Tests.{le-leb}
 use lib.Dec.{leb, ltb}
 use lib.ListN.{length, getD, List·getD-map}
+use Rattle.hub.specs.declared.opening.Opening.{Opening}
 use Rattle.hub.specs.declared.record.Hub.{Hub}
 use Rattle.hub.specs.declared.record.Phase.{Phase}
 use Rattle.hub.specs.Basics.{among, count}
@@ -25,11 +26,19 @@ use Rattle.shown.proofs.Parties.{parties-bits, parties-count}
 use Rattle.shown.proofs.Waiters.{among-waiters, is-first, nobody-waits}
 use Rattle.shown.proofs.Rest.{phases, apart, between, calm, free-at-rest, nextAt, nobody, next}
 
+-- K, n, whether there are radios, and the kinds are those of an opening: what no move of a line changes.
+pub record OpenedAs (o : Opening) (k n : ℕ) (b : Bool) (ks : List ℕ) : Type 0 where
+  pub permits : k ≡ o .permits
+  pub parties : n ≡ o .parties
+  pub named : b ≡ o .named
+  pub kinds : ks ≡ o .kinds
+
+abbrev pub SameOpening : Opening → Line → Type 0
+SameOpening o l = OpenedAs o (l .permits) (l .parties) (l .named) (l .kinds)
+
 -- The line l shows the record h.
 pub record Seen (h : Hub) (l : Line) : Type 0 where
-  pub permits : l .permits ≡ h .opening .permits
-  pub parties : l .parties ≡ h .opening .parties
-  pub named : l .named ≡ h .opening .named
+  pub opened : SameOpening (h .opening) l
   pub holding : l .holding ≡ map isHolding (phases h)
   pub waiters : waiters l ≡ waitersOf h
 
@@ -53,7 +62,7 @@ module _ (h : Hub) (l : Line) (r : AtRest h) (g : Sound l) (s : Seen h l) where
   pub permit-same : hasPermit l ≡ aboveZero (h .figures .counter)
   unfolding hasPermit holders
   permit-same =
-      ap₂ ltb held-same (s .permits) ∙ sym (permit-left h r)
+      ap₂ ltb held-same (s .opened .permits) ∙ sym (permit-left h r)
     where
       held-same : held l ≡ count isHolding (phases h)
       held-same =

@@ -1,23 +1,22 @@
 -- Whole lists of operations: the line goes on showing the hub.
-use Prim.Native.Nat.{ℕ, zero, suc, _≤_}
+use Prim.Native.Nat.{ℕ, zero, suc}
 use mathlib.Core.Path.{_≡_, refl, sym, ap, ap₂, subst, _∙_}
 use mathlib.Core.Bool.{true, false}
 use mathlib.Core.List.{List, [], _∷_, _++_}
-use borrow.Author.Tests.{le-leb}
 use lib.ListN.{getD, replicate}
 use Rattle.hub.specs.declared.answers.Answer.{Answer}
 use Rattle.hub.specs.declared.moves.Call.{Call}
 use Rattle.hub.specs.declared.opening.Opening.{Opening}
 use Rattle.hub.specs.declared.record.Hub.{Hub}
 use Rattle.hub.specs.declared.record.PartySlot.{PartySlot}
-use Rattle.hub.specs.Basics.{upTo32}
 use Rattle.hub.specs.Calm.{rests}
-use Rattle.hub.specs.Opening.{fresh, opening}
+use Rattle.hub.specs.Opening.{fresh, opening, tests}
 use Rattle.hub.specs.Phases.{atRest, holds, isHolding, isOneOf}
 use Rattle.hub.specs.Record.{PARTIES, freeSlot, readSlot}
 use Rattle.hub.specs.Schedule.{run}
 use Rattle.hub.proofs.Demand3.{start}
-use Rattle.hub.proofs.Laws.Bools.{both, if-true}
+use Rattle.hub.proofs.Laws.Bools.{if-true}
+use Rattle.hub.proofs.Laws.Opening.{by-opened, ends}
 use Rattle.operations.specs.declared.Operated.{Operated}
 use Rattle.operations.specs.AtRest.{ComesTo, EndsAtRest, OnRest, isOperation, operatedAtRest}
 use Rattle.operations.specs.Operation.{operated, stepsAfter}
@@ -28,10 +27,10 @@ use Rattle.screen.specs.declared.record.Line.{Line}
 use Rattle.screen.specs.declared.record.Moved.{Moved}
 use Rattle.screen.specs.declared.record.Operation.{Operation}
 use Rattle.screen.specs.Line.{holders, holdersFrom, openedLine, waiters}
-use Rattle.screen.specs.Moves.{callOf, isOpened, lineOpening, moved}
+use Rattle.screen.specs.Moves.{callOf, lineOpening, moved}
 use Rattle.screen.specs.Reached.{Request, lineAfter}
 use Rattle.screen.specs.Steps.{stepsToRest, wokenBy}
-use Rattle.screen.proofs.Reached.Moved.{moved-sound, reached-sound}
+use Rattle.screen.proofs.Reached.Moved.{moved-sound, opened-sound}
 use Rattle.screen.proofs.Reached.Sound.{Sound}
 use Rattle.shown.specs.Parties.{holdersOf, waitersFrom, waitersOf}
 use Rattle.shown.specs.Shows.{Alike, NoSixOrSeven, ScreenShows, callFor, hubAfter, hubTold}
@@ -49,10 +48,14 @@ same-holders h l r s =
     ∙ parties-bits 0 isHolding (phases h) ∙ ap (holdersFrom 0) (sym (s .holding))
 
 -- At an opening nobody holds and nobody waits.
-fresh-seen : (o : Opening) → Seen (fresh o) (openedLine (o .permits) (o .parties) (o .named))
+fresh-seen : (o : Opening) → Seen (fresh o) (openedLine o)
 unfolding fresh openedLine isOneOf waitersOf waitersFrom waiters
 fresh-seen o =
-    record { permits = refl; parties = refl; named = refl; holding = refl; waiters = refl }
+    record {
+      opened = record { permits = refl; parties = refl; named = refl; kinds = refl };
+      holding = refl;
+      waiters = refl;
+    }
 
 fresh-calm : (o : Opening) (p : ℕ) → rests (fresh o) p ≡ true
 unfolding fresh readSlot isOneOf
@@ -73,7 +76,7 @@ module _ (o : Opening) (e : opening o .answer ≡ Answer.Opened) where
   first = opening o .hub
 
   abbrev firstLine : Line
-  firstLine = openedLine (o .permits) (o .parties) (o .named)
+  firstLine = openedLine o
 
   -- A record and a line that operations lead to, the line showing the record.
   record Pair (h : Hub) (l : Line) : Type 0 where
@@ -139,27 +142,14 @@ module _ (o : Opening) (e : opening o .answer ≡ Answer.Opened) where
       record {
         calls = [];
         ran = refl;
-        sound =
-            reached-sound firstLine
-            (record {
-              permits = o .permits;
-              parties = o .parties;
-              named = o .named;
-              requests = [];
-              someLinks = in-32 (o .permits) (start o e .permits);
-              someParties = in-32 (o .parties) (start o e .parties);
-              leads = refl;
-            });
+        sound = opened-sound o e;
         calm = subst (λ (h : Hub). (p : ℕ) → rests h p ≡ true) (sym (start o e .hub)) (fresh-calm o);
         seen = subst (λ (h : Hub). Seen h firstLine) (sym (start o e .hub)) (fresh-seen o);
       }
-    where
-      in-32 : (n : ℕ) → (1 ≤ n) × (n ≤ 32) → upTo32 n ≡ true
-      in-32 n i = both _ _ (le-leb 1 n (i .0)) (le-leb n 32 (i .1))
 
   same-line : lineOpening o .line ≡ firstLine
   unfolding lineOpening
-  same-line = if-true _ firstLine _ (ap isOpened e)
+  same-line = if-true _ firstLine _ (by-opened o _ _ (ends o (tests o)) e .0)
 
   alike : (rs : List Request) → NoSixOrSeven (hubTold first rs) → Alike first firstLine rs
   alike rs n =
@@ -169,6 +159,7 @@ module _ (o : Opening) (e : opening o .answer ≡ Answer.Opened) where
         holders = same-holders _ _ (known AtRest at-rest _ _ x) (x .seen);
         waiters = sym (x .seen .waiters);
         told = y .0;
+        kinds = sym (x .seen .opened .kinds);
         atRest = x .calm;
       }
 

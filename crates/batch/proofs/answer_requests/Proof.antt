@@ -27,11 +27,11 @@ use Rattle.hub.specs.Radios.{handOf}
 use Rattle.hub.specs.Record.{emptySeat, readSlot, writeSlot}
 use Rattle.hub.specs.Ring.{PLACES, Ring, readSeat, writeSeat, skip, retire}
 use Rattle.hub.specs.Table.{decide, withResumed}
-use Rattle.line.specs.Frame.{opOf, frameOf, paper}
-use Rattle.line.specs.Form.{formOf, inForm}
+use Rattle.encoding.specs.Frame.{opOf, frameOf, paper}
+use Rattle.encoding.specs.Form.{formOf, inForm}
 use Rattle.line.specs.Program.{after, respond}
-use Rattle.table.specs.declared.effect.Effect.{Effect}
-use Rattle.table.specs.Effect.{effectOf}
+use Rattle.effects.specs.declared.effect.Effect.{Effect}
+use Rattle.effects.specs.Effect.{effectOf}
 use Rattle.transition.specs.Room.{fullFor}
 use Rattle.transition.specs.Tidied.{tidiedBy}
 use Rattle.transition.proofs.Laws.Called.{radiosAfter, said, left}

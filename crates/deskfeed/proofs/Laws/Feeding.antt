@@ -9,7 +9,7 @@ use borrow.Author.Tests.{eq-eqb, ne-eqb}
 use lib.ListN.{length, getD, drop, drop-of-length-le, length-replicate, length-set, set}
 use lib.Seq.{drop-cons}
 use Rattle.hub.specs.declared.opening.Opening.{Opening}
-use Rattle.hub.specs.Opening.{opening}
+use Rattle.hub.specs.Opening.{allPassed, nobody, tests}
 use Rattle.reader.specs.declared.Reader.{Reader}
 use Rattle.reader.specs.Reading.{KEPT, asked, emptied, lineIn, next, past}
 use Rattle.reader.proofs.Laws.Pieces.{asked-end, asked-within, ended, full, kept, past-one}
@@ -18,7 +18,7 @@ use Rattle.screen.specs.declared.record.Line.{Line}
 use Rattle.screen.specs.declared.record.Operation.{Operation}
 use Rattle.screen.specs.Fits.{lineFits}
 use Rattle.screen.specs.Line.{openedLine}
-use Rattle.screen.specs.Moves.{isOpened, lineOpening, moved, noLine}
+use Rattle.screen.specs.Moves.{lineOpening, moved, noLine}
 use Rattle.screen.proofs.Laws.Answers.{unfit}
 use Rattle.screen.proofs.Laws.Fit.{fit}
 use Rattle.screen.proofs.Reached.Moved.{moved-sound}
@@ -31,13 +31,10 @@ use Rattle.deskline.specs.Text.{LONGEST-TEXT, lineText, placed}
 use Rattle.deskline.proofs.Laws.Placed.{Written, from-start, next as then, none, placed-length}
 
 -- Every answer leaves a line that can be printed.
-pub opened-printable : (k n : ℕ) (b : Bool) → Printable (openedLine k n b)
+pub opened-printable : (o : Opening) → Printable (openedLine o)
 unfolding openedLine
-opened-printable k n b =
-    record {
-      arrays = record { holding = length-replicate 32 false; queue = length-replicate {A = ℕ} 32 0 };
-      few = omega arith;
-    }
+opened-printable o =
+    record { holding = length-replicate 32 false; queue = length-replicate {A = ℕ} 32 0; few = omega arith }
 
 moved-printable : (l : Line) (o : Operation) (p : ℕ) → Printable l → Printable (moved l o p .line)
 moved-printable l o p r = go (lineFits l) refl
@@ -45,17 +42,16 @@ moved-printable l o p r = go (lineFits l) refl
     go : (b : Bool) → lineFits l ≡ b → Printable (moved l o p .line)
     go false e = subst (λ m. Printable (m .line)) (sym (unfit l p o e)) r
     go true e =
-        let s =
-        moved-sound l o p (record { fit = fit l e; holding = r .arrays .holding; queue = r .arrays .queue }) in
-        record { arrays = record { holding = s .holding; queue = s .queue }; few = s .fit .short }
+        let s = moved-sound l o p (record { fit = fit l e; holding = r .holding; queue = r .queue }) in
+        record { holding = s .holding; queue = s .queue; few = s .fit .short }
 
 opening-printable : (o : Opening) → Printable (lineOpening o .line)
 unfolding lineOpening
-opening-printable o = go (isOpened (opening o .answer))
+opening-printable o = go (allPassed (tests o))
   where
-    go : (b : Bool) → Printable (cond b (openedLine (o .permits) (o .parties) (o .named)) noLine)
-    go true = opened-printable (o .permits) (o .parties) (o .named)
-    go false = opened-printable 0 0 false
+    go : (b : Bool) → Printable (cond b (openedLine o) noLine)
+    go true = opened-printable o
+    go false = opened-printable nobody
 
 either : (b : Bool) (r t : Reply) → Printable (r .line) → Printable (t .line) → Printable (cond b r t .line)
 either true r t p q = p

@@ -10,6 +10,7 @@ use Rattle.frame.specs.Session.{joined, rest}
 use Rattle.frame.proofs.Laws.Lines.{lines-read}
 use Rattle.reader.proofs.Laws.Pieces.{past-kept}
 use Rattle.frame.proofs.Laws.Sessions.{asked-append, past-append}
+use Rattle.hub.specs.Opening.{nobody}
 use Rattle.line.specs.Requests.{Request, requestOf}
 use Rattle.screen.specs.declared.record.Line.{Line}
 use Rattle.screen.specs.Moves.{noLine}
@@ -24,7 +25,7 @@ use Rattle.deskfeed.proofs.Laws.Feeding.{opened-printable, printable}
 pub start-sound : Sound atStart
 start-sound =
     record {
-      line = opened-printable _ _ _;
+      line = opened-printable nobody;
       size = length-replicate {A = ℕ} KEPT 0;
       short = omega arith;
     }

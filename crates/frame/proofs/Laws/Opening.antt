@@ -17,12 +17,12 @@ use Rattle.hub.specs.Answers.{plain}
 use Rattle.hub.specs.Opening.{fresh, opening, tests}
 use Rattle.hub.proofs.Laws.Bools.{if-true, if-false}
 use Rattle.hub.proofs.Laws.Opening.{Ends, ends as opening-ends, opened as accepted, refused}
-use Rattle.line.specs.Form.{asText}
-use Rattle.line.specs.Frame.{codeOf}
+use Rattle.encoding.specs.Form.{asText}
+use Rattle.encoding.specs.Frame.{codeOf}
 use Rattle.line.specs.Program.{unopened, isOpen, Response, beforeOpen, respond, after}
 use Rattle.line.specs.Program.{replies, replyIn, rendered}
 use Rattle.line.specs.Requests.{Request, malformed, toOpen, toCall, requestOf, headerOf, isOpening}
-use Rattle.line.proofs.Laws.Parts.{parts, put-length}
+use Rattle.encoding.proofs.Laws.Parts.{parts, put-length}
 use Rattle.line.proofs.Laws.Schedules.{respond-before}
 use Rattle.batch.specs.Batch.{Reachable}
 use Rattle.batch.proofs.Laws.Reachable.{reachable-open, opening-reachable, response-reachable}

@@ -28,7 +28,7 @@ use Rattle.hub.proofs.Demand3.{demand3}
 use Rattle.hub.proofs.Laws.Bools.{first, if-true, if-false, never, second}
 use Rattle.hub.proofs.Laws.Opening.{Ends, each-passed, ends, opened, refused}
 use Rattle.hub.proofs.Laws.Phases.{places-alike}
-use Rattle.line.specs.Form.{asText}
+use Rattle.encoding.specs.Form.{asText}
 use Rattle.line.specs.Program.{unopened, isOpen, Reply, replyOf, whenOpen, beforeOpen}
 use Rattle.line.specs.Program.{replies, after, rendered, closing, linesOf, outputOf}
 use Rattle.line.specs.Requests.{Request, malformed, toOpen, toCall, requestOf}

@@ -6,8 +6,8 @@ use Rattle.hub.specs.declared.moves.Call.{Call}
 use Rattle.hub.specs.declared.opening.Opening.{Opening}
 use Rattle.hub.specs.Answers.{plain, printed}
 use Rattle.hub.specs.Opening.{fresh, opening}
-use Rattle.line.specs.Form.{asText}
-use Rattle.line.specs.Frame.{codeOf}
+use Rattle.encoding.specs.Form.{asText}
+use Rattle.encoding.specs.Frame.{codeOf}
 use Rattle.line.specs.Program.{unopened, Reply, beforeOpen, respond}
 use Rattle.line.specs.Program.{replies, after, rendered, closing, linesFrom, linesOf, outputOf}
 use Rattle.line.specs.Requests.{toOpen, toCall, requestOf}

@@ -22,8 +22,8 @@ use Rattle.hub.proofs.Laws.Bools.{first, second, if-true, if-false}
 use Rattle.hub.proofs.Laws.Opening.{by-opened, each-passed, ends}
 use Rattle.hub.proofs.Laws.Ranges.{one-true}
 use Rattle.hub.proofs.Radios.Length.{radios-length}
-use Rattle.line.specs.Frame.{isCall, codeOf}
-use Rattle.line.specs.Hex.{digitOf, byteOf, charOf, hexOf, textOf}
+use Rattle.encoding.specs.Frame.{isCall, codeOf}
+use Rattle.encoding.specs.Hex.{digitOf, byteOf, charOf, hexOf, textOf}
 use Rattle.line.specs.Program.{linesFrom}
 use Rattle.line.specs.Requests.{malformed, toOpen, toCall, allDigits, bytesOf, givenKinds, openingIn}
 use Rattle.line.specs.Requests.{requested, requestOf}

@@ -13,8 +13,8 @@ use Rattle.hub.specs.declared.record.Outcome.{Outcome}
 use Rattle.hub.specs.Answers.{printed, refusalCode}
 use Rattle.hub.specs.Opening.{allPassed, opening, tests}
 use Rattle.hub.proofs.Laws.Opening.{NotRefused, ends, not-refused}
-use Rattle.line.specs.Form.{asBytes}
-use Rattle.line.specs.Frame.{isCall}
+use Rattle.encoding.specs.Form.{asBytes}
+use Rattle.encoding.specs.Frame.{isCall}
 use Rattle.line.specs.Requests.{Request, toOpen, toCall, isOpening}
 use Rattle.batch.specs.Batch.{replied, Reachable}
 use Rattle.batch.proofs.Laws.Reachable.{reachable-open, opening-reachable}

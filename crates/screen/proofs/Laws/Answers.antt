@@ -10,7 +10,7 @@ use lib.ListN.{length, getD, set, take, drop}
 use lib.Seq.{getD-take}
 use Rattle.hub.specs.declared.answers.Refusal.{Refusal}
 use Rattle.hub.specs.Basics.{among}
-use Rattle.hub.specs.Kinds.{kindOf}
+use Rattle.hub.specs.Kinds.{kindIn}
 use Rattle.hub.proofs.Laws.Bools.{first, second}
 use Rattle.screen.specs.declared.record.Line.{Line}
 use Rattle.screen.specs.declared.record.Operation.{Operation}
@@ -63,15 +63,15 @@ module _ (l : Line) (p : ℕ) where
   unfolding ownMove cancel waitsIn
   waits-not e = rw e
 
-  pub may-not : among (waiters l) p ≡ true → kindOf p ≡ 3
+  pub may-not : among (waiters l) p ≡ true → kindIn (l .kinds) p ≡ 3
       → ownMove l Operation.Cancel p ≡ refused Refusal.NotCancellable l
   unfolding ownMove cancel waitsIn
-  may-not e k = rw (e, eq-eqb (kindOf p) 3 k)
+  may-not e k = rw (e, eq-eqb (kindIn (l .kinds) p) 3 k)
 
-  pub cancels : among (waiters l) p ≡ true → (kindOf p ≡ 3 → ⊥)
+  pub cancels : among (waiters l) p ≡ true → (kindIn (l .kinds) p ≡ 3 → ⊥)
       → ownMove l Operation.Cancel p ≡ accepted (withWaiters (without p (waiters l)) l)
   unfolding ownMove cancel waitsIn
-  cancels e k = rw (e, ne-eqb (kindOf p) 3 k)
+  cancels e k = rw (e, ne-eqb (kindIn (l .kinds) p) 3 k)
 
   -- Give back.
   pub holds-not : getD (l .holding) p false ≡ false → ownMove l Operation.Release p ≡ refused Refusal.NotHolding l
@@ -113,8 +113,8 @@ pub has-room : (l : Line) (p : ℕ) → Fit l → length (l .queue) ≡ 32 → l
     → l .waiting < 32
 unfolding holders
 has-room l p f size sizes h e a k =
-    let n : l .parties ≤ 32 = leb-true _ _ (second (leb 1 (l .parties)) _ (f .parties)) in
-    let m : 1 ≤ l .permits = leb-true _ _ (first _ (leb (l .permits) 32) (f .permits)) in
+    let n : l .parties ≤ 32 = leb-true _ _ (second (leb 1 (l .parties)) _ (f .bounds .parties)) in
+    let m : 1 ≤ l .permits = leb-true _ _ (first _ (leb (l .permits) 32) (f .bounds .permits)) in
     let w = waits-cons (l .holding) (l .parties) (waiters l) p (f .waits) a h e in
     omega (
       arith,
@@ -126,7 +126,7 @@ has-room l p f size sizes h e a k =
 -- Parties on a line that fits are below 32, and the first that waits is one of them.
 pub party-small : (l : Line) (p : ℕ) → Fit l → p < l .parties → p < 32
 party-small l p f h =
-    omega (arith, leb-true (l .parties) 32 (second (leb 1 (l .parties)) _ (f .parties)))
+    omega (arith, leb-true (l .parties) 32 (second (leb 1 (l .parties)) _ (f .bounds .parties)))
 
 pub next-first : (l : Line) → 1 ≤ l .waiting → nextWaiter l ≡ getD (l .queue) 0 0
 unfolding nextWaiter waiters

@@ -9,13 +9,14 @@ use borrow.Author.Tests.{leb-true, le-leb, ltb-true, lt-ltb, eqb-true, eq-eqb}
 use lib.Dec.{ltb}
 use lib.ListN.{length, getD, set, drop, length-set}
 use lib.Seq.{getD-drop, getD-set-same, getD-set-other}
-use Rattle.hub.specs.Basics.{among, bit, implies, upTo32, weight}
+use Rattle.hub.specs.Basics.{allPass, among, bit, implies, upTo32, weight}
+use Rattle.hub.specs.Kinds.{hasDesk, kindsKnown}
 use Rattle.hub.specs.Radios.{differ}
 use Rattle.hub.specs.Record.{PARTIES}
 use Rattle.hub.proofs.Laws.Bools.{clause, none, passed}
 use Rattle.hub.proofs.Laws.Lists.{weight-length, weight-set}
 use Rattle.screen.specs.declared.record.Line.{Line}
-use Rattle.screen.specs.Fits.{allPass, everybody, held, lineClauses, lineFits}
+use Rattle.screen.specs.Fits.{everybody, held, lineClauses, lineFits}
 use Rattle.screen.specs.Line.{holders, waiters}
 use Rattle.screen.proofs.Laws.Holders.{holders-differ, holds-there}
 use Rattle.screen.proofs.Laws.Lists.{all-zero, among-back, among-cases, among-drop, among-either, among-front}
@@ -127,10 +128,16 @@ pub room : (hs : List Bool) (n : ℕ) (w : List ℕ) → n ≤ length hs → Wai
 room hs n w h s =
     omega (arith, marks-weight hs n w h s, weight-length bit bit-small (marks hs w), marks-length hs w)
 
+-- K, n and the kinds, which a line has from its opening and no move changes, within their bounds.
+pub record Bounds (k n : ℕ) (ks : List ℕ) : Type 0 where
+  pub permits : upTo32 k ≡ true
+  pub parties : upTo32 n ≡ true
+  pub known : kindsKnown ks ≡ true
+  pub desk : hasDesk ks ≡ true
+
 -- The whole line.
 pub record Fit (l : Line) : Type 0 where
-  pub permits : upTo32 (l .permits) ≡ true
-  pub parties : upTo32 (l .parties) ≡ true
+  pub bounds : Bounds (l .permits) (l .parties) (l .kinds)
   pub short : l .waiting ≤ PARTIES
   pub below : (p : ℕ) → getD (l .holding) p false ≡ true → p < l .parties
   pub waits : Waits (l .holding) (l .parties) (waiters l)
@@ -192,8 +199,13 @@ module _ (l : Line) where
   fit e =
       let a = clause 4 (lineClauses l) e in
       record {
-        permits = clause 0 (lineClauses l) e;
-        parties = clause 1 (lineClauses l) e;
+        bounds =
+            record {
+              permits = clause 0 (lineClauses l) e;
+              parties = clause 1 (lineClauses l) e;
+              known = clause 8 (lineClauses l) e;
+              desk = clause 9 (lineClauses l) e;
+            };
         short = leb-true _ _ (clause 2 (lineClauses l) e);
         below = below-of (front-below a);
         waits = waits-of (clause 3 (lineClauses l) e) a;
@@ -209,12 +221,13 @@ module _ (l : Line) where
   pub fits : Fit l → lineFits l ≡ true
   unfolding lineFits
   fits f =
-      passed _ _ (f .permits)
-      (passed _ _ (f .parties)
+      passed _ _ (f .bounds .permits)
+      (passed _ _ (f .bounds .parties)
       (passed _ _ (le-leb _ _ (f .short))
       (passed _ _ (all-differ (f .waits))
       (passed _ _ (all-below (holders-below (f .below)) (f .waits))
       (passed _ _ (le-leb _ _ (f .few))
       (passed _ _ (implying _ _ (λ h. eq-eqb _ _ (f .full (leb-true _ _ h))))
       (passed _ _
-      (all-zero _ (λ i. getD-drop (l .waiting) (l .queue) i 0 ∙ f .rest (l .waiting + i) (omega arith))) none)))))))
+      (all-zero _ (λ i. getD-drop (l .waiting) (l .queue) i 0 ∙ f .rest (l .waiting + i) (omega arith)))
+      (passed _ _ (f .bounds .known) (passed _ _ (f .bounds .desk) none)))))))))

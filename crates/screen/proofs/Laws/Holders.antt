@@ -9,9 +9,8 @@ use borrow.Author.Tests.{lt-ltb, ne-eqb}
 use lib.Dec.{ltb}
 use lib.ListN.{length, getD, drop}
 use lib.Seq.{drop-cons}
-use Rattle.hub.specs.Basics.{among, bit, weight}
+use Rattle.hub.specs.Basics.{allPass, among, bit, weight}
 use Rattle.hub.specs.Radios.{differ}
-use Rattle.screen.specs.Fits.{allPass}
 use Rattle.screen.specs.Line.{holdersFrom}
 use Rattle.screen.proofs.Laws.Lists.{among-cases, among-here, differ-cons, never, not-so}
 

@@ -8,10 +8,9 @@ use native.Mathlib.Omega.{arith}
 use borrow.Author.Tests.{eq-eqb, ne-eqb, eqb-true, not-true}
 use lib.Dec.{eqb}
 use lib.ListN.{getD, drop}
-use Rattle.hub.specs.Basics.{among}
+use Rattle.hub.specs.Basics.{allPass, among}
 use Rattle.hub.specs.Radios.{differ}
 use Rattle.hub.proofs.Laws.Bools.{both, first, second}
-use Rattle.screen.specs.Fits.{allPass}
 
 -- A test that cannot hold does not.
 pub not-so : (b : Bool) → (b ≡ true → ⊥) → b ≡ false

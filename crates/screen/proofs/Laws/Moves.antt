@@ -18,6 +18,7 @@ withQueue q n l =
       permits = l .permits;
       parties = l .parties;
       named = l .named;
+      kinds = l .kinds;
       holding = l .holding;
       queue = q;
       waiting = n;

@@ -1,7 +1,7 @@
--- An operation answers 20 or a refusal, and its steps follow from that.
+-- An operation answers 20 or a refusal, and its steps follow from that; and what an opening makes.
 use Prim.Native.Nat.{ℕ, _≤_, _<_}
 use mathlib.Core.Path.{_≡_, ap}
-use mathlib.Core.Bool.{Bool, true, false}
+use mathlib.Core.Bool.{Bool, true, false, cond}
 use mathlib.Core.List.{List, [], _∷_}
 use native.Mathlib.Omega.{arith}
 use borrow.Author.Tests.{le-leb, le-ltb, lt-leb, lt-ltb, ltb-true, ne-eqb}
@@ -10,11 +10,12 @@ use denote.Enum.Declared.{tagOf}
 use Rattle.hub.specs.declared.answers.Answer.{Answer}
 use Rattle.hub.specs.declared.answers.Refusal.{Refusal}
 use Rattle.hub.specs.declared.opening.Opening.{Opening}
+use Rattle.hub.specs.declared.record.Outcome.{Outcome}
 use Rattle.hub.specs.Answers.{printed, refusalCode}
-use Rattle.hub.specs.Basics.{upTo32}
-use Rattle.hub.specs.Opening.{openingIf, radiosDiffer}
+use Rattle.hub.specs.Opening.{opening, tests}
 use Rattle.hub.proofs.answers.Answer as answer
 use Rattle.hub.proofs.Invariant.Schedules.{refusal-code}
+use Rattle.hub.proofs.Laws.Opening.{Ends, NotRefused, ends, not-refused}
 use Rattle.screen.specs.declared.record.Line.{Line}
 use Rattle.screen.specs.declared.record.Moved.{Moved}
 use Rattle.screen.specs.declared.record.Operation.{Operation}
@@ -105,23 +106,21 @@ module _ (l : Line) where
   unfolding ownSteps hasWaiter
   to-counter h = rw (lt-leb 1 (l .waiting) h)
 
--- An opening, from its three tests.
+-- An opening, as it ends at the hub: refused, or all its tests are passed.
 module _ (o : Opening) where
-  pub refused-2 : upTo32 (o .permits) ≡ false → lineOpening o ≡ refused Refusal.BadPermits noLine
-  unfolding lineOpening openingIf
-  refused-2 e = rw e
+  abbrev lineBy : Bool → Outcome → Moved
+  lineBy b x = record { answer = x .answer; line = cond b (openedLine o) noLine }
 
-  pub refused-3 : upTo32 (o .permits) ≡ true → upTo32 (o .parties) ≡ false
-      → lineOpening o ≡ refused Refusal.BadParties noLine
-  unfolding lineOpening openingIf
-  refused-3 e f = rw (e, f)
+  refused-by : (b : Bool) (x : Outcome) (r : Refusal) → Ends o b x → x .answer ≡ Answer.Refused r
+      → lineBy b x ≡ refused r noLine
+  refused-by false x r (Ends.refused q) e = ap (λ (y : Answer). record { answer = y; line = noLine }) e
+  refused-by true x r Ends.opened e = let z : _≡_ {A = ℕ} 0 1 = cc in let w : ⊥ = omega arith in absurd w
 
-  pub refused-14 : upTo32 (o .permits) ≡ true → upTo32 (o .parties) ≡ true → radiosDiffer o ≡ false
-      → lineOpening o ≡ refused Refusal.SameRadios noLine
-  unfolding lineOpening openingIf
-  refused-14 e f g = rw (e, f, g)
+  pub not-opened : (r : Refusal) → opening o .answer ≡ Answer.Refused r → lineOpening o ≡ refused r noLine
+  unfolding lineOpening
+  not-opened r e = refused-by _ _ r (ends o (tests o)) e
 
-  pub opens : upTo32 (o .permits) ≡ true → upTo32 (o .parties) ≡ true → radiosDiffer o ≡ true
-      → lineOpening o ≡ record { answer = Answer.Opened; line = openedLine (o .permits) (o .parties) (o .named) }
-  unfolding lineOpening openingIf
-  opens e f g = rw (e, f, g)
+  pub opens : NotRefused (opening o .answer)
+      → lineOpening o ≡ record { answer = Answer.Opened; line = openedLine o }
+  unfolding lineOpening
+  opens t = let z = not-refused o _ _ (ends o (tests o)) t in (λ i. lineBy (z .0 i) (z .1 i))

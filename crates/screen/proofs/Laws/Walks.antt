@@ -9,10 +9,11 @@ use borrow.Author.Tests.{le-ltb, ne-eqb, eq-eqb}
 use lib.Dec.{eqb, ltb}
 use lib.ListN.{length, getD, set, take, drop, drop-of-length-le}
 use lib.Seq.{drop-cons, getD-take, length-take-le}
+use Rattle.hub.specs.Basics.{allPass}
 use Rattle.hub.specs.Radios.{differ}
 use Rattle.hub.proofs.Laws.Bools.{both, first, second}
 use Rattle.screen.specs.declared.record.Line.{Line}
-use Rattle.screen.specs.Fits.{allPass, everybody}
+use Rattle.screen.specs.Fits.{everybody}
 use Rattle.screen.specs.Line.{holders, holdersFrom, waiters}
 use Rattle.screen.proofs.Laws.Fit.{Waits, all-below, all-differ, marked-held, marked-waits, marks}
 use Rattle.screen.proofs.Laws.Fit.{unmarked, waits-cons, waits-drop, waits-none, waits-of}

@@ -4,21 +4,26 @@ use mathlib.Core.Path.{_≡_, refl, sym, ap, subst, _∙_}
 use mathlib.Core.Bool.{Bool, true, false}
 use mathlib.Core.List.{List, [], _∷_, _++_, append-assoc, map}
 use native.Mathlib.Omega.{arith}
-use lib.ListN.{length, getD, set, replicate, length-append, length-replicate}
+use lib.ListN.{length, getD, set, take, drop, replicate, length-append, length-replicate, take-append-drop}
 use lib.Seq.{getD-append-seam, set-append-seam}
+use Rattle.hub.specs.declared.answers.Answer.{Answer}
+use Rattle.hub.specs.declared.opening.Opening.{Opening}
+use Rattle.hub.specs.declared.record.Outcome.{Outcome}
 use Rattle.hub.specs.Basics.{among, bit, weight}
-use Rattle.hub.specs.Radios.{differ}
+use Rattle.hub.specs.Opening.{opening, radiosDiffer}
+use Rattle.hub.specs.Radios.{STORE, differ, padded}
 use Rattle.hub.proofs.Laws.Lists.{weight-append, weight-replicate}
+use Rattle.hub.proofs.Laws.Opening.{by-kinds, kinds-pass, named-differ, unnamed-differ}
+use Rattle.hub.proofs.Laws.Radios.{radios-of}
 use Rattle.screen.specs.declared.record.Line.{Line}
 use Rattle.screen.specs.declared.record.Operation.{Operation}
-use Rattle.screen.specs.Line.{holdersFrom, waiters}
+use Rattle.screen.specs.Line.{holdersFrom, openedLine, waiters}
 use Rattle.screen.specs.Moves.{moved}
 use Rattle.screen.specs.Reached.{LineReached, Request, lineAfter}
 use Rattle.screen.proofs.Laws.Answers.{acquires, own, queues}
-use Rattle.screen.proofs.Laws.Fit.{Waits, fits, waits-none}
+use Rattle.screen.proofs.Laws.Fit.{Bounds, Waits, fits, waits-none}
 use Rattle.screen.proofs.Laws.Lists.{among-back, among-front, among-here, differ-apart, differ-cons, differ-head}
 use Rattle.screen.proofs.Laws.Lists.{differ-tail, never, not-so}
-use Rattle.screen.proofs.Reached.Moved.{opened-is}
 use Rattle.screen.proofs.Reached.Sound.{Good, Sound, good, good-fits, held-is, lineOf, same-line, waiters-of}
 
 -- Parties ask one after the other.
@@ -93,8 +98,7 @@ module _ (l : Line) (hs : List Bool) (g : Good l hs []) where
       → Good l (front ++ replicate (length rest) false) []
   good-front front rest e =
       record {
-        permits = g .permits;
-        parties = g .parties;
+        bounds = g .bounds;
         size =
             length-append front (replicate (length rest) false)
             ∙ omega (arith, length-replicate (length rest) false, length-append front rest, ap length e, g .size);
@@ -159,8 +163,7 @@ module _ (l : Line) (hs : List Bool) (ws : List ℕ) (g : Good l hs ws) where
   good-waiting : (front rest : List ℕ) → front ++ rest ≡ ws → Good l hs front
   good-waiting front rest e =
       record {
-        permits = g .permits;
-        parties = g .parties;
+        bounds = g .bounds;
         size = g .size;
         short = omega (arith, length-append front rest, ap length e, g .short);
         below = g .below;
@@ -189,8 +192,7 @@ module _ (l : Line) (hs : List Bool) (ws : List ℕ) (g : Good l hs ws) where
 good-nobody : (l : Line) (hs : List Bool) (w : List ℕ) → Good l hs w → Good l hs []
 good-nobody l hs w g =
     record {
-      permits = g .permits;
-      parties = g .parties;
+      bounds = g .bounds;
       size = g .size;
       short = omega arith;
       below = g .below;
@@ -199,17 +201,51 @@ good-nobody l hs w g =
       full = λ i. absurd (omega arith);
     }
 
-pub sound-reached : (l : Line) → Sound l → LineReached l
-sound-reached l s =
+-- The opening. No line shows its radios: here they are 0, 1, 2 and so on.
+countFrom : ℕ → ℕ → List ℕ
+countFrom r zero = []
+countFrom r (suc n) = r ∷ countFrom (suc r) n
+
+module _ (l : Line) where
+  abbrev openingOf : Opening
+  openingOf =
+      record {
+        permits = l .permits;
+        parties = l .parties;
+        named = l .named;
+        radios = countFrom 0 STORE;
+        kinds = l .kinds;
+        counted = true;
+      }
+
+  opened-is : openedLine openingOf ≡ lineOf l (replicate 32 false) []
+  unfolding openedLine padded
+  opened-is = refl
+
+  radios-differ : (b : Bool) → l .named ≡ b → radiosDiffer openingOf ≡ true
+  unfolding countFrom differ
+  radios-differ false e = unnamed-differ openingOf e
+  radios-differ true e =
+      let rs = countFrom 0 STORE in
+      named-differ openingOf e ∙ ap differ (radios-of openingOf refl)
+      ∙ differ-front (take (l .permits) rs) (drop (l .permits) rs) (ap differ (take-append-drop (l .permits) rs))
+
+  opening-accepted : Bounds (l .permits) (l .parties) (l .kinds) → opening openingOf .answer ≡ Answer.Opened
+  opening-accepted b =
+      ap (λ (x : Outcome). x .answer)
+      (by-kinds openingOf (b .permits) (b .parties) (radios-differ (l .named) refl)
+      ∙ kinds-pass openingOf refl (b .known) (b .desk))
+
+pub sound-reached : (l : Line) → length (l .kinds) ≡ 32 → Sound l → LineReached l
+unfolding countFrom
+sound-reached l k s =
     let g = good l s in
     let h = all-hold l (l .holding) (good-nobody l _ _ g) [] (l .holding) refl in
     record {
-      permits = l .permits;
-      parties = l .parties;
-      named = l .named;
+      start = openingOf l;
+      arrays = record { radios = refl; kinds = k };
+      accepted = opening-accepted l (s .fit .bounds);
       requests = asks (holdersFrom 0 (l .holding)) ++ asks (waiters l);
-      someLinks = s .fit .permits;
-      someParties = s .fit .parties;
       leads =
           ap (λ (m : Line). lineAfter m (asks (holdersFrom 0 (l .holding)) ++ asks (waiters l)))
           (opened-is l ∙ ap (λ (n : ℕ). lineOf l (replicate n false) []) (sym (s .holding)))

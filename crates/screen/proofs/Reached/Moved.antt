@@ -6,10 +6,14 @@ use mathlib.Core.List.{List, [], _∷_}
 use native.Mathlib.Decide.{ℕ-discrete, decLe}
 use native.Mathlib.Omega.{arith}
 use lib.ListN.{length, getD, set, drop, replicate, length-replicate}
-use Rattle.hub.specs.Basics.{among, bit, upTo32}
-use Rattle.hub.specs.Kinds.{kindOf}
+use Rattle.hub.specs.declared.answers.Answer.{Answer}
+use Rattle.hub.specs.declared.opening.Opening.{Opening}
+use Rattle.hub.specs.Basics.{among, bit}
+use Rattle.hub.specs.Kinds.{kindIn}
+use Rattle.hub.specs.Opening.{opening, tests}
 use Rattle.hub.specs.Radios.{padded}
 use Rattle.hub.proofs.Laws.Lists.{weight-replicate}
+use Rattle.hub.proofs.Laws.Opening.{by-opened, each-passed, ends}
 use Rattle.screen.specs.declared.record.Line.{Line}
 use Rattle.screen.specs.declared.record.Moved.{Moved}
 use Rattle.screen.specs.declared.record.Operation.{Operation}
@@ -19,7 +23,7 @@ use Rattle.screen.specs.Moves.{moved, nextWaiter, ownMove}
 use Rattle.screen.specs.Reached.{LineReached, Request, lineAfter}
 use Rattle.screen.proofs.Laws.Answers.{acquires, cancels, hands-over, has-room, holds-already, holds-not}
 use Rattle.screen.proofs.Laws.Answers.{may-not, no-party, own, party-small, queues, returns, waits-already, waits-not}
-use Rattle.screen.proofs.Laws.Fit.{fits, waits-none}
+use Rattle.screen.proofs.Laws.Fit.{Bounds, fits, waits-none}
 use Rattle.screen.proofs.Laws.Lists.{never}
 use Rattle.screen.proofs.Reached.Sound.{Good, Sound, good, good-fits, good-handed, good-holder, good-queued}
 use Rattle.screen.proofs.Reached.Sound.{good-returned, good-without, held-is, lineOf, same-line, waiting-is}
@@ -30,12 +34,10 @@ free-at zero p = refl
 free-at (suc n) zero = refl
 free-at (suc n) (suc p) = free-at n p
 
-pub opened-good : (l : Line) → upTo32 (l .permits) ≡ true → upTo32 (l .parties) ≡ true
-    → Good l (replicate 32 false) []
-opened-good l k n =
+opened-good : (l : Line) → Bounds (l .permits) (l .parties) (l .kinds) → Good l (replicate 32 false) []
+opened-good l b =
     record {
-      permits = k;
-      parties = n;
+      bounds = b;
       size = length-replicate 32 false;
       short = omega arith;
       below = λ p e. absurd (never (sym e ∙ free-at 32 p));
@@ -43,10 +45,6 @@ opened-good l k n =
       few = omega (arith, weight-replicate bit false refl 32);
       full = λ h. absurd (omega arith);
     }
-
-pub opened-is : (l : Line) → openedLine (l .permits) (l .parties) (l .named) ≡ lineOf l (replicate 32 false) []
-unfolding openedLine padded
-opened-is l = refl
 
 by : {m d : Moved} → m ≡ d → Sound (d .line) → Sound (m .line)
 by e s = subst (λ (m : Moved). Sound (m .line)) (sym e) s
@@ -76,9 +74,9 @@ module _ (l : Line) (p : ℕ) (s : Sound l) (h : p < l .parties) where
           (omega (arith, held-is l, s .fit .few)) (omega (arith, waiting-is l s))))
 
   cancel-sound : Sound (ownMove l Operation.Cancel p .line)
-  cancel-sound = go (among (waiters l) p) refl (ℕ-discrete (kindOf p) 3)
+  cancel-sound = go (among (waiters l) p) refl (ℕ-discrete (kindIn (l .kinds) p) 3)
     where
-      go : (c : Bool) → among (waiters l) p ≡ c → Dec (kindOf p ≡ 3) → Sound (ownMove l Operation.Cancel p .line)
+      go : (c : Bool) → among (waiters l) p ≡ c → Dec (kindIn (l .kinds) p ≡ 3) → Sound (ownMove l Operation.Cancel p .line)
       go false a d = by (waits-not l p a) s
       go true a (yes d) = by (may-not l p a d) s
       go true a (no d) =
@@ -121,12 +119,15 @@ unfolding lineAfter
 after-sound l [] s = s
 after-sound l (r ∷ rs) s = after-sound _ rs (moved-sound l (r .operation) (r .party) s)
 
-opened-sound : (k n : ℕ) (b : Bool) → upTo32 k ≡ true → upTo32 n ≡ true → Sound (openedLine k n b)
+pub opened-sound : (o : Opening) → opening o .answer ≡ Answer.Opened → Sound (openedLine o)
 unfolding openedLine padded
-opened-sound k n b e f =
-    good-fits (openedLine k n b) (replicate 32 false) [] (opened-good (openedLine k n b) e f)
+opened-sound o e =
+    let each = each-passed o (by-opened o _ _ (ends o (tests o)) e .0) in
+    good-fits (openedLine o) (replicate 32 false) []
+    (opened-good (openedLine o)
+    (record { permits = each 0; parties = each 1; known = each 4; desk = each 5 }))
 
 pub reached-sound : (l : Line) → LineReached l → Sound l
 reached-sound l r =
     subst Sound (r .leads)
-    (after-sound _ (r .requests) (opened-sound (r .permits) (r .parties) (r .named) (r .someLinks) (r .someParties)))
+    (after-sound _ (r .requests) (opened-sound (r .start) (r .accepted)))

@@ -9,7 +9,7 @@ use borrow.Author.Tests.{leb-true}
 use lib.Dec.{eqb, leb}
 use lib.ListN.{length, getD, set, replicate, length-append, length-set, List·getD-eq-default}
 use lib.Seq.{getD-set-other, getD-set-same, take-at, take-take}
-use Rattle.hub.specs.Basics.{among, bit, upTo32, weight}
+use Rattle.hub.specs.Basics.{among, bit, weight}
 use Rattle.hub.specs.Radios.{differ, padded}
 use Rattle.hub.proofs.Laws.Bools.{second}
 use Rattle.hub.proofs.Laws.Lists.{weight-set}
@@ -18,7 +18,7 @@ use Rattle.screen.specs.declared.record.Line.{Line}
 use Rattle.screen.specs.Fits.{held}
 use Rattle.screen.specs.Line.{holders, waiters, withHolding, withWaiters}
 use Rattle.screen.specs.Moves.{without}
-use Rattle.screen.proofs.Laws.Fit.{Fit, Waits, fit}
+use Rattle.screen.proofs.Laws.Fit.{Bounds, Fit, Waits}
 use Rattle.screen.proofs.Laws.Holders.{held-weight}
 use Rattle.screen.proofs.Laws.Lists.{among-cases, among-either, among-here, among-later, differ-both}
 use Rattle.screen.proofs.Laws.Lists.{differ-cons, differ-head, differ-tail, never, not-so}
@@ -46,8 +46,7 @@ waiters-of l hs w h =
 
 -- What such a line needs to fit.
 pub record Good (l : Line) (hs : List Bool) (w : List ℕ) : Type 0 where
-  pub permits : upTo32 (l .permits) ≡ true
-  pub parties : upTo32 (l .parties) ≡ true
+  pub bounds : Bounds (l .permits) (l .parties) (l .kinds)
   pub size : length hs ≡ 32
   pub short : length w ≤ 32
   pub below : (p : ℕ) → getD hs p false ≡ true → p < l .parties
@@ -60,8 +59,7 @@ good-fits l hs w g =
     record {
       fit =
           record {
-            permits = g .permits;
-            parties = g .parties;
+            bounds = g .bounds;
             short = g .short;
             below = g .below;
             waits = subst (Waits hs (l .parties)) (sym (waiters-of l hs w (g .short))) (g .waits);
@@ -85,8 +83,7 @@ module _ (l : Line) (s : Sound l) where
   pub good : Good l (l .holding) (waiters l)
   good =
       record {
-        permits = s .fit .permits;
-        parties = s .fit .parties;
+        bounds = s .fit .bounds;
         size = s .holding;
         short = omega (arith, waiting-is, s .fit .short);
         below = s .fit .below;
@@ -201,8 +198,7 @@ module _ (l : Line) (hs : List Bool) (w : List ℕ) (p : ℕ) (g : Good l hs w) 
       → Good l (set hs p true) w
   good-holder h e a k =
       record {
-        permits = g .permits;
-        parties = g .parties;
+        bounds = g .bounds;
         size = length-set hs p true ∙ g .size;
         short = g .short;
         below = λ q j. held-or-new hs p i q j (λ d. subst (λ (x : ℕ). x < l .parties) (sym d) h) (g .below q);
@@ -220,8 +216,7 @@ module _ (l : Line) (hs : List Bool) (w : List ℕ) (p : ℕ) (g : Good l hs w) 
   pub good-returned : getD hs p false ≡ true → length w < 1 → Good l (set hs p false) w
   good-returned e h =
       record {
-        permits = g .permits;
-        parties = g .parties;
+        bounds = g .bounds;
         size = length-set hs p false ∙ g .size;
         short = g .short;
         below = λ q j. g .below q (held-before hs p i q j);
@@ -238,8 +233,7 @@ module _ (l : Line) (hs : List Bool) (w : List ℕ) (p : ℕ) (g : Good l hs w) 
   pub good-without : Good l hs (without p w)
   good-without =
       record {
-        permits = g .permits;
-        parties = g .parties;
+        bounds = g .bounds;
         size = g .size;
         short = omega (arith, without-short w p, g .short);
         below = g .below;
@@ -252,8 +246,7 @@ module _ (l : Line) (hs : List Bool) (w : List ℕ) (p : ℕ) (g : Good l hs w) 
       → length w < 32 → Good l hs (w ++ (p ∷ []))
   good-queued h e a k r =
       record {
-        permits = g .permits;
-        parties = g .parties;
+        bounds = g .bounds;
         size = g .size;
         short = omega (arith, length-append w (p ∷ []));
         below = g .below;
@@ -266,8 +259,7 @@ pub good-handed : (l : Line) (hs : List Bool) (w : List ℕ) (p q : ℕ) → Goo
     → getD hs p false ≡ true → Good l (set (set hs p false) q true) w
 good-handed l hs w p q g i e =
     record {
-      permits = g .permits;
-      parties = g .parties;
+      bounds = g .bounds;
       size = length-set (set hs p false) q true ∙ length-set hs p false ∙ g .size;
       short = omega (arith, g .short);
       below = λ x j.
@@ -293,7 +285,7 @@ good-handed l hs w p q g i e =
           arith,
           g .waits .below q (among-here w q q refl),
           g .size,
-          leb-true (l .parties) 32 (second (leb 1 (l .parties)) _ (g .parties)),
+          leb-true (l .parties) 32 (second (leb 1 (l .parties)) _ (g .bounds .parties)),
         )
 
     in-range : q < length (set hs p false)

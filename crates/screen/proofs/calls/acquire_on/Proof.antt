@@ -1,13 +1,21 @@
 -- `acquire_on` meets its contract: its tests, in order, are those of the definition.
 use borrow.Author.Needs.{needs}
 use native.Mathlib.Omega.{arith}
-use mathlib.Core.Path.{sym, ap, _∙_}
+use mathlib.Core.Path.{_≡_, sym, ap, _∙_}
+use lib.ListN.{length}
 use Rattle.screen.specs.Moves.{accepted}
 use Rattle.screen.proofs.Laws.Fit.{fit}
 use Rattle.screen.proofs.Laws.Answers.{acquires, has-place, has-room, holds-already}
 use Rattle.screen.proofs.Laws.Answers.{no-place, party-small, queues, waits-already}
 use Rattle.screen.proofs.calls.acquire_on.Statement.{statement}
 use Rattle.screen.proofs.calls.acquire_on.Tie as tie
+
+-- Its arrays have 32 elements.
+waiting-size : (s : tie.Start) → length (s .args .line .queue) ≡ 32
+waiting-size s = search needs
+
+holding-size : (s : tie.Start) → length (s .args .line .holding) ≡ 32
+holding-size s = search needs
 
 array-read-if1 : tie.Need-array-read-if1
 array-read-if1 c =
@@ -40,7 +48,7 @@ returns-2 c =
     let f = fit (s .args .line) (s .pre .0) in
     c .refused2 .ensures
     ∙ sym (waits-already _ _ (c .before .before .before .before .if1 .left)
-    (has-place _ f (search needs) _ _ (c .before .before .before .place-of .ensures) (c .before .if2 .taken)))
+    (has-place _ f (waiting-size s) _ _ (c .before .before .before .place-of .ensures) (c .before .if2 .taken)))
 
 held-requires : tie.Need-held-requires
 held-requires c κs = search needs
@@ -61,7 +69,7 @@ returns-3 c =
     c .accepted .ensures
     ∙ sym (acquires (s .args .line) (s .args .party)
     (c .before .before .before .before .before .before .before .if1 .left)
-    (no-place _ f (search needs) _ _ (c .before .before .before .before .before .before .place-of .ensures)
+    (no-place _ f (waiting-size s) _ _ (c .before .before .before .before .before .before .place-of .ensures)
     (c .before .before .before .before .if2 .left))
     (omega (arith, c .before .before .before .held .ensures, c .before .if3 .taken)))
 
@@ -70,9 +78,9 @@ join-requires c κs =
     let s = c .before .before .before .before .before .before .before .before in
     let f = fit (s .args .line) (s .pre .0) in (
       s .pre .0,
-      has-room (s .args .line) (s .args .party) f (search needs) (search needs) (s .pre .1)
+      has-room (s .args .line) (s .args .party) f (waiting-size s) (holding-size s) (s .pre .1)
           (c .before .before .before .before .before .before .if1 .left)
-          (no-place _ f (search needs) _ _ (c .before .before .before .before .before .place-of .ensures)
+          (no-place _ f (waiting-size s) _ _ (c .before .before .before .before .before .place-of .ensures)
           (c .before .before .before .if2 .left))
           (omega (arith, c .before .before .held .ensures, c .if3 .left)),
     )
@@ -88,7 +96,7 @@ returns-4 c =
     ∙ ap accepted (c .before .join .ensures)
     ∙ sym (queues (s .args .line) (s .args .party)
     (c .before .before .before .before .before .before .before .before .if1 .left)
-    (no-place _ f (search needs) _ _
+    (no-place _ f (waiting-size s) _ _
     (c .before .before .before .before .before .before .before .place-of .ensures)
     (c .before .before .before .before .before .if2 .left))
     (omega (arith, c .before .before .before .before .held .ensures, c .before .before .if3 .left)))

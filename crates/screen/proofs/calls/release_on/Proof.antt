@@ -1,12 +1,22 @@
 -- `release_on` meets its contract: its tests, in order, are those of the definition.
 use borrow.Author.Needs.{needs}
 use borrow.Author.Tests.{not-false, not-true}
-use mathlib.Core.Path.{sym, _∙_}
+use mathlib.Core.Path.{_≡_, sym, _∙_}
+use lib.ListN.{getD, length}
+use mir.Syntax.{w64}
+use mir.Val.{Fits}
 use Rattle.screen.proofs.Laws.Fit.{fit}
 use Rattle.screen.proofs.Laws.Answers.{first-small, handed-over, holds-not, party-small}
 use Rattle.screen.proofs.Laws.Answers.{returns as gives-back}
 use Rattle.screen.proofs.calls.release_on.Statement.{statement}
 use Rattle.screen.proofs.calls.release_on.Tie as tie
+
+-- The queue is an array of 32 bytes.
+size : (s : tie.Start) → length (s .args .line .queue) ≡ 32
+size s = search needs
+
+byte : (s : tie.Start) → Fits w64 (getD (s .args .line .queue) 0 0)
+byte s = search needs
 
 array-read-if1 : tie.Need-array-read-if1
 array-read-if1 c =
@@ -39,7 +49,7 @@ array-read-first : tie.Need-array-read-first
 array-read-first c = search needs
 
 cast-first : tie.Need-cast-first
-cast-first c = search needs
+cast-first c = byte (c .before .before .before .before .before)
 
 leave-requires : tie.Need-leave-requires
 leave-requires c κs = search needs
@@ -54,7 +64,7 @@ element-write-next-3 : tie.Need-element-write-next-3
 element-write-next-3 c =
     let s = c .before .before .before .before .before .before in
     let f = fit (s .args .line) (s .pre .0) in
-    first-small _ f (search needs) (c .before .before .if2 .left)
+    first-small _ f (size s) (c .before .before .if2 .left)
 
 accepted-requires-2 : tie.Need-accepted-requires-2
 accepted-requires-2 c κs = search needs

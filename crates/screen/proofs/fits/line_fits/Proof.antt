@@ -1,15 +1,13 @@
 -- `line_fits` meets its contract: its tests are the clauses of the definition.
 use borrow.Author.Needs.{needs}
-use borrow.Author.Tests.{leb-true, lt-leb, le-leb, not-false, not-true}
+use borrow.Author.Tests.{leb-true, lt-leb, not-false, not-true}
 use native.Mathlib.Omega.{arith}
 use mathlib.Core.Path.{_≡_, sym, ap, _∙_}
 use mathlib.Core.Bool.{true}
-use Prim.Native.Nat.{ℕ, _≤_, _<_}
+use Prim.Native.Nat.{ℕ, _≤_}
 use lib.Dec.{eqb, leb}
 use Rattle.hub.specs.Basics.{implies, upTo32}
 use Rattle.hub.proofs.Laws.Bools.{second}
-use Rattle.screen.specs.declared.record.Line.{Line}
-use Rattle.screen.specs.Fits.{held}
 use Rattle.screen.proofs.Laws.Check.{fails, fails-holders, fails-queue, passes}
 use Rattle.screen.proofs.Laws.Lists.{gt-by}
 use Rattle.screen.proofs.fits.line_fits.Statement.{statement}
@@ -17,13 +15,6 @@ use Rattle.screen.proofs.fits.line_fits.Tie as tie
 
 n-small : (n : ℕ) → upTo32 n ≡ true → n ≤ 32
 n-small n e = leb-true _ _ (second (leb 1 n) _ e)
-
-idle : (l : Line) → l .waiting < 1 → true ≡ implies (leb 1 (l .waiting)) (eqb (held l) (l .permits))
-idle l h = rw (lt-leb 1 (l .waiting) h)
-
-busy : (l : Line) → 1 ≤ l .waiting
-    → eqb (held l) (l .permits) ≡ implies (leb 1 (l .waiting)) (eqb (held l) (l .permits))
-busy l h = rw (le-leb 1 (l .waiting) h)
 
 up-to-32-requires : tie.Need-up-to-32-requires
 up-to-32-requires c κs = search needs
@@ -71,42 +62,41 @@ rest-is-zero-requires c κs = search needs
 returns-7 : tie.Need-returns-7
 returns-7 c = fails _ 7 (sym (c .before .rest-is-zero .ensures) ∙ not-true _ (c .if7 .taken))
 
+kinds-known-requires : tie.Need-kinds-known-requires
+kinds-known-requires c κs = search needs
+
 returns-8 : tie.Need-returns-8
-returns-8 c =
-    let b = c .before in
-    idle (b .before .before .before .before .before .before .before .before .before .before .before
-    .before .before .before .before .before .args .line) (c .if8 .taken)
-    ∙ passes _ (sym (b .before .before .before .before .before .before .before .before .before .before
-    .before .before .before .before .before .up-to-32 .ensures) ∙ not-false _ (b .before .before .before
-    .before .before .before .before .before .before .before .before .before .before .before .if1 .left))
-    (sym (b .before .before .before .before .before .before .before .before .before .before .before
-    .before .before .up-to-322 .ensures) ∙ not-false _ (b .before .before .before .before .before .before
-    .before .before .before .before .before .before .if2 .left))
-    (b .before .before .before .before .before .before .before .before .before .before .if3 .left)
-    (sym (b .before .before .before .before .before .before .before .queue-fits .ensures) ∙ not-false _
-    (b .before .before .before .before .before .before .if5 .left))
-    (omega (arith, b .before .before .before .before .before .held .ensures, b .before .before .before .if6 .left))
-    (sym (b .before .before .rest-is-zero .ensures) ∙ not-false _ (b .before .if7 .left))
+returns-8 c = fails _ 8 (sym (c .before .kinds-known .ensures) ∙ not-true _ (c .if8 .taken))
+
+has-desk-requires : tie.Need-has-desk-requires
+has-desk-requires c κs = search needs
 
 returns-9 : tie.Need-returns-9
-returns-9 c =
-    let b = c .before .before in
-    ap (λ (n : ℕ). eqb n
-    (b .before .before .before .before .before .before .before .before .before .before .before .before
-    .before .before .before .before .args .line .permits)) (b .before .before .before .before .before .held .ensures)
-    ∙ busy (b .before .before .before .before .before .before .before .before .before .before .before
-    .before .before .before .before .before .args .line) (c .before .if8 .left)
-    ∙ passes _ (sym (b .before .before .before .before .before .before .before .before .before .before
-    .before .before .before .before .before .up-to-32 .ensures) ∙ not-false _ (b .before .before .before
-    .before .before .before .before .before .before .before .before .before .before .before .if1 .left))
-    (sym (b .before .before .before .before .before .before .before .before .before .before .before
-    .before .before .up-to-322 .ensures) ∙ not-false _ (b .before .before .before .before .before .before
-    .before .before .before .before .before .before .if2 .left))
-    (b .before .before .before .before .before .before .before .before .before .before .if3 .left)
-    (sym (b .before .before .before .before .before .before .before .queue-fits .ensures) ∙ not-false _
-    (b .before .before .before .before .before .before .if5 .left))
-    (omega (arith, b .before .before .before .before .before .held .ensures, b .before .before .before .if6 .left))
-    (sym (b .before .before .rest-is-zero .ensures) ∙ not-false _ (b .before .if7 .left))
+returns-9 c = fails _ 9 (sym (c .before .has-desk .ensures) ∙ not-true _ (c .if9 .taken))
+
+full-if-waiting-requires : tie.Need-full-if-waiting-requires
+full-if-waiting-requires c κs = search needs
+
+returns-10 : tie.Need-returns-10
+returns-10 c =
+    let e9 = c .before in
+    let e8 = e9 .before .before in
+    let e7 = e8 .before .before .before in
+    let e6 = e7 .before .before in
+    let e5 = e6 .before .before .before in
+    let e3 = e5 .before .before .before .before in
+    let e2 = e3 .before .before in
+    let e1 = e2 .before .before in
+    let l = e1 .before .before .args .line in
+    c .full-if-waiting .ensures
+    ∙ ap (λ (n : ℕ). implies (leb 1 (l .waiting)) (eqb n (l .permits))) (e6 .before .before .held .ensures)
+    ∙ passes l (sym (e1 .before .up-to-32 .ensures) ∙ not-false _ (e1 .if1 .left))
+    (sym (e2 .before .up-to-322 .ensures) ∙ not-false _ (e2 .if2 .left)) (e3 .if3 .left)
+    (sym (e5 .before .queue-fits .ensures) ∙ not-false _ (e5 .if5 .left))
+    (omega (arith, e6 .before .before .held .ensures, e6 .if6 .left))
+    (sym (e7 .before .rest-is-zero .ensures) ∙ not-false _ (e7 .if7 .left))
+    (sym (e8 .before .kinds-known .ensures) ∙ not-false _ (e8 .if8 .left))
+    (sym (e9 .before .has-desk .ensures) ∙ not-false _ (e9 .if9 .left))
 
 pub line-fits-spec : {M : Type 1} → statement M
 line-fits-spec =
@@ -125,5 +115,9 @@ line-fits-spec =
     returns-6
     rest-is-zero-requires
     returns-7
+    kinds-known-requires
     returns-8
-    returns-9)
+    has-desk-requires
+    returns-9
+    full-if-waiting-requires
+    returns-10)
