@@ -279,7 +279,7 @@ returns-3 c =
 
 reclaim-requires : tie.Need-reclaim-requires
 reclaim-requires c κs =
-    let b = placed (c .before .before) in
+    let b = placed (c .before .before .before) in
     let d = decided b in (
       omega (
         arith,
@@ -291,7 +291,10 @@ reclaim-requires c κs =
 
 returns-4 : tie.Need-returns-4
 unfolding writeSlot
-returns-4 c = with-printed (leaves (placed (c .before .before .before)) _ (c .reclaim .ensures))
+returns-4 c =
+    let r = c .before .before in
+    let b = placed (r .before .before .before .before) in
+    with-printed (leaves b _ (ap (withRing (after b)) (r .reclaim .ensures)))
 
 pub call-spec : {M : Type 1} → statement M
 call-spec =

@@ -2,26 +2,23 @@
 use borrow.Author.Needs.{needs}
 use borrow.Author.Tests.{not-true, not-false}
 use native.Mathlib.Omega.{arith}
-use mathlib.Core.Path.{_≡_, refl, sym, ap, _∙_}
-use Prim.Native.Nat.{_+_, _-_, _%_, _≤_}
-use lib.ListN.{set}
-use Rattle.latch.specs.declared.record.Latch.{Latch}
-use Rattle.latch.specs.Calls.{ringOf, withRing}
-use Rattle.hub.specs.Ring.{Ring, readSeat, writeSeat}
+use mathlib.Core.Path.{sym, _∙_}
+use Prim.Native.Nat.{_-_, _≤_}
+use Rattle.hub.specs.Ring.{readSeat, writeSeat}
 use Rattle.transition.proofs.Laws.Loops.{Retiring, retiring, retiring-on, retiring-stop, retiring-end}
-use Rattle.latchstep.proofs.reclaim.retire_done.Statement.{statement}
-use Rattle.latchstep.proofs.reclaim.retire_done.Tie as tie
+use Rattle.latchmove.specs.Tidied.{ringIn}
+use Rattle.latchmove.proofs.ring.retire_done.Statement.{statement}
+use Rattle.latchmove.proofs.ring.retire_done.Tie as tie
 
 abbrev Inv-loop : tie.InvT-loop
-Inv-loop turns latch₀ n₀ latch n =
-    Retiring turns (ringOf latch₀) (ringOf latch) n × (latch ≡ withRing latch₀ (ringOf latch))
-    × (latch₀ .oldest ≤ 1000000) × (turns ≤ 256)
+Inv-loop turns ring₀ n₀ ring n =
+    Retiring turns (ringIn ring₀) (ringIn ring) n × (ring₀ .oldest ≤ 1000000) × (turns ≤ 256)
 
 abbrev μ-loop : tie.MeasureT-loop
-μ-loop turns latch₀ n₀ latch n = turns - n
+μ-loop turns ring₀ n₀ ring n = turns - n
 
 loop-holds : tie.Need-loop-holds Inv-loop μ-loop
-loop-holds c = (retiring _ _, refl, c .pre .0, c .pre .1)
+loop-holds c = (retiring _ _, c .pre .0, c .pre .1)
 
 cast-i : tie.Need-cast-i Inv-loop μ-loop
 cast-i c = search needs
@@ -41,19 +38,19 @@ empty-seat-requires c κs = search needs
 mul-t10 : tie.Need-mul-t10 Inv-loop μ-loop
 mul-t10 c = search needs
 
-element-set-from-latch : tie.Need-element-set-from-latch Inv-loop μ-loop
-element-set-from-latch c = search needs
+element-set-from-ring : tie.Need-element-set-from-ring Inv-loop μ-loop
+element-set-from-ring c = search needs
 
-add-latch : tie.Need-add-latch Inv-loop μ-loop
-add-latch c =
+add-ring : tie.Need-add-ring Inv-loop μ-loop
+add-ring c =
     let s = c .before .before .before .before .before .loop .inv in
-    omega (arith, s .0 .low, s .2, s .3, c .before .before .before .before .loop-test .taken)
+    omega (arith, s .0 .low, s .1, s .2, c .before .before .before .before .loop-test .taken)
 
 add-n : tie.Need-add-n Inv-loop μ-loop
 add-n c =
     omega (
       arith,
-      c .before .before .before .before .before .loop .inv .3,
+      c .before .before .before .before .before .loop .inv .2,
       c .before .before .before .before .loop-test .taken,
     )
 
@@ -68,28 +65,17 @@ loop-again c =
     let on =
     retiring-on _ _ _ _ (s .0) _ (c .empty-seat .ensures) (c .before .before .before .before .loop-test .taken)
     (sym (c .before .before .can-retire .ensures) ∙ not-false _ (c .before .if1 .left)) in
-    let h = l .latch in
-    let r : Ring =
-    record {
-      resumed = h .figures .resumed;
-      oldest = h .oldest + 1;
-      places = set (h .places) (h .oldest % 256) (c .empty-seat .result);
-    } in
-    (on, ap (λ (g : Latch). withRing g r) (s .1), s .2, s .3)
+    (on, s .1, s .2)
 
 returns : tie.Need-returns Inv-loop μ-loop
 returns c =
-    let s = c .before .loop .inv in
-    s .1 ∙ ap (withRing (c .before .before .args .t1)) (retiring-end _ _ _ _ (s .0) (c .loop-test .left))
+    retiring-end _ _ _ _ (c .before .loop .inv .0) (c .loop-test .left)
 
 returns-2 : tie.Need-returns-2 Inv-loop μ-loop
 unfolding readSeat
 returns-2 c =
-    let l = c .before .before .before .before in
-    let s = l .loop .inv in
-    s .1
-    ∙ ap (withRing (l .before .args .t1))
-    (retiring-stop _ _ _ _ (s .0) (sym (c .before .can-retire .ensures) ∙ not-true _ (c .if1 .taken)))
+    retiring-stop _ _ _ _ (c .before .before .before .before .loop .inv .0)
+    (sym (c .before .can-retire .ensures) ∙ not-true _ (c .if1 .taken))
 
 pub retire-done-spec : {M : Type 1} → statement M
 retire-done-spec =
@@ -104,8 +90,8 @@ retire-done-spec =
     can-retire-requires
     empty-seat-requires
     mul-t10
-    element-set-from-latch
-    add-latch
+    element-set-from-ring
+    add-ring
     add-n
     loop-less
     loop-again

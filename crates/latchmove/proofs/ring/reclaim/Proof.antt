@@ -2,12 +2,11 @@
 use borrow.Author.Needs.{needs}
 use mathlib.Core.Path.{ap, _∙_}
 use native.Mathlib.Omega.{arith}
-use Rattle.latch.specs.declared.record.Latch.{Latch}
-use Rattle.latch.specs.Calls.{ringOf, withRing}
-use Rattle.hub.specs.Ring.{retire}
+use Rattle.hub.specs.Ring.{Ring, retire}
 use Rattle.transition.proofs.Laws.Loops.{skip-oldest}
-use Rattle.latchstep.proofs.reclaim.reclaim.Statement.{statement}
-use Rattle.latchstep.proofs.reclaim.reclaim.Tie as tie
+use Rattle.latchmove.specs.Tidied.{ringIn}
+use Rattle.latchmove.proofs.ring.reclaim.Statement.{statement}
+use Rattle.latchmove.proofs.ring.reclaim.Tie as tie
 
 skip-cancelled-requires : tie.Need-skip-cancelled-requires
 skip-cancelled-requires c κs = search needs
@@ -18,17 +17,15 @@ retire-done-requires c κs =
       omega (
         arith,
         c .before .pre .0,
-        ap (λ (h : Latch). h .oldest) (c .skip-cancelled .ensures),
-        skip-oldest (a .turns) (ringOf (a .latch)),
+        ap (λ (r : Ring). r .oldest) (c .skip-cancelled .ensures),
+        skip-oldest (a .turns) (ringIn (a .ring)),
       ),
       c .before .pre .1,
     )
 
 returns : tie.Need-returns
 returns c =
-    let a = c .before .before .args in
-    c .retire-done .ensures
-    ∙ ap (λ (h : Latch). withRing h (retire (a .turns) (ringOf h))) (c .before .skip-cancelled .ensures)
+    c .retire-done .ensures ∙ ap (retire (c .before .before .args .turns)) (c .before .skip-cancelled .ensures)
 
 pub reclaim-spec : {M : Type 1} → statement M
 reclaim-spec = tie.close (tie.spec skip-cancelled-requires retire-done-requires returns)
