@@ -2,11 +2,11 @@
 // figures are locals while they are, altered in place. A record that is reached from an opening fits:
 // so there is no check of the whole record here.
 
-mod bytes; // calls and answers
+mod wire; // calls and answers as bytes
 
-use crate::bytes::op_at;
-use crate::bytes::party_at;
-use crate::bytes::put_at;
+use crate::wire::op_at;
+use crate::wire::party_at;
+use crate::wire::put_at;
 use hub::answers::Answer;
 use hub::answers::Refusal;
 use hub::kinds;

@@ -28,8 +28,8 @@ use Rattle.latch.specs.Look.{look}
 use Rattle.latch.specs.Moves.{Move}
 use Rattle.latch.specs.Record.{readSlot, writeSlot}
 use Rattle.latch.specs.Table.{decide}
-use Rattle.latchtable.specs.declared.effect.LatchEffect.{LatchEffect}
-use Rattle.latchtable.specs.Effect.{effectOf}
+use Rattle.latcheffect.specs.declared.effect.LatchEffect.{LatchEffect}
+use Rattle.latcheffect.specs.Effect.{effectOf}
 use Rattle.latchmove.specs.Tidied.{tidiedBy}
 use Rattle.latchmove.proofs.Laws.Called.{Counted, asks, said, left}
 use Rattle.latchmove.proofs.Laws.Indexed.{reads, stores}

@@ -13,7 +13,7 @@ use Rattle.hub.specs.Ring.{PLACES, readSeat, writeSeat}
 use Rattle.latch.specs.declared.record.Latch.{Latch}
 use Rattle.latch.specs.declared.record.LatchSlot.{LatchSlot}
 use Rattle.latch.specs.Record.{freeSlot, readSlot, writeSlot}
-use Rattle.latchtable.specs.declared.effect.LatchEffect.{LatchEffect}
+use Rattle.latcheffect.specs.declared.effect.LatchEffect.{LatchEffect}
 use Rattle.latchmove.proofs.Laws.Sight.{Reads}
 use Rattle.latchmove.proofs.Laws.Stored.{made, stored}
 

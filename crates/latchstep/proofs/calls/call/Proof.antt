@@ -19,7 +19,7 @@ use Rattle.latch.specs.Calls.{called, isFull, ringOf, withRing}
 use Rattle.latch.specs.Fits.{fits}
 use Rattle.latch.specs.Record.{readSlot, writeSlot}
 use Rattle.latch.specs.Table.{decide}
-use Rattle.latchtable.specs.Effect.{effectOf}
+use Rattle.latcheffect.specs.Effect.{effectOf}
 use Rattle.latchmove.specs.Tidied.{tidiedBy}
 use Rattle.latchmove.proofs.Laws.Called.{asks, unfit, no-such-party, Counted, counted}
 use Rattle.latchmove.proofs.Laws.Called.{outcome-is, with-printed}
