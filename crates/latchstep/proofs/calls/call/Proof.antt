@@ -19,7 +19,7 @@ use Rattle.latch.specs.Calls.{called, isFull, ringOf, withRing}
 use Rattle.latch.specs.Fits.{fits}
 use Rattle.latch.specs.Record.{readSlot, writeSlot}
 use Rattle.latch.specs.Table.{decide}
-use Rattle.latchtable.specs.Effect.{effectOf}
+use Rattle.latcheffect.specs.Effect.{effectOf}
 use Rattle.latchmove.specs.Tidied.{tidiedBy}
 use Rattle.latchmove.proofs.Laws.Called.{asks, unfit, no-such-party, Counted, counted}
 use Rattle.latchmove.proofs.Laws.Called.{outcome-is, with-printed}
@@ -279,7 +279,7 @@ returns-3 c =
 
 reclaim-requires : tie.Need-reclaim-requires
 reclaim-requires c κs =
-    let b = placed (c .before .before) in
+    let b = placed (c .before .before .before) in
     let d = decided b in (
       omega (
         arith,
@@ -291,7 +291,10 @@ reclaim-requires c κs =
 
 returns-4 : tie.Need-returns-4
 unfolding writeSlot
-returns-4 c = with-printed (leaves (placed (c .before .before .before)) _ (c .reclaim .ensures))
+returns-4 c =
+    let r = c .before .before in
+    let b = placed (r .before .before .before .before) in
+    with-printed (leaves b _ (ap (withRing (after b)) (r .reclaim .ensures)))
 
 pub call-spec : {M : Type 1} → statement M
 call-spec =
