@@ -209,15 +209,6 @@ mod paper {
         }
     }
 
-    #[test]
-    fn kinds() {
-        let of = |kind_wanted| (0..PARTIES).filter(move |&party| kind(party) == kind_wanted);
-        assert!(of(Kind::Desk).eq(0..8));
-        assert!(of(Kind::Door).eq(8..28));
-        assert!(of(Kind::Replacement).eq(28..30));
-        assert!(of(Kind::BatteryRound).eq(30..32));
-    }
-
     /// Every row of the step table on hand-made records: phase and place
     /// before, then code, phase and place after. The place is number 7's.
     #[test]
@@ -294,14 +285,13 @@ mod frames {
         let long = "0".repeat(161);
         let full = "0".repeat(160);
         let longer = "1000".repeat(100_000);
-        let lines: [&[u8]; 34] = [
+        let lines: [&[u8]; 33] = [
             b"",
             b"1",
             b"100",
             b"10000",
             b"0101",
             b"01010",
-            b"01010100",
             b"10",
             b"01",
             b"100000",
@@ -349,9 +339,10 @@ mod frames {
             for length in 1..=33usize {
                 let line = format!("{code:02X}{}\n", "01".repeat(length - 1));
                 let known = match code {
-                    0x01 => length == 3,
+                    // All more bytes are kinds.
+                    0x01 => length >= 3,
                     // Its second byte says one radio.
-                    0x02 => length == 4,
+                    0x02 => length >= 4,
                     0x10..=0x14 => length == 2,
                     _ => false,
                 };
@@ -823,14 +814,16 @@ mod radios {
         let of = |permits: u8, parties: u8, radios: usize| {
             format!("02{permits:02X}{parties:02X}{}", "55".repeat(radios))
         };
-        let wrong_lengths = [of(0, 0, 1), of(1, 0, 0), of(33, 0, 32), of(33, 0, 34)];
+        let wrong_lengths = [of(2, 0, 1), of(1, 0, 0), of(33, 0, 32), of(77, 0, 76)];
         let long_lines = [of(78, 0, 78), of(255, 1, 255)];
         for line in wrong_lengths.iter().chain(&long_lines) {
             assert_run(&[(line, MALFORMED)], NOTHING_OPENED);
         }
         assert_run(&[("02", MALFORMED), ("0200", MALFORMED)], NOTHING_OPENED);
-        for line in [of(0, 1, 0), of(0, 0, 0), of(33, 0, 33), of(77, 1, 77)] {
-            assert_run(&[(&line, "02FFFFFFFFFFFF")], NOTHING_OPENED);
+        let refused = [of(0, 1, 0), of(0, 0, 0), of(33, 0, 33), of(77, 1, 77)];
+        let with_kinds = [of(0, 0, 1), of(33, 0, 34)];
+        for line in refused.iter().chain(&with_kinds) {
+            assert_run(&[(line, "02FFFFFFFFFFFF")], NOTHING_OPENED);
         }
         for line in [of(2, 0, 2), of(32, 33, 32), of(1, 255, 1)] {
             assert_run(&[(&line, "03FFFFFFFFFFFF")], NOTHING_OPENED);
@@ -1321,6 +1314,8 @@ mod record_mode {
         record[0] = permits;
         record[1] = parties;
         record[5] = permits;
+        record[KIND + 8..KIND + 28].fill(1);
+        record[KIND + 28..].copy_from_slice(&[2, 2, 3, 3]);
         record
     }
 
@@ -1334,6 +1329,7 @@ mod record_mode {
     const COUNT: usize = 1784;
     const STORE: usize = 1785;
     const MARK: usize = 1817;
+    const KIND: usize = 1849;
 
     fn set(record: &mut [u8], at: usize, byte: u8, number: u32) {
         record[at] = byte;
@@ -1342,7 +1338,7 @@ mod record_mode {
 
     #[test]
     fn sizes() {
-        assert_eq!((RECORD, CASE, REPLY), (1849, 1851, 1856));
+        assert_eq!((RECORD, CASE, REPLY), (1881, 1883, 1888));
     }
 
     /// The run, each record handed back in; the last one by hand.
@@ -1458,7 +1454,7 @@ mod record_mode {
         for flag in 0..=255u8 {
             let mut record = opened(0, 0);
             record[FLAG] = flag;
-            record[OPENING..].fill(0x77);
+            record[OPENING..KIND].fill(0x77);
             record[COUNT] = 33 + 2;
             let mut expected = opened(0, 0);
             if flag % 2 == 1 {
@@ -2189,6 +2185,7 @@ mod operations {
             permits,
             parties,
             radios: radios.then(|| (0..permits).map(|at| 0xA7 - at).collect()),
+            kinds: Vec::new(),
         }
     }
 
@@ -2197,6 +2194,7 @@ mod operations {
             permits,
             parties,
             radios: false,
+            kinds: built_in_kinds(),
             holders: holders.iter().copied().collect(),
             waiting: waiting.to_vec(),
         }
@@ -2216,6 +2214,7 @@ mod operations {
             permits: hub.permits,
             parties: hub.parties,
             radios: hub.pool.is_some(),
+            kinds: hub.kinds,
             holders: in_phase(|phase| (phase == Phase::Holding).then_some(0)).collect(),
             waiting: in_phase(|phase| match phase {
                 Phase::Waiting(t) => Some(t),
@@ -2629,7 +2628,7 @@ mod operations {
         for (opening, refusal) in [
             (&[][..], 12),
             (&[1, 1], 12),
-            (&[1, 0, 0, 0], 12),
+            (&[1, 0, 0, 0], 2),
             (&[2, 2, 0, 7], 12),
             (&[3, 1, 1], 12),
             (&[0x10, 0], 12),
