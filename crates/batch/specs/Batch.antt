@@ -11,8 +11,8 @@ use Rattle.hub.specs.declared.record.Hub.{Hub}
 use Rattle.hub.specs.Opening.{nobody, opening}
 use Rattle.hub.specs.Schedule.{run}
 use Rattle.hub.specs.declared.opening.Opening.{Opening}
-use Rattle.line.specs.Form.{Form, replySize}
-use Rattle.line.specs.Frame.{isCall, opOf}
+use Rattle.encoding.specs.Form.{Form, replySize}
+use Rattle.encoding.specs.Frame.{isCall, opOf}
 use Rattle.line.specs.Program.{repliesIn}
 use Rattle.line.specs.Requests.{Request, malformed, toOpen, toCall}
 

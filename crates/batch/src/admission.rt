@@ -4,7 +4,7 @@ use hub::moves::Op;
 use line::request::OPENING;
 use std::num::wrapping_sub_u8;
 ghost use mathlib.Core.Path.{_≡_};
-ghost use Rattle.line.specs.Frame.{opOf};
+ghost use Rattle.encoding.specs.Frame.{opOf};
 ghost use Rattle.batch.specs.Admission.{admissionOf, refused};
 
 pub struct Admission {

@@ -6,16 +6,14 @@ mod admission; // what is answered before the table is asked
 
 use admission::admit;
 use admission::op_of;
+use encoding::answer::plain;
+use encoding::answer::print_of;
+use encoding::pairs;
 use hub::moves::Sight;
 use hub::record::Hub;
 use hub::record::Place;
 use hub::slots::empty_seat;
 use hub::slots::with_place;
-use line::answer::plain;
-use line::answer::print_of;
-use line::form::put_reply;
-use line::form::reply_size;
-use line::pairs;
 use pool::moving::move_radio;
 use transition::effect::decide_by;
 use transition::room::full_for;
@@ -25,10 +23,12 @@ use transition::sight::waiter_at;
 use transition::tidy::can_retire;
 use transition::tidy::can_skip;
 use transition::tidy::is_untidy;
+use writer::form::put_reply;
+use writer::form::reply_size;
 ghost use mathlib.Core.Path.{_≡_};
 ghost use Prim.Native.Nat.{_*_, _≤_};
 ghost use lib.ListN.{length};
-ghost use Rattle.line.specs.Form.{formOf, replySize};
+ghost use Rattle.encoding.specs.Form.{formOf, replySize};
 ghost use Rattle.line.specs.Program.{after};
 ghost use Rattle.batch.specs.Batch.{Reachable, replied, requestsIn};
 
@@ -47,6 +47,7 @@ pub fn answer_requests(hub: Hub, requests: &[u8], count: usize, form: bool, out:
     let mut places = hub.places;
     let mut slots = hub.slots;
     let mut pool = hub.pool;
+    let kinds = opening.kinds;
     let pairs = pairs::table();
     let width = reply_size(form);
     let mut i: usize = 0;
@@ -69,7 +70,7 @@ pub fn answer_requests(hub: Hub, requests: &[u8], count: usize, form: bool, out:
         let q = waiter_at(seat);
         let near = slots[(q % 32) as usize];
         let waiter = slot_within(q, near);
-        let kind = opening.kinds[own];
+        let kind = kinds[own];
         let radio = pool.hands[own];
         let op = op_of(code);
         let full = full_for(op, oldest, figures.issued, slots);

@@ -21,11 +21,11 @@ use Rattle.hub.specs.Schedule.{entries}
 use Rattle.hub.proofs.Demand3.{in-range, demand3}
 use Rattle.hub.proofs.Laws.Bools.{first, second}
 use Rattle.hub.proofs.Laws.Lists.{weight-map, weight-replicate}
-use Rattle.line.specs.Form.{asBytes}
+use Rattle.encoding.specs.Form.{asBytes}
 use Rattle.line.specs.Program.{unopened, Reply, replyOf, replies, rendered, linesOf}
 use Rattle.line.specs.Requests.{requestOf}
 use Rattle.outputs.specs.Schedule.{Schedule, unstarted, started, repliesOf, leftBy, Holds, scheduleOf}
-use Rattle.outputs.specs.Schedule.{leftOut, kept, EveryInput}
+use Rattle.outputs.specs.Schedule.{leftOut, leftOutCodes, kept, EveryInput}
 use Rattle.outputs.proofs.Laws.Every.{every-input}
 use Rattle.billing.specs.Counting.{receiverOf}
 use Rattle.billing.specs.Promises.{partiesOf, Balanced, EverySchedule, EveryOutput}
@@ -93,7 +93,7 @@ low (x ∷ l) c e i = go (eqb c x) refl (low l c (second (ltb x 0x20) _ e)) i
     go false z later j = later j
 
 left-out-low : (c : ℕ) → leftOut c ≡ true → c < 0x20
-left-out-low c e = low (2 ∷ 3 ∷ 12 ∷ 13 ∷ 14 ∷ []) c refl e
+left-out-low c e = low leftOutCodes c refl e
 
 module _ (worth : Reply → ℕ) (none : (r : Reply) → r .answer .code < 0x20 → worth r ≡ 0) where
   kept-worth : (rs : List Reply) → weight worth rs ≡ weight worth (kept rs)

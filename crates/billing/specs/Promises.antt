@@ -10,7 +10,7 @@ use Rattle.hub.specs.Basics.{among, count}
 use Rattle.hub.specs.Opening.{opening}
 use Rattle.hub.specs.Phases.{holds}
 use Rattle.hub.specs.Record.{phasesOf}
-use Rattle.line.specs.Form.{asBytes}
+use Rattle.encoding.specs.Form.{asBytes}
 use Rattle.line.specs.Program.{unopened, Reply, replies, rendered, linesOf}
 use Rattle.line.specs.Requests.{requestOf}
 use Rattle.outputs.specs.Schedule.{Schedule, unstarted, started, repliesOf, leftBy, scheduleOf}

@@ -2,6 +2,7 @@
 // function over them, which calls the by-value core, and stores the record that comes back. Its
 // contract names `printed` beside the answer, since that is where the paper's codes are.
 
+use anycall::call;
 use hub::Answer;
 use hub::Figures;
 use hub::Hub;
@@ -11,7 +12,6 @@ use hub::Outcome;
 use hub::PartySlot;
 use hub::PlaceSlot;
 use hub::Pool;
-use step::calls::call;
 ghost use mathlib.Core.Path.{_≡_};
 ghost use Rattle.hub.specs.declared.moves.Op.{Op};
 ghost use Rattle.hub.specs.Answers.{printed};

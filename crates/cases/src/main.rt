@@ -3,6 +3,9 @@
 // The expected output, beside this program, was written by hand from the paper.
 
 use board::call_on_board;
+use boardrest::operate_on_board;
+use encoding::answer::print_of;
+use encoding::answer::put;
 use hub::answers::Answer;
 use hub::moves::Op;
 use hub::opening::sized;
@@ -16,8 +19,6 @@ use hub::slots::empty_seat;
 use hub::slots::free_slot;
 use hub::slots::with_phase;
 use hub::slots::with_place;
-use line::answer::print_of;
-use line::answer::put;
 use run::Ran;
 use run::hub_run;
 use run::run_calls;
@@ -204,6 +205,72 @@ fn in_place() {
     print_counts(h);
 }
 
+fn print_byte(b: u8) {
+    io::write_all(1, &[digit(b / 16), digit(b)]);
+}
+
+// A whole operation in place: code, party, woken party, steps.
+fn whole(hub: Hub, op: Op, party: u8) -> Hub {
+    let o = operate_on_board(hub, op, party);
+    let answer = o.answer;
+    print_byte(print_of(answer).code);
+    print_byte(party);
+    print_byte((o.woken % 256) as u8);
+    print_byte((o.steps % 256) as u8);
+    io::write_all(1, b"\n");
+    o.hub
+}
+
+// Whole operations on a hub at rest: two wait, one of them gives up and waits again, both are served in turn.
+fn to_rest() {
+    let h = opened(1, 3);
+    let h = whole(h, Op::Acquire, 0);
+    let h = whole(h, Op::Acquire, 1);
+    let h = whole(h, Op::Acquire, 2);
+    print_counts(h);
+    let h = whole(h, Op::Cancel, 1);
+    let h = whole(h, Op::Acquire, 1);
+    let h = whole(h, Op::Release, 0);
+    print_counts(h);
+    let h = whole(h, Op::Acquire, 2);
+    let h = whole(h, Op::Release, 2);
+    let h = whole(h, Op::Release, 1);
+    let h = whole(h, Op::Release, 1);
+    let h = whole(h, Op::Cancel, 1);
+    let h = whole(h, Op::Acquire, 3);
+    let h = whole(h, Op::Acquire, 255);
+    print_counts(h);
+    // the waits of party 30 stay
+    let h = whole(opened(1, 31), Op::Acquire, 0);
+    let h = whole(h, Op::Acquire, 30);
+    let h = whole(h, Op::Cancel, 30);
+    print_counts(h);
+}
+
+// Whole operations on other records.
+fn not_at_rest() {
+    // one that does not fit, a million asks begun, 256 tickets issued
+    whole(counting(33), Op::Acquire, 0);
+    let mut h = opened(1, 3);
+    h.figures.begun = 1000000;
+    whole(h, Op::Acquire, 0);
+    let mut h = opened(1, 3);
+    h.figures.issued = 256;
+    whole(h, Op::Acquire, 0);
+    // party 0 has asked: one more ask is refused and makes no step of the first; a give-up is remembered, and
+    // forgotten with the permit that the next step gets
+    let o = acquire(opened(1, 3), 0);
+    let h = whole(o.hub, Op::Acquire, 0);
+    print_counts(h);
+    let h = whole(h, Op::Cancel, 0);
+    print_counts(h);
+    // where there is none an early give-up takes five steps; three are made, and a second is refused
+    let o = acquire(h, 1);
+    let h = whole(o.hub, Op::Cancel, 1);
+    let h = whole(h, Op::Cancel, 1);
+    print_counts(h);
+}
+
 fn main() {
     // the run of the paper
     print_run(
@@ -290,4 +357,8 @@ fn main() {
     made_by_hand();
     io::write_all(1, b"\n");
     in_place();
+    io::write_all(1, b"\n");
+    to_rest();
+    io::write_all(1, b"\n");
+    not_at_rest();
 }

@@ -3,12 +3,12 @@
 // the figures. Nothing else calls the by-value core here: so it is compiled as it is on a board.
 
 use board::call_on_board;
+use encoding::answer::print_of;
 use hub::answers::Answer;
 use hub::moves::Op;
 use hub::opening::sized;
 use hub::record::Hub;
 use hub::record::Outcome;
-use line::answer::print_of;
 use transition::counts::counts;
 
 // The record after an ask and three steps: with the permit held, the party waits.

@@ -4,7 +4,7 @@ use mathlib.Core.Bool.{cond}
 use mathlib.Core.List.{List, [], _∷_, _++_}
 use lib.Dec.{eqb, ltb}
 use lib.ListN.{length, take, drop}
-use Rattle.line.specs.Hex.{hexOf}
+use Rattle.encoding.specs.Hex.{hexOf}
 use Rattle.screen.specs.declared.record.Line.{Line}
 use Rattle.screen.specs.Line.{holders, waiters}
 use Rattle.deskline.specs.declared.reply.Reply.{Reply}

@@ -4,7 +4,7 @@ ghost use mathlib.Core.Path.{_≡_};
 ghost use mathlib.Core.List.{[], _∷_};
 ghost use Prim.Native.Nat.{_+_, _≤_, _<_};
 ghost use lib.ListN.{length};
-ghost use Rattle.line.specs.Hex.{charOf, hexOf};
+ghost use Rattle.encoding.specs.Hex.{charOf, hexOf};
 ghost use Rattle.deskline.specs.Text.{decimal, digitChar, placed};
 
 const DIGITS: [u8; 16] = [

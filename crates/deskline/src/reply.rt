@@ -1,7 +1,7 @@
 // What a line is answered: 12, then 13, then the operation's own.
 
+use encoding::answer::print_of;
 use hub::opening::Opening;
-use line::answer::print_of;
 use line::request::OPENING;
 use line::request::read_header;
 use line::request::read_opening;

@@ -5,7 +5,7 @@ use mathlib.Core.Bool.{cond}
 use mathlib.Core.List.{List, [], _∷_, _++_}
 use lib.Dec.{eqb}
 use lib.ListN.{length, replicate}
-use Rattle.line.specs.Form.{asText}
+use Rattle.encoding.specs.Form.{asText}
 use Rattle.line.specs.Program.{unopened, repliesIn, after, closing, outputOf}
 use Rattle.line.specs.Requests.{Request, requestOf}
 use Rattle.reader.specs.declared.Reader.{Reader}

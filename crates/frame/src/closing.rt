@@ -1,14 +1,14 @@
 // The closing line: 7E, holders, parties waiting, counter.
 
+use encoding::answer::Print;
+use encoding::signed::twos_complement;
 use hub::Figures;
 use hub::Hub;
-use line::answer::Print;
-use line::signed::twos_complement;
-use line::text::put_line;
 use transition::counts::counts;
+use writer::text::put_line;
 ghost use mathlib.Core.Path.{_≡_};
 ghost use lib.ListN.{length};
-ghost use Rattle.line.specs.Frame.{twosComplement};
+ghost use Rattle.encoding.specs.Frame.{twosComplement};
 ghost use Rattle.line.specs.Program.{closing};
 
 // The counter as it is printed.

@@ -1,22 +1,22 @@
 // Lines before a hub is open. Each is answered by itself, and the one that opens the hub is the last.
 
+use encoding::answer::plain;
+use encoding::answer::print_of;
 use hub::Hub;
 use hub::opening::open_hub;
-use line::answer::plain;
-use line::answer::print_of;
 use line::request::MALFORMED;
 use line::request::OPENING;
 use line::request::read_opening;
-use line::text::put_line;
 use line::values;
 use reader::Reader;
 use reader::read_piece;
+use writer::text::put_line;
 ghost use mathlib.Core.Path.{_≡_};
 ghost use mathlib.Core.Bool.{true};
 ghost use mathlib.Core.List.{_++_};
 ghost use Prim.Native.Nat.{_*_, _≤_};
 ghost use lib.ListN.{length, drop};
-ghost use Rattle.line.specs.Form.{asText};
+ghost use Rattle.encoding.specs.Form.{asText};
 ghost use Rattle.line.specs.Program.{beforeOpen, isOpen, repliesIn, replyIn};
 ghost use Rattle.line.specs.Requests.{isOpening, requestOf};
 ghost use Rattle.frame.specs.Opening.{SessionHub, begunBy, early, refusal};

@@ -7,4 +7,5 @@ pub mod Window  -- the record beside the unbounded queue
 pub mod Demand3  -- the third demand
 pub mod RadiosKept  -- what is claimed of radios
 pub mod Calm  -- how long until calm
+pub mod OwnKinds  -- what is claimed of a house's own kinds
 pub mod Widths  -- what is claimed of places of a byte

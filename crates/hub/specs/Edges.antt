@@ -1,11 +1,12 @@
 -- "Edges": the paper's marked cases as one table, with one test over all of it. Some rows more
--- are there for what stands beside an edge, 2 before 3, an opening that is accepted, and for radios.
+-- are there for what stands beside an edge, 2 before 3, an opening that is accepted, for radios and for kinds.
 use Prim.Native.Nat.{ℕ}
 use mathlib.Core.Path.{_≡_}
 use mathlib.Core.Bool.{Bool, true, false, _&&_}
-use mathlib.Core.List.{List, [], _∷_}
+use mathlib.Core.List.{List, [], _∷_, _++_}
 use lib.Dec.{eqb}
 use lib.IntN.{ℤ, pos, negsuc}
+use lib.ListN.{replicate}
 use Rattle.hub.specs.declared.moves.Call.{Call}
 use Rattle.hub.specs.declared.moves.Op.{Op}
 use Rattle.hub.specs.declared.moves.Op.the-variants.{Acquire, Step, Cancel, Release}
@@ -16,7 +17,7 @@ use Rattle.hub.specs.Calls.{called}
 use Rattle.hub.specs.Basics.{count}
 use Rattle.hub.specs.Phases.{holds, isWaiting}
 use Rattle.hub.specs.Record.{phasesOf}
-use Rattle.hub.specs.Opening.{opening, sized, withRadios}
+use Rattle.hub.specs.Opening.{opening, sized, withKinds, withRadios}
 
 -- A step of a run: the counter before the call, the call, and what it must answer.
 pub record Row : Type 0 where
@@ -153,6 +154,17 @@ early =
     ∷ at (negsuc 0) Step 1 (withNumber 0x24 2)
     ∷ []
 
+-- A party 0 of kind 3 may not give up, and a party 1 of kind 1 may.
+abbrev pub byOwnKinds : List Row
+byOwnKinds =
+    at (pos 1) Acquire 2 (plain 0x20)
+    ∷ at (pos 1) Step 2 (plain 0x21)
+    ∷ at (pos 0) Acquire 0 (plain 0x20)
+    ∷ at (pos 0) Cancel 0 (plain 0x0A)
+    ∷ at (pos 0) Acquire 1 (plain 0x20)
+    ∷ at (pos 0) Cancel 1 (plain 0x20)
+    ∷ []
+
 unfoldable pub edges : List Edge
 edges =
     opens (sized 0 3) 0x02
@@ -174,6 +186,15 @@ edges =
     ∷ runs (withRadios 1 2 (0x2F ∷ [])) notYet 1 0 (pos 0)
     ∷ runs (sized 1 3) (at (pos 1) Op.Radio 0 (plain 0x39) ∷ []) 0 0 (pos 1)
     ∷ runs (sized 1 3) early 1 1 (negsuc 0)
+    ∷ opens (withKinds (replicate 32 0) (sized 1 3)) 0x1F
+    ∷ opens (withKinds (replicate 31 0) (sized 1 3)) 0x0F
+    ∷ opens (withKinds (replicate 33 0) (sized 1 3)) 0x0F
+    ∷ opens (withKinds (0 ∷ []) (sized 1 0)) 0x03
+    ∷ opens (withKinds (4 ∷ []) (withRadios 2 3 (0x0A ∷ 0x0A ∷ []))) 0x0E
+    ∷ opens (withKinds (replicate 31 0 ++ (4 ∷ [])) (sized 1 3)) 0x10
+    ∷ opens (withKinds (replicate 32 4) (sized 1 3)) 0x10
+    ∷ opens (withKinds (replicate 32 3) (sized 1 3)) 0x11
+    ∷ runs (withKinds (3 ∷ replicate 30 1 ++ (0 ∷ [])) (sized 1 3)) byOwnKinds 1 0 (pos 0)
     ∷ []
 
 -- Two counters, and two answers, alike?

@@ -19,6 +19,7 @@ pub mod Demand3  -- the third demand
 pub mod RadiosKept  -- no radio is in two hands or in none
 pub mod Counts  -- what a record shows
 pub mod Calm  -- how long until calm
+pub mod OwnKinds  -- "A house's own kinds"
 pub mod Widths  -- "Smaller records on the boards"
 pub mod Edges  -- "Edges"
 pub mod Queue  -- document 000's semaphore, and the hub beside it

@@ -1,7 +1,7 @@
 -- Opening a hub, with refusals 2, 3 and 14 to 17.
 use Prim.Native.Nat.{ℕ}
 use mathlib.Core.Bool.{Bool, true, false, cond}
-use mathlib.Core.List.{List, [], _∷_, map}
+use mathlib.Core.List.{List, [], _∷_, _++_, map}
 use lib.Dec.{eqb}
 use lib.ListN.{length, replicate}
 use lib.IntN.{pos}
@@ -104,7 +104,15 @@ allPassed ts = allOf (map (λ (t : Test). t .passed) ts)
 unfoldable pub radiosDiffer : Opening → Bool
 radiosDiffer o = implies (o .named) (differ (radiosOf o))
 
--- 15, 16, 17: all 32 kinds are looked at.
+-- 2, 3 and 14.
+abbrev pub linkTests : Opening → List Test
+linkTests o =
+    test (upTo32 (o .permits)) Refusal.BadPermits
+    ∷ test (upTo32 (o .parties)) Refusal.BadParties
+    ∷ test (radiosDiffer o) Refusal.SameRadios
+    ∷ []
+
+-- 15, 16 and 17: all 32 kinds are looked at.
 abbrev pub kindTests : Opening → List Test
 kindTests o =
     test (o .counted) Refusal.MiscountedKinds
@@ -112,13 +120,8 @@ kindTests o =
     ∷ test (hasDesk (o .kinds)) Refusal.NoDesk
     ∷ []
 
--- 2, 3 and 14 before them.
 abbrev pub tests : Opening → List Test
-tests o =
-    test (upTo32 (o .permits)) Refusal.BadPermits
-    ∷ test (upTo32 (o .parties)) Refusal.BadParties
-    ∷ test (radiosDiffer o) Refusal.SameRadios
-    ∷ kindTests o
+tests o = linkTests o ++ kindTests o
 
 -- The first test that fails decides.
 unfoldable pub openingIf : List Test → Opening → Outcome

@@ -5,7 +5,7 @@ use mathlib.Core.Bool.{true, cond}
 use mathlib.Core.List.{List, [], _∷_, _++_, map}
 use lib.Dec.{eqb}
 use lib.ListN.{getD, drop}
-use Rattle.line.specs.Form.{asBytes}
+use Rattle.encoding.specs.Form.{asBytes}
 use Rattle.line.specs.Program.{Reply, rendered}
 use Rattle.latch.specs.declared.moves.LatchCall.{LatchCall}
 use Rattle.latch.specs.declared.moves.LatchOp.{LatchOp}

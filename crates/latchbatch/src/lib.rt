@@ -2,6 +2,9 @@
 // figures are locals while they are, altered in place. A record that is reached from an opening fits:
 // so there is no check of the whole record here.
 
+use encoding::answer::plain;
+use encoding::answer::print_of;
+use encoding::answer::put;
 use hub::kinds;
 use hub::record::Hub;
 use hub::record::Place;
@@ -15,9 +18,6 @@ use latchmove::room::full_for;
 use latchmove::sight::by_ticket;
 use latchmove::sight::seat_index;
 use latchmove::sight::slot_within;
-use line::answer::plain;
-use line::answer::print_of;
-use line::answer::put;
 use transition::sight::waiter_at;
 use transition::tidy::can_retire;
 use transition::tidy::can_skip;

@@ -2,6 +2,8 @@
 // a record and a call, 1525 bytes; its reply is the answer and the record that is left, 1530 bytes.
 // tests/README.md lays them out.
 
+use encoding::answer::print_of;
+use encoding::answer::put;
 use hub::phases::phase_rank;
 use hub::phases::place_rank;
 use hub::phases::ticket;
@@ -19,8 +21,6 @@ use latch::record::LatchSlot;
 use latchstep::calls::call;
 use libc::STDIN_FILENO;
 use libc::STDOUT_FILENO;
-use line::answer::print_of;
-use line::answer::put;
 ghost use Prim.Native.Nat.{_+_, _<_, _≤_};
 
 // Only this function and `bytes_of` know the record's fields.

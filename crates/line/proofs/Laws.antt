@@ -1,7 +1,4 @@
 -- What the proofs of this crate share.
-pub mod Tables
-pub mod Filled
-pub mod Parts
 pub mod Codes
 pub mod Digits
 pub mod Lines

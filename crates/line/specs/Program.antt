@@ -12,9 +12,9 @@ use Rattle.hub.specs.Opening.{fresh, nobody, opening}
 use Rattle.hub.specs.Phases.{holds, isWaiting}
 use Rattle.hub.specs.Record.{phasesOf}
 use Rattle.hub.specs.Schedule.{Entry}
-use Rattle.line.specs.Form.{Form, asText, inForm}
-use Rattle.line.specs.Frame.{frameOf, twosComplement}
-use Rattle.line.specs.Hex.{textOf}
+use Rattle.encoding.specs.Form.{Form, asText, inForm}
+use Rattle.encoding.specs.Frame.{frameOf, twosComplement}
+use Rattle.encoding.specs.Hex.{textOf}
 use Rattle.line.specs.Requests.{Request, malformed, toOpen, toCall, requestOf}
 
 -- Before an opening there is no record; one with no permits stands for that.

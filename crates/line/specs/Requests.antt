@@ -9,8 +9,8 @@ use Rattle.hub.specs.declared.moves.Call.{Call}
 use Rattle.line.specs.declared.request.Header.{Header}
 use Rattle.hub.specs.declared.opening.Opening.{Opening}
 use Rattle.hub.specs.Opening.{sized, withKinds, withRadios}
-use Rattle.line.specs.Frame.{isCall, opOf, codeOf}
-use Rattle.line.specs.Hex.{isDigit, spelled}
+use Rattle.encoding.specs.Frame.{isCall, opOf, codeOf}
+use Rattle.encoding.specs.Hex.{isDigit, spelled}
 
 -- How many characters a line may have.
 abbrev pub LONGEST : ℕ

@@ -2,7 +2,7 @@
 
 ghost use mathlib.Core.Path.{_≡_};
 ghost use Prim.Native.Nat.{_≤_};
-ghost use Rattle.line.specs.Hex.{byteOf, digitOf};
+ghost use Rattle.encoding.specs.Hex.{byteOf, digitOf};
 
 // The value of a digit; 16 for a character that is none.
 fn digit(c: u8) -> u8

@@ -4,9 +4,9 @@ use crate::request::Header;
 use crate::request::malformed;
 ghost use mathlib.Core.Path.{_≡_};
 ghost use mathlib.Core.List.{[], _∷_};
-ghost use Rattle.line.specs.Hex.{byteOf};
+ghost use Rattle.encoding.specs.Hex.{byteOf};
 ghost use Rattle.line.specs.Requests.{headerOf, requestOf};
-ghost use Rattle.line.specs.Tables.{Values};
+ghost use Rattle.encoding.specs.Tables.{Values};
 
 // 256 is for a character that is no digit: no byte comes of it.
 const VALUES: [u16; 256] = [

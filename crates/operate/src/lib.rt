@@ -1,7 +1,7 @@
 // Runs a whole list of operations on a hub just opened, and leaves the answers in the caller's buffer.
 
+use encoding::answer::print_of;
 use hub::opening::open_hub;
-use line::answer::print_of;
 use line::openings::is_opening_frame;
 use line::openings::opening_in;
 use perform::perform_operations;

@@ -2,6 +2,7 @@
 use Prim.Native.Nat.{ℕ, _+_}
 use mathlib.Core.Path.{_≡_, refl, sym, ap, subst, _∙_}
 use mathlib.Core.Bool.{Bool, true, false}
+use mathlib.Core.Logic.{_⊎_, inl, inr}
 use native.Mathlib.Omega.{arith}
 use borrow.Author.Tests.{leb-false}
 use lib.Dec.{ltb}
@@ -9,12 +10,13 @@ use Rattle.hub.specs.declared.answers.Answer.{Answer}
 use Rattle.hub.specs.declared.answers.Refusal.{Refusal}
 use Rattle.hub.specs.declared.moves.Call.{Call}
 use Rattle.hub.specs.declared.moves.Op.{Op}
+use Rattle.hub.specs.declared.moves.Sight.{Sight}
 use Rattle.hub.specs.declared.record.Hub.{Hub}
 use Rattle.hub.specs.declared.record.Phase.{Phase}
 use Rattle.hub.specs.declared.record.Pool.{Pool}
 use Rattle.hub.specs.Answers.{printed}
 use Rattle.hub.specs.Basics.{count}
-use Rattle.hub.specs.Calls.{apply, checked, isFull, moveOf, withPool}
+use Rattle.hub.specs.Calls.{answerOf, apply, called, checked, isFull, moveOf, withPool}
 use Rattle.hub.specs.Calm.{rests}
 use Rattle.hub.specs.Look.{look, seenBy}
 use Rattle.hub.specs.Moves.{Act, Move, Refuse}
@@ -23,15 +25,18 @@ use Rattle.hub.specs.Radios.{moved}
 use Rattle.hub.specs.Record.{phasesOf, readSlot}
 use Rattle.hub.specs.Ring.{PLACES}
 use Rattle.hub.specs.Table.{aboveZero, acquire, belowZero, canCancel, cancel, decide, givenUp, release}
+use Rattle.hub.proofs.Invariant.Schedules.{refusal-code}
 use Rattle.hub.proofs.Laws.Phases.{one-of}
 use Rattle.operations.specs.declared.Operated.{Operated}
-use Rattle.operations.specs.AtRest.{ComesTo, EndsAtRest, acquired, byMove, isOperation, operatedAtRest, released}
+use Rattle.operations.specs.AtRest.{ComesTo, EndsAtRest, RefusalLeaves, acquired, byMove, isOperation}
+use Rattle.operations.specs.AtRest.{operatedAtRest, released}
+use Rattle.operations.specs.Operation.{operated, turnsDown}
 use Rattle.operations.proofs.Calls.{allowed, called-by, fits-now, still, to}
 use Rattle.operations.proofs.Reached.{at-rest, resting}
 use Rattle.operations.proofs.Rest.{AtRest}
 use Rattle.operations.proofs.Shapes.{Comes, ask-permit, ask-wait, give-back, give-up, hand-over}
 use Rattle.operations.proofs.Waits.{next-waits}
-use Rattle.operations.proofs.Walk.{operated-by, stop}
+use Rattle.operations.proofs.Walk.{operated-alone}
 
 -- A refusal moves no radio.
 refusal-still : (r : Refusal) (p : ℕ) (q : Pool) → moved (printed (Answer.Refused r)) p q ≡ q
@@ -52,24 +57,74 @@ refusal-still Refusal.MiscountedKinds p q = refl
 refusal-still Refusal.UnknownKind p q = refl
 refusal-still Refusal.NoDesk p q = refl
 
+-- So a call that is refused leaves the record as it was, whoever is busy, and has no steps.
+refused-by : (h : Hub) (c : Call) (r : Refusal) → moveOf h c ≡ Refuse r
+    → operated h c ≡ record { answer = Answer.Refused r; woken = 0xFF; steps = 0; hub = h }
+unfolding apply
+refused-by h c r e =
+    operated-alone h c (Answer.Refused r)
+    (called-by h c (Refuse r) e
+    ∙ ap (λ (q : Pool). record { answer = Answer.Refused r; hub = withPool q h })
+    (still (h .opening .named) (printed (Answer.Refused r)) (c .party) (h .pool)
+    (refusal-still r (c .party) (h .pool))))
+    refl (refusal-code r)
+
+-- An operation is refused or accepted.
+abbrev Decided : Move → Type 0
+Decided m = ((r : Refusal) × (m ≡ Refuse r)) ⊎ (answerOf m ≡ Answer.Accepted)
+
+asks-decided : (x y z : Bool) (s : Sight) → Decided (acquire x y z s)
+unfolding acquire
+asks-decided false y z s = inl (Refusal.NotFree, refl)
+asks-decided true true z s = inl (Refusal.Exhausted, refl)
+asks-decided true false true s = inl (Refusal.Full, refl)
+asks-decided true false false s = inr refl
+
+cancel-decided : (x y : Bool) (f : Phase) (s : Sight) → Decided (cancel x y f s)
+unfolding cancel
+cancel-decided false y f s = inl (Refusal.NotWaiting, refl)
+cancel-decided true true f s = inl (Refusal.NotCancellable, refl)
+cancel-decided true false f s = inr refl
+
+release-decided : (x : Bool) (s : Sight) → Decided (release x s)
+unfolding release
+release-decided false s = inl (Refusal.NotHolding, refl)
+release-decided true s = inr refl
+
+decided : (o : Op) (full : Bool) (s : Sight) → isOperation o ≡ true → Decided (decide o full s)
+unfolding decide
+decided Op.Acquire full s i = asks-decided _ _ _ s
+decided Op.Step full s i = let z : _≡_ {A = ℕ} 0 1 = cc in let w : ⊥ = omega arith in absurd w
+decided Op.Cancel full s i = cancel-decided _ _ _ s
+decided Op.Release full s i = release-decided _ s
+decided Op.Radio full s i = let z : _≡_ {A = ℕ} 0 1 = cc in let w : ⊥ = omega arith in absurd w
+
+checked-decided : (x y : Bool) (m : Move) → Decided m → Decided (checked x y m)
+unfolding checked
+checked-decided false y m d = inl (Refusal.Unfit, refl)
+checked-decided true false m d = inl (Refusal.NoSuchParty, refl)
+checked-decided true true m d = d
+
+pub refusal-leaves : RefusalLeaves
+unfolding RefusalLeaves operated
+refusal-leaves h c i t = go (checked-decided _ _ _ (decided (c .op) _ (look h (c .party)) i))
+  where
+    go : Decided (moveOf h c)
+        → operated h c ≡ record { answer = called h c .answer; woken = 0xFF; steps = 0; hub = h }
+    go (inl (r, e)) =
+        refused-by h c r e
+        ∙ ap (λ (m : Move). record { answer = answerOf m; woken = 0xFF; steps = 0; hub = h }) (sym e)
+    go (inr e) =
+        let z : true ≡ false = sym t ∙ ap turnsDown e in
+        let y : _≡_ {A = ℕ} 0 1 = cc in let w : ⊥ = omega arith in absurd w
+
 module _ (h : Hub) (a : AtRest h) where
   -- What a move comes to.
   abbrev By : Call → Move → Type 0
   By c m = moveOf h c ≡ m → Comes h c (byMove m h c)
 
   refused : (c : Call) (r : Refusal) → By c (Refuse r)
-  unfolding apply
-  refused c r e =
-      record {
-        same =
-            operated-by h c (Answer.Refused r)
-            (called-by h c (Refuse r) e
-            ∙ ap (λ (q : Pool). record { answer = Answer.Refused r; hub = withPool q h })
-            (still (h .opening .named) (printed (Answer.Refused r)) (c .party) (h .pool)
-            (refusal-still r (c .party) (h .pool))))
-            refl (stop (a .calm (c .party))) (omega arith);
-        rest = a .calm;
-      }
+  refused c r e = record { same = refused-by h c r e; rest = a .calm }
 
   abbrev full : Bool
   full = isFull (h .oldest) (h .figures .issued) (h .slots)

@@ -23,7 +23,7 @@ use Rattle.hub.specs.Record.{readSlot, withPhase, withPlace, writeSlot}
 use Rattle.hub.specs.Ring.{readPlace, readSeat, writeSeat}
 use Rattle.hub.specs.Schedule.{run}
 use Rattle.hub.specs.Table.{aboveZero, belowZero}
-use Rattle.operations.specs.Operation.{operated}
+use Rattle.operations.specs.Operation.{operated, turnsDown}
 use Rattle.operations.specs.declared.Operated.{Operated}
 
 -- Party p is in phase x; the place of ticket t is in state a; and all else as it was.
@@ -165,7 +165,13 @@ isOperation Op.Cancel = true
 isOperation Op.Release = true
 isOperation Op.Radio = false
 
--- There each operation comes to its closed form,
+-- On every record, whoever is busy: an operation that is refused has no steps and leaves the record alone.
+unfoldable pub RefusalLeaves : Type 0
+RefusalLeaves =
+    (h : Hub) (c : Call) → isOperation (c .op) ≡ true → turnsDown (operated h c .answer) ≡ true
+    → operated h c ≡ record { answer = operated h c .answer; woken = 0xFF; steps = 0; hub = h }
+
+-- At rest each operation comes to its closed form,
 unfoldable pub ComesTo : Type 0
 ComesTo = OnRest (λ h. (c : Call) → isOperation (c .op) ≡ true → operated h c ≡ operatedAtRest h c)
 

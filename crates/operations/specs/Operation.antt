@@ -1,16 +1,21 @@
 -- A whole operation: a call (ask, give up, give back), then the party's own steps until it is at rest, three at
--- most. On a hub at rest that is until nobody is busy: AtRest.antt claims it.
+-- most; a refused one has none, so that it leaves the record alone. On a hub at rest that is until nobody is busy:
+-- AtRest.antt claims it.
 use Prim.Native.Nat.{ℕ, zero, suc}
-use mathlib.Core.Bool.{cond}
+use mathlib.Core.Bool.{Bool, cond}
 use mathlib.Core.List.{List, [], _∷_}
-use lib.Dec.{eqb}
+use lib.Dec.{eqb, ltb}
 use lib.ListN.{length}
+use Rattle.hub.specs.declared.answers.Answer.{Answer}
 use Rattle.hub.specs.declared.moves.Call.{Call}
 use Rattle.hub.specs.declared.record.Hub.{Hub}
+use Rattle.hub.specs.declared.record.Outcome.{Outcome}
+use Rattle.hub.specs.Answers.{printed}
 use Rattle.hub.specs.Calls.{called}
 use Rattle.hub.specs.Calm.{rests, stepBy}
 use Rattle.hub.specs.Schedule.{Entry, entries, run}
 use Rattle.operations.specs.declared.Operated.{Operated}
+use Rattle.operations.specs.declared.Told.{Told}
 
 -- The steps of party p from h on until it is at rest, at most n.
 unfoldable pub stepsOf : ℕ → Hub → ℕ → List Call
@@ -21,8 +26,16 @@ stepsOf (suc n) h p = cond (rests h p) [] (stepBy p ∷ stepsOf n (called h (ste
 abbrev pub MOST-STEPS : ℕ
 MOST-STEPS = 3
 
+-- Is an answer a refusal, a code below 20?
+abbrev pub turnsDown : Answer → Bool
+turnsDown y = ltb (printed y .code) 0x20
+
+-- The steps after a call that left o.
+abbrev pub stepsFrom : Outcome → ℕ → List Call
+stepsFrom o p = cond (turnsDown (o .answer)) [] (stepsOf MOST-STEPS (o .hub) p)
+
 abbrev pub stepsAfter : Hub → Call → List Call
-stepsAfter h c = stepsOf MOST-STEPS (called h c .hub) (c .party)
+stepsAfter h c = stepsFrom (called h c) (c .party)
 
 -- The party that an answer shows as woken, FF if none does.
 unfoldable pub wokenIn : List Entry → ℕ
@@ -39,3 +52,7 @@ operated h c =
       steps = length (stepsAfter h c);
       hub = run h calls;
     }
+
+-- What is told of it.
+abbrev pub toldOf : Operated → Told
+toldOf r = record { answer = r .answer; woken = r .woken; steps = r .steps }

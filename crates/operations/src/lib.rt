@@ -10,3 +10,10 @@ pub struct Operated {
     pub steps: u32,
     pub hub: Hub,
 }
+
+// What is told of an operation: all of that but the record.
+pub struct Told {
+    pub answer: Answer,
+    pub woken: u32,
+    pub steps: u32,
+}

@@ -14,12 +14,12 @@ use Rattle.hub.specs.Ledger.{ledger, opened}
 use Rattle.hub.specs.Opening.{opening, sized, withRadios}
 use Rattle.hub.specs.Radios.{radiosOf}
 use Rattle.hub.specs.Schedule.{entries, run}
-use Rattle.line.specs.Form.{asText}
-use Rattle.line.specs.Frame.{codeOf}
-use Rattle.line.specs.Hex.{textOf}
+use Rattle.encoding.specs.Form.{asText}
+use Rattle.encoding.specs.Frame.{codeOf}
+use Rattle.encoding.specs.Hex.{textOf}
 use Rattle.line.specs.Program.{unopened, isOpen, Reply, replyOf, replies, rendered}
 use Rattle.line.specs.Program.{closing, linesOf, outputOf}
-use Rattle.line.specs.Requests.{Request, malformed, toOpen, toCall, requestOf}
+use Rattle.line.specs.Requests.{Request, malformed, toOpen, toCall, givenKinds, requestOf}
 
 -- No hub is opened, or one is and calls follow.
 pub data Schedule : Type 0 where
@@ -59,9 +59,12 @@ scheduleOf (toOpen o ∷ rs) =
     cond (isOpen (opening o .hub)) (started o (callsIn rs)) (scheduleOf rs)
 scheduleOf (toCall c ∷ rs) = scheduleOf rs
 
--- The replies but for 12, 13 and refused openings, which are 2, 3 and 14.
+-- The replies but for 12, 13 and refused openings, which are 2, 3 and 14 to 17.
+abbrev pub leftOutCodes : List ℕ
+leftOutCodes = 2 ∷ 3 ∷ 12 ∷ 13 ∷ 14 ∷ 15 ∷ 16 ∷ 17 ∷ []
+
 abbrev pub leftOut : ℕ → Bool
-leftOut code = among (2 ∷ 3 ∷ 12 ∷ 13 ∷ 14 ∷ []) code
+leftOut code = among leftOutCodes code
 
 unfoldable pub kept : List Reply → List Reply
 kept [] = []
@@ -83,28 +86,32 @@ unfoldable pub callLines : List Call → List ℕ
 callLines [] = []
 callLines (c ∷ cs) = textOf (codeOf (c .op) ∷ c .party ∷ []) ++ callLines cs
 
--- The frame of an opening.
-abbrev pub openingFrame : Opening → List ℕ
-openingFrame o =
-    cond (o .named) (0x02 ∷ o .permits ∷ o .parties ∷ radiosOf o) (0x01 ∷ o .permits ∷ o .parties ∷ [])
+-- The frame of an opening, followed by kinds, if any.
+abbrev pub openingFrame : Opening → List ℕ → List ℕ
+openingFrame o ks =
+    cond (o .named) (0x02 ∷ o .permits ∷ o .parties ∷ radiosOf o ++ ks) (0x01 ∷ o .permits ∷ o .parties ∷ ks)
 
-abbrev pub inputOf : Opening → List Call → List ℕ
-inputOf o cs = textOf (openingFrame o) ++ callLines cs
+abbrev pub inputOf : Opening → List ℕ → List Call → List ℕ
+inputOf o ks cs = textOf (openingFrame o ks) ++ callLines cs
 
 -- A party is one byte of a line.
 unfoldable pub PartyBytes : List Call → Type 0
 PartyBytes [] = Unit {0}
 PartyBytes (c ∷ cs) = (c .party < 256) × PartyBytes cs
 
--- An opening that a line can spell: its radios are bytes, and it keeps nothing but what its frame has.
-abbrev pub Spelled : Opening → Type 0
-Spelled o =
+-- An opening that a line with these kinds can spell: its radios are bytes, and it keeps nothing but what its
+-- frame has.
+abbrev pub Spelled : Opening → List ℕ → Type 0
+Spelled o ks =
+    let k = o .permits in
+    let n = o .parties in
     AllBelow 256 (radiosOf o)
-    × (cond (o .named) (withRadios (o .permits) (o .parties) (radiosOf o)) (sized (o .permits) (o .parties)) ≡ o)
+    × (givenKinds ks (cond (o .named) (withRadios k n (radiosOf o)) (sized k n)) ≡ o)
 
--- For an accepted opening and any calls after it nothing else is printed.
+-- For an accepted opening, its kinds given or not, and any calls after it nothing else is printed.
 unfoldable pub PrintsSchedule : Type 0
 PrintsSchedule =
-    (o : Opening) → opening o .answer ≡ Answer.Opened → Spelled o → (cs : List Call) → PartyBytes cs
+    (o : Opening) → opening o .answer ≡ Answer.Opened → (ks : List ℕ) → Spelled o ks
+    → (cs : List Call) → PartyBytes cs
     → let s = started o cs in
-    outputOf (inputOf o cs) ≡ rendered asText (repliesOf s) ++ closing (leftBy s)
+    outputOf (inputOf o ks cs) ≡ rendered asText (repliesOf s) ++ closing (leftBy s)

@@ -48,6 +48,7 @@ pub fn perform_operations(hub: Hub, operations: &[u8], out: &mut [u8])
     let mut places = hub.places;
     let mut slots = hub.slots;
     let mut pool = hub.pool;
+    let kinds = opening.kinds;
     let count = operations.len() / 2;
     let mut i: usize = 0;
     while i < count {
@@ -64,7 +65,7 @@ pub fn perform_operations(hub: Hub, operations: &[u8], out: &mut [u8])
         let slot = slots[own];
         let t = place_for(code, slot, figures);
         let seat = places[t];
-        let kind = opening.kinds[own];
+        let kind = kinds[own];
         let full = is_full_for(code, oldest, figures.issued, slots);
         let s = Seen {
             party,

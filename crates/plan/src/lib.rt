@@ -1,5 +1,7 @@
 // What an operation comes to on a hub at rest, laid out flat: it is stored without asking of which kind it is.
 
+use effects::counter::above_zero;
+use effects::counter::below_zero;
 use hub::answers::Answer;
 use hub::moves::Op;
 use hub::phases::ticket;
@@ -11,8 +13,6 @@ use hub::record::Place;
 use hub::record::PlaceSlot;
 use hub::slots::with_phase;
 use hub::slots::with_place;
-use table::counter::above_zero;
-use table::counter::below_zero;
 use transition::room::full_for;
 ghost use mathlib.Core.Path.{_≡_};
 ghost use mathlib.Core.Bool.{cond};
@@ -23,7 +23,7 @@ ghost use Rattle.hub.specs.Phases.{byWaiter, isFree, isHolding, isWaiting};
 ghost use Rattle.hub.specs.Record.{MAX-BEGUN, withPlace};
 ghost use Rattle.hub.specs.Ring.{PLACES};
 ghost use Rattle.hub.specs.Table.{aboveZero, belowZero};
-ghost use Rattle.table.specs.Small.{CounterFits};
+ghost use Rattle.effects.specs.Small.{CounterFits};
 ghost use Rattle.transition.specs.Room.{fullFor};
 ghost use Rattle.plan.specs.Plan.{asked, given, operationOf, planAcquire, planCancel, planOf};
 ghost use Rattle.plan.specs.Plan.{planRelease, radioBy, refusedBy, short, ticketFor};

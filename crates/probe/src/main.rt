@@ -4,6 +4,9 @@
 
 mod radios; // the radios' part of a record
 
+use encoding::answer::print_of;
+use encoding::answer::put;
+use encoding::signed::twos_complement;
 use hub::moves::Op;
 use hub::record::Figures;
 use hub::record::Hub;
@@ -18,9 +21,6 @@ use hub::slots::with_phase;
 use hub::slots::with_place;
 use libc::STDIN_FILENO;
 use libc::STDOUT_FILENO;
-use line::answer::print_of;
-use line::answer::put;
-use line::signed::twos_complement;
 use radios::opening_of;
 use radios::pool_of;
 use radios::put_radios;

@@ -7,7 +7,7 @@ use line::values::call_by;
 ghost use mathlib.Core.Path.{_≡_};
 ghost use Prim.Native.Nat.{_*_, _≤_};
 ghost use lib.ListN.{length};
-ghost use Rattle.line.specs.Tables.{Values};
+ghost use Rattle.encoding.specs.Tables.{Values};
 ghost use Rattle.reader.specs.Reading.{KEPT, asked, headerBytes, past, written};
 
 // One character more than a line may have makes it too long, so that no more are kept.

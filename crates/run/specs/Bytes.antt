@@ -5,8 +5,8 @@ use mathlib.Core.List.{List, [], _∷_, map}
 use Rattle.hub.specs.declared.moves.Call.{Call}
 use Rattle.hub.specs.declared.record.Hub.{Hub}
 use Rattle.hub.specs.Schedule.{entries}
-use Rattle.line.specs.Form.{asBytes}
-use Rattle.line.specs.Frame.{opOf}
+use Rattle.encoding.specs.Form.{asBytes}
+use Rattle.encoding.specs.Frame.{opOf}
 use Rattle.line.specs.Program.{replyOf, rendered}
 
 -- Two bytes each, the first of them a code that passes a test.

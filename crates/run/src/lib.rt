@@ -2,24 +2,25 @@
 // What the third demand says of schedules it says of these answers.
 
 use batch::answer_requests;
+use encoding::answer::refusal_code;
 use hub::answers::Answer;
 use hub::answers::Refusal;
 use hub::opening::Opening;
 use hub::opening::open_hub;
-use line::answer::refusal_code;
-use line::form::BYTES;
 use line::openings::is_opening_frame;
 use line::openings::opening_in;
+use writer::form::BYTES;
 ghost use mathlib.Core.Path.{_≡_};
-ghost use Rattle.line.specs.Frame.{isCall};
+ghost use Rattle.hub.specs.Opening.{opening};
+ghost use Rattle.encoding.specs.Frame.{isCall};
 ghost use Rattle.line.specs.Requests.{requested};
 ghost use Rattle.run.specs.Bytes.{wellFormed};
-ghost use Rattle.run.specs.Run.{framedRun, ranCode, runOf};
+ghost use Rattle.run.specs.Run.{framedRun, ranCode, runFrom};
 
 // How a run ended. Only a run that is done writes to the buffer.
 pub enum Ran {
     BadOpening, // the opening's frame is malformed
-    NotOpened(Refusal), // 2, 3 or 14
+    NotOpened(Refusal), // 2, 3 or 14 to 17
     Malformed, // an odd number of bytes, or a code that is none of the calls
     NoRoom, // fewer than seven bytes of room for each call
     Done,
@@ -50,8 +51,8 @@ fn well_formed(calls: &[u8]) -> bool
 // Opens a hub, and runs the calls if they are well formed and there is room for the answers. What
 // an opening leads to needs no check, so that `batch` answers them.
 pub fn run_calls(o: Opening, calls: &[u8], out: &mut [u8]) -> Ran
-    ensures { λ r. ⌜ (r ≡ runOf o (now (calls .entry)) (now (out .entry)) .ran)
-        × (now (out .exit) ≡ runOf o (now (calls .entry)) (now (out .entry)) .out) ⌝ }
+    ensures { λ r. ⌜ (ranCode r ≡ runFrom (opening o) (now (calls .entry)) (now (out .entry)) .result)
+        × (now (out .exit) ≡ runFrom (opening o) (now (calls .entry)) (now (out .entry)) .out) ⌝ }
 {
     let opened = open_hub(o);
     let answer = opened.answer;
@@ -84,7 +85,7 @@ fn ran_code(ran: Ran) -> u8
 
 // The same with the opening as a frame, as it stands in a line.
 fn run_framed(opening: &[u8], calls: &[u8], out: &mut [u8]) -> Ran
-    ensures { λ r. ⌜ (r ≡ framedRun (requested (now (opening .entry))) (now (calls .entry)) (now (out .entry)) .ran)
+    ensures { λ r. ⌜ (ranCode r ≡ framedRun (requested (now (opening .entry))) (now (calls .entry)) (now (out .entry)) .result)
         × (now (out .exit) ≡ framedRun (requested (now (opening .entry))) (now (calls .entry)) (now (out .entry)) .out) ⌝ }
 {
     if !is_opening_frame(opening) {
@@ -93,11 +94,11 @@ fn run_framed(opening: &[u8], calls: &[u8], out: &mut [u8]) -> Ran
     run_calls(opening_in(opening), calls, out)
 }
 
-// The same for C and Rust, which see a number: 0 done, 12 a malformed opening, 2, 3 or 14 not opened,
-// 254 malformed calls, 255 no room.
+// The same for C and Rust, which see a number: 0 done, 12 a malformed opening, 2, 3 or 14 to 17 not
+// opened, 254 malformed calls, 255 no room.
 #[no_mangle]
 pub extern "C" fn hub_run(opening: &[u8], calls: &[u8], out: &mut [u8]) -> u8
-    ensures { λ r. ⌜ (r ≡ ranCode (framedRun (requested (now (opening .entry))) (now (calls .entry)) (now (out .entry)) .ran))
+    ensures { λ r. ⌜ (r ≡ framedRun (requested (now (opening .entry))) (now (calls .entry)) (now (out .entry)) .result)
         × (now (out .exit) ≡ framedRun (requested (now (opening .entry))) (now (calls .entry)) (now (out .entry)) .out) ⌝ }
 {
     let ran = run_framed(opening, calls, out);

@@ -28,7 +28,7 @@ use Rattle.hub.proofs.Demand3.{demand3}
 use Rattle.hub.proofs.Laws.Bools.{if-false, if-true}
 use Rattle.hub.proofs.Laws.Slots.{read-phase}
 use Rattle.operations.specs.AtRest.{EndsAtRest}
-use Rattle.operations.specs.Operation.{MOST-STEPS, operated, stepsOf}
+use Rattle.operations.specs.Operation.{MOST-STEPS, operated, stepsOf, turnsDown}
 use Rattle.operations.proofs.Operations.{ends-at-rest}
 use Rattle.operations.proofs.Reached.{run-more}
 use Rattle.screen.proofs.Laws.Lists.{never}
@@ -141,8 +141,25 @@ module _ (o : Opening) (e : opening o .answer ≡ Answer.Opened) where
       busy : rests g p ≡ false
       busy = ap (rests g) (sym same) ∙ b .0
 
+-- Where everybody is at rest nobody steps.
+nobody-steps : (g : Hub) → ((q : ℕ) → rests g q ≡ true) → (ps : List ℕ) → BusySteps g ps → map stepBy ps ≡ []
+unfolding BusySteps
+nobody-steps g z [] b = refl
+nobody-steps g z (q ∷ qs) b = absurd (never (sym (z q) ∙ b .0))
+
 pub one-way : OneWay
 unfolding OneWay EndsAtRest operated run
-one-way o e cs calm c i ps t =
-    walk o e MOST-STEPS _ (c .party) (called-reached o e _ c (cs, refl))
-    (λ q d. others-rest o e _ c (cs, refl) q d (calm q)) (ends-at-rest o e cs calm c i (c .party)) ps (t .0) (t .1)
+one-way o e cs calm c i ps t = go (turnsDown (called h c .answer)) (ends-at-rest o e cs calm c i)
+  where
+    h : Hub
+    h = run (opening o .hub) cs
+
+    steps : List Call
+    steps = stepsOf MOST-STEPS (called h c .hub) (c .party)
+
+    go : (b : Bool) → ((q : ℕ) → rests (run (called h c .hub) (cond b [] steps)) q ≡ true)
+        → map stepBy ps ≡ cond b [] steps
+    go true end = nobody-steps _ end ps (t .0)
+    go false end =
+        walk o e MOST-STEPS _ (c .party) (called-reached o e _ c (cs, refl))
+        (λ q d. others-rest o e _ c (cs, refl) q d (calm q)) (end (c .party)) ps (t .0) (t .1)

@@ -11,19 +11,14 @@ use Rattle.hub.specs.Answers.{printed}
 use Rattle.hub.specs.Basics.{among}
 use Rattle.hub.specs.Calm.{rests}
 use Rattle.hub.specs.Opening.{opening}
-use Rattle.operations.specs.Operation.{operated}
+use Rattle.operations.specs.declared.Told.{Told}
+use Rattle.operations.specs.Operation.{operated, toldOf}
 use Rattle.screen.specs.declared.record.Line.{Line}
 use Rattle.screen.specs.Line.{holders, waiters}
 use Rattle.screen.specs.Moves.{callOf, lineOpening, moved}
 use Rattle.screen.specs.Reached.{Request, lineAfter}
 use Rattle.screen.specs.Steps.{stepsToRest, wokenBy}
 use Rattle.shown.specs.Parties.{holdersOf, waitersOf}
-
--- What is told of an operation: its answer, whom it woke (FF: nobody), and its steps.
-pub record Told : Type 0 where
-  pub answer : Answer
-  pub woken : ℕ
-  pub steps : ℕ
 
 -- The hub's call by which a clerk's request begins there.
 abbrev pub callFor : Request → Call
@@ -39,7 +34,7 @@ unfoldable pub hubTold : Hub → List Request → List Told
 hubTold h [] = []
 hubTold h (r ∷ rs) =
     let x = operated h (callFor r) in
-    record { answer = x .answer; woken = x .woken; steps = x .steps } ∷ hubTold (x .hub) rs
+    toldOf x ∷ hubTold (x .hub) rs
 
 -- What the screen tells of each, from its line alone; `lineAfter` is the line that they leave.
 unfoldable pub lineTold : Line → List Request → List Told

@@ -1,100 +1,15 @@
-// The calls by value: a record in, the answer and the record out, for every record and
-// every party byte. A refusal hands the record back as it came.
+// The calls by value, a function each: a record in, the answer and the record out, for every record
+// and every party byte. A refusal hands the record back as it came.
 
-use crate::reclaim::reclaim;
-use fit::fits;
-use hub::answers::Answer;
-use hub::answers::Refusal;
 use hub::moves::Op;
-use hub::moves::Sight;
 use hub::record::Hub;
 use hub::record::Outcome;
-use pool::moving::move_radio;
-use transition::effect::decide;
-use transition::sight::seat_index;
-use transition::sight::slot_within;
-use transition::sight::waiter_at;
-use transition::tidy::is_untidy;
 ghost use mathlib.Core.Path.{_≡_};
 ghost use Rattle.hub.specs.Answers.{printed};
 ghost use Rattle.hub.specs.Calls.{called};
 
-// Any of them. Check, look, store and tidy stand in one function, since a record that is handed
-// on is copied; what goes to other functions is small. A refused call stores what was there, and so do 37 and 39.
-pub fn call(mut hub: Hub, op: Op, party: u8) -> Outcome
-    ensures { λ r. ⌜ (r ≡ called hub (record { op = op; party = party }))
-        × (printed (r .answer) ≡ printed (called hub (record { op = op; party = party }) .answer)) ⌝ }
-{
-    if !fits(hub) {
-        return Outcome {
-            answer: Answer::Refused(Refusal::Unfit),
-            hub,
-        };
-    }
-    if hub.opening.parties <= party {
-        return Outcome {
-            answer: Answer::Refused(Refusal::NoSuchParty),
-            hub,
-        };
-    }
-    let p = party as usize;
-    let slot = hub.slots[p];
-    let t = seat_index(slot);
-    let seat = hub.places[t];
-    let q = waiter_at(seat);
-    let w = (q % 32) as usize;
-    let near = hub.slots[w];
-    let waiter = slot_within(q, near);
-    let figures = hub.figures;
-    let hands = hub.pool.hands;
-    let radio = hands[p];
-    let kinds = hub.opening.kinds;
-    let kind = kinds[p];
-    let s = Sight {
-        party,
-        kind,
-        slot,
-        seat,
-        waiter,
-        figures,
-        named: hub.opening.named,
-        radio,
-        stocked: 0 < hub.pool.stored,
-    };
-    let slots = hub.slots;
-    let e = decide(op, hub.oldest, slots, s);
-    let woken = e.woken;
-    if woken < 32 {
-        let v = woken as usize;
-        let woke = e.waiter;
-        hub.slots[v] = woke;
-    }
-    let own = e.slot;
-    hub.slots[p] = own;
-    let put = e.seat;
-    hub.places[t] = put;
-    let after = e.figures;
-    hub.figures = after;
-    let answer = e.answer;
-    if hub.opening.named {
-        let pool = hub.pool;
-        let moved = move_radio(answer, party, pool);
-        hub.pool = moved;
-    }
-    // the tidying, if there is any
-    let r = (hub.figures.resumed % Hub::PLACES) as usize;
-    let o = (hub.oldest % Hub::PLACES) as usize;
-    let next = hub.places[r];
-    let first = hub.places[o];
-    if !is_untidy(next, first) {
-        return Outcome { answer, hub };
-    }
-    let tidied = reclaim(hub, e.turns);
-    Outcome {
-        answer,
-        hub: tidied,
-    }
-}
+// Any of them.
+pub use anycall::call;
 
 // Ask (10).
 pub fn acquire(hub: Hub, party: u8) -> Outcome

@@ -1,18 +1,18 @@
 // The step table, a row a function.
 
-use crate::changes::acted;
-use crate::changes::given;
-use crate::changes::placed;
-use crate::changes::refused;
-use crate::changes::taken;
-use crate::changes::told;
-use crate::changes::turned;
-use crate::changes::woke;
-use crate::counter::above_zero;
-use crate::counter::below_zero;
-use crate::effect::Effect;
-use crate::figures::with_issued;
-use crate::figures::with_resumed;
+use effects::changes::acted;
+use effects::changes::given;
+use effects::changes::placed;
+use effects::changes::refused;
+use effects::changes::taken;
+use effects::changes::told;
+use effects::changes::turned;
+use effects::changes::woke;
+use effects::counter::above_zero;
+use effects::counter::below_zero;
+use effects::effect::Effect;
+use effects::figures::with_issued;
+use effects::figures::with_resumed;
 use hub::answers::Answer;
 use hub::answers::Refusal;
 use hub::moves::Sight;
@@ -24,8 +24,8 @@ ghost use Rattle.hub.specs.Phases.{isWaiting};
 ghost use Rattle.hub.specs.Table;
 ghost use Rattle.hub.specs.Table.{aboveZero, resumeWaiter, stepAcquiring, stepIn, stepTicketed};
 ghost use Rattle.hub.specs.Table.{withPermit, withoutPermit};
-ghost use Rattle.table.specs.Effect.{effectOf};
-ghost use Rattle.table.specs.Small.{Small, CounterFits};
+ghost use Rattle.effects.specs.Effect.{effectOf};
+ghost use Rattle.effects.specs.Small.{Small, CounterFits};
 
 // With a permit of its own; having given one back.
 fn with_permit(named: bool) -> Phase

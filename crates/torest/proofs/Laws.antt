@@ -21,7 +21,7 @@ use Rattle.hub.specs.Schedule.{entries, run}
 use Rattle.hub.proofs.Laws.Bools.{if-false, if-true}
 use Rattle.hub.proofs.Laws.Phases.{phases-alike}
 use Rattle.operations.specs.declared.Operated.{Operated}
-use Rattle.operations.specs.Operation.{MOST-STEPS, operated, stepsOf, wokenIn}
+use Rattle.operations.specs.Operation.{MOST-STEPS, operated, stepsFrom, stepsOf, turnsDown, wokenIn}
 use Rattle.torest.specs.declared.Walked.{Walked}
 use Rattle.torest.specs.Walked.{walked}
 
@@ -80,15 +80,18 @@ walked-one n h p e =
     ap (of h) (if-false (rests h p) [] _ e)
     ∙ one-more h (stepBy p) (stepsOf n (called h (stepBy p) .hub) p)
 
+none : (w : ℕ) → firstOf w 0xFF ≡ w
+none w = go (eqb w 0xFF) refl
+  where
+    go : (b : Bool) → eqb w 0xFF ≡ b → cond b 0xFF w ≡ w
+    go true e = sym (eqb-true w 0xFF e)
+    go false e = refl
+
 nothing : (w s : ℕ) (h : Hub) → joined w s (of h []) ≡ record { woken = w; steps = s; hub = h }
 unfolding run entries wokenIn
 nothing w s h =
     let f : s + 0 ≡ s = omega arith in
-    λ i. record { woken = none (eqb w 0xFF) refl i; steps = f i; hub = h }
-  where
-    none : (b : Bool) → eqb w 0xFF ≡ b → cond b 0xFF w ≡ w
-    none true e = sym (eqb-true w 0xFF e)
-    none false e = refl
+    λ i. record { woken = none w i; steps = f i; hub = h }
 
 -- After s steps of party p from h₀ on, which woke w, the record is h.
 pub record Walking (h₀ : Hub) (p w s : ℕ) (h : Hub) : Type 0 where
@@ -143,20 +146,39 @@ module _ (h₀ : Hub) (p w s : ℕ) (h : Hub) (k : Walking h₀ p w s h) where
       sym (nothing w s h)
       ∙ sym (ap (λ (m : ℕ). joined w s (walked m h p)) n) ∙ k .same
 
--- The call, and then its steps.
+-- The call, and then its steps, if it is not refused.
 abbrev pub from : Outcome → ℕ → Walked → Operated
 from o w r = record { answer = o .answer; woken = w; steps = r .steps; hub = r .hub }
 
-pub operated-by : (h : Hub) (c : Call) (o : Outcome) (w : ℕ) (r : Walked) → o ≡ called h c
-    → w ≡ firstOf (printed (o .answer) .woken) (r .woken)
-    → r ≡ walked MOST-STEPS (o .hub) (c .party) → from o w r ≡ operated h c
-unfolding operated walked run entries wokenIn
-operated-by h c o w r e g f =
-    ap (λ (v : ℕ). from o v r) g
-    ∙ ap (λ (x : Walked). from o (firstOf (printed (o .answer) .woken) (x .woken)) x) f
-    ∙ ap (λ (x : Outcome).
-    let y = walked MOST-STEPS (x .hub) (c .party) in
-    from x (firstOf (printed (x .answer) .woken) (y .woken)) y) e
+-- What steps come to that a list of calls is.
+abbrev by : Outcome → List Call → Operated
+by o cs =
+    let y = of (o .hub) cs in
+    from o (firstOf (printed (o .answer) .woken) (y .woken)) y
+
+operated-by : (h : Hub) (c : Call) (o : Outcome) → o ≡ called h c
+    → by o (stepsFrom o (c .party)) ≡ operated h c
+unfolding operated run entries wokenIn
+operated-by h c o e = ap (λ (x : Outcome). by x (stepsFrom x (c .party))) e
+
+module _ (h : Hub) (c : Call) (o : Outcome) (e : o ≡ called h c) where
+  pub operated-refused : (w : ℕ) → turnsDown (o .answer) ≡ true → w ≡ printed (o .answer) .woken
+      → from o w (record { woken = 0xFF; steps = 0; hub = o .hub }) ≡ operated h c
+  unfolding run entries wokenIn
+  operated-refused w t g =
+      ap (λ (v : ℕ). from o v (of (o .hub) [])) (g ∙ sym (none (printed (o .answer) .woken)))
+      ∙ ap (by o) (sym (if-true (turnsDown (o .answer)) [] _ t))
+      ∙ operated-by h c o e
+
+  pub operated-walked : (w : ℕ) (r : Walked) → turnsDown (o .answer) ≡ false
+      → w ≡ firstOf (printed (o .answer) .woken) (r .woken)
+      → r ≡ walked MOST-STEPS (o .hub) (c .party) → from o w r ≡ operated h c
+  unfolding walked
+  operated-walked w r t g f =
+      ap (λ (v : ℕ). from o v r) g
+      ∙ ap (λ (x : Walked). from o (firstOf (printed (o .answer) .woken) (x .woken)) x) f
+      ∙ ap (by o) (sym (if-false (turnsDown (o .answer)) [] _ t))
+      ∙ operated-by h c o e
 
 -- A promise that gives what an operation came to gives what is printed for it.
 pub with-printed : {r d : Operated} → r ≡ d → (r ≡ d) × (printed (r .answer) ≡ printed (d .answer))

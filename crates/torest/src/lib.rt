@@ -1,10 +1,10 @@
 // One whole operation by value, on any record: the call, then the party's steps until it is at rest.
 
+use encoding::answer::print_of;
 use hub::answers::Answer;
 use hub::moves::Op;
 use hub::phases::phase_rank;
 use hub::record::Hub;
-use line::answer::print_of;
 use operations::Operated;
 use step::calls::call;
 use step::calls::step;
@@ -13,7 +13,7 @@ ghost use mathlib.Core.Bool.{cond};
 ghost use lib.Dec.{eqb};
 ghost use Rattle.hub.specs.Answers.{printed};
 ghost use Rattle.hub.specs.Calm.{rests};
-ghost use Rattle.operations.specs.Operation.{MOST-STEPS, operated};
+ghost use Rattle.operations.specs.Operation.{MOST-STEPS, operated, turnsDown};
 ghost use Rattle.torest.specs.Walked.{walked};
 
 // What steps come to.
@@ -72,8 +72,15 @@ fn walk(mut hub: Hub, party: u8) -> Walked
     Walked { woken, steps, hub }
 }
 
-// Ask, give up or give back on a hub at rest, and its steps. It takes any record, any call and any party byte; a
-// refusal hands the record back as it came.
+// Is an answer a refusal?
+fn turns_down(answer: Answer) -> bool
+    ensures { λ r. ⌜ r ≡ turnsDown answer ⌝ }
+{
+    print_of(answer).code < 0x20
+}
+
+// Ask, give up or give back, and its steps. It takes any record, any call and any party byte; a refusal hands the
+// record back as it came, on which nobody needs to be at rest.
 pub fn operate(hub: Hub, op: Op, party: u8) -> Operated
     ensures { λ r. ⌜ (r ≡ operated hub (record { op = op; party = party }))
         × (printed (r .answer) ≡ printed (operated hub (record { op = op; party = party }) .answer)) ⌝ }
@@ -81,6 +88,14 @@ pub fn operate(hub: Hub, op: Op, party: u8) -> Operated
     let first = call(hub, op, party);
     let answer = first.answer;
     let after = first.hub;
+    if turns_down(answer) {
+        return Operated {
+            answer,
+            woken: woken_by(answer),
+            steps: 0,
+            hub: after,
+        };
+    }
     let rest = walk(after, party);
     let left = rest.hub;
     Operated {

@@ -1,21 +1,21 @@
 // What a call does, whichever it is.
 
 use crate::room::full_for;
+use effects::effect::Effect;
+use effects::others::decide_acquire;
+use effects::others::decide_cancel;
+use effects::others::decide_radio;
+use effects::others::decide_release;
 use hub::moves::Op;
 use hub::moves::Sight;
 use hub::record::PartySlot;
-use table::effect::Effect;
-use table::others::decide_acquire;
-use table::others::decide_cancel;
-use table::others::decide_radio;
-use table::others::decide_release;
 use table::rows::decide_step;
 ghost use mathlib.Core.Path.{_≡_};
 ghost use Prim.Native.Nat.{_≤_};
 ghost use Rattle.hub.specs.Calls.{isFull};
 ghost use Rattle.hub.specs.Table;
-ghost use Rattle.table.specs.Effect.{effectOf};
-ghost use Rattle.table.specs.Small.{Small};
+ghost use Rattle.effects.specs.Effect.{effectOf};
+ghost use Rattle.effects.specs.Small.{Small};
 
 // `full`: is there no place for one more ticket? Only an ask looks at it.
 pub fn decide_by(op: Op, full: bool, s: Sight) -> Effect

@@ -4,7 +4,7 @@ use mathlib.Core.Path.{_≡_}
 use mathlib.Core.Bool.{false}
 use borrow.Author.Tests.{eq-eqb, ne-eqb, le-ltb, lt-ltb}
 use native.Mathlib.Omega.{arith}
-use Rattle.line.specs.Frame.{isCall}
+use Rattle.encoding.specs.Frame.{isCall}
 use Rattle.line.proofs.Laws.Codes.{no-code, under, a-code}
 use Rattle.batch.specs.declared.admission.Admission.{Admission}
 use Rattle.batch.specs.Admission.{admitted, admissionOf, refused}

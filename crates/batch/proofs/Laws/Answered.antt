@@ -13,7 +13,7 @@ use Rattle.hub.specs.Look.{look}
 use Rattle.hub.specs.Opening.{nobody}
 use Rattle.hub.specs.Radios.{STORE}
 use Rattle.hub.specs.Table.{decide}
-use Rattle.line.specs.Frame.{isCall, opOf}
+use Rattle.encoding.specs.Frame.{isCall, opOf}
 use Rattle.line.specs.Program.{Response, reported, whenOpen, respond}
 use Rattle.line.specs.Requests.{Request, malformed, toOpen, toCall}
 use Rattle.line.proofs.Laws.Schedules.{respond-open}

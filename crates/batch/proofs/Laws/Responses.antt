@@ -8,11 +8,11 @@ use borrow.Rule.Slice.PartMut.{putMid}
 use lib.ListN.{length, getD, take, drop, take-append-drop, length-drop}
 use lib.Seq.{drop-drop, getD-drop, length-take-le}
 use Rattle.hub.specs.declared.record.Hub.{Hub}
-use Rattle.line.specs.Form.{Form, asText, asBytes, replySize}
+use Rattle.encoding.specs.Form.{Form, asText, asBytes, replySize}
 use Rattle.line.specs.Program.{Reply, Response, respond, after, replies, replyIn, rendered}
 use Rattle.line.specs.Program.{repliesIn}
 use Rattle.line.specs.Requests.{Request}
-use Rattle.line.proofs.Laws.Parts.{put-length, put-take, put-drop}
+use Rattle.encoding.proofs.Laws.Parts.{put-length, put-take, put-drop}
 use Rattle.batch.specs.Batch.{requestFor, requestsIn, replied, Reachable}
 use Rattle.batch.proofs.Laws.Reachable.{response-reachable}
 

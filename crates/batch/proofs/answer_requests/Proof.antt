@@ -27,11 +27,11 @@ use Rattle.hub.specs.Radios.{handOf}
 use Rattle.hub.specs.Record.{emptySeat, readSlot, writeSlot}
 use Rattle.hub.specs.Ring.{PLACES, Ring, readSeat, writeSeat, skip, retire}
 use Rattle.hub.specs.Table.{decide, withResumed}
-use Rattle.line.specs.Frame.{opOf, frameOf, paper}
-use Rattle.line.specs.Form.{formOf, inForm}
+use Rattle.encoding.specs.Frame.{opOf, frameOf, paper}
+use Rattle.encoding.specs.Form.{formOf, inForm}
 use Rattle.line.specs.Program.{after, respond}
-use Rattle.table.specs.declared.effect.Effect.{Effect}
-use Rattle.table.specs.Effect.{effectOf}
+use Rattle.effects.specs.declared.effect.Effect.{Effect}
+use Rattle.effects.specs.Effect.{effectOf}
 use Rattle.transition.specs.Room.{fullFor}
 use Rattle.transition.specs.Tidied.{tidiedBy}
 use Rattle.transition.proofs.Laws.Called.{radiosAfter, said, left}
@@ -41,7 +41,7 @@ use Rattle.transition.proofs.Laws.Loops.{skipping-stop, skipping-end}
 use Rattle.transition.proofs.Laws.Loops.{Retiring, retiring, retiring-on, retiring-stop, retiring-end}
 use Rattle.transition.proofs.Laws.Ops.{as-asked}
 use Rattle.transition.proofs.Laws.Radios.{with-radios, without-radios}
-use Rattle.transition.proofs.Laws.Sight.{Reads, of-kind, sightOf}
+use Rattle.transition.proofs.Laws.Sight.{Reads, sightOf}
 use Rattle.transition.proofs.Laws.Stored.{nobody, still, few-turns}
 use Rattle.batch.specs.Batch.{Reachable, requestsIn, replied}
 use Rattle.batch.proofs.Laws.Answered.{Admitted, is-admitted, refused-response, LetIn}
@@ -253,13 +253,11 @@ effect-is : (c : Decided)
 unfolding readSlot kindIn handOf
 effect-is c =
     let h = head (entering c) in
-    let s : ℕ → Sight = λ k. of-kind k (sight (seen c)) in
-    let k = getD (h .before .before .before .table .result) (party h) 0 in
+    let s = sight (seen c) in
     c .decide-by .ensures
-    ∙ ap₂ (λ (o : Op) (b : Bool). effectOf (decide o b (s k)) (s k)) (c .before .before .op-of .ensures)
+    ∙ ap₂ (λ (o : Op) (b : Bool). effectOf (decide o b s) s) (c .before .before .op-of .ensures)
     (c .before .full-for .ensures ∙ ap (λ (o : Op). fullFor o (full h)) (c .before .before .op-of .ensures))
-    ∙ ap₂ (λ (m : Sight → Move) (k : ℕ). effectOf (m (s k)) (s k)) (λ i. λ z. as-asked (full h) z (op h) i)
-    (ap (λ (l : List ℕ). getD l (party h) 0) (h .before .before .before .table .ensures))
+    ∙ ap (λ (m : Sight → Move). effectOf (m s) s) (λ i. λ z. as-asked (full h) z (op h) i)
 
 abbrev move : Head → Move
 move h = decide (op h) (full h) (look (hub h) (party h))
@@ -395,10 +393,6 @@ replied-with s =
 table-requires : tie.Need-table-requires Inv-loop2 μ-loop2 Inv-loop3 μ-loop3 Inv-loop μ-loop
 table-requires c κs = search needs
 
-table-requires-2 :
-    tie.Need-table-requires-2 Inv-loop2 μ-loop2 Inv-loop3 μ-loop3 Inv-loop μ-loop
-table-requires-2 c κs = search needs
-
 reply-size-requires :
     tie.Need-reply-size-requires Inv-loop2 μ-loop2 Inv-loop3 μ-loop3 Inv-loop μ-loop
 reply-size-requires c κs = search needs
@@ -452,7 +446,7 @@ plain-requires c κs = search needs
 put-reply-requires : tie.Need-put-reply-requires Inv-loop2 μ-loop2 Inv-loop3 μ-loop3 Inv-loop μ-loop
 put-reply-requires c κs =
     let e = c .before .before .before .before .before .before .before .before in (
-      e .before .before .before .table2 .ensures,
+      e .before .before .before .table .ensures,
       reply-part _ _ _ _ _ _ _ _ _ (e .before .loop .inv .0) (e .loop-test .taken),
     )
 
@@ -579,7 +573,7 @@ put-reply-requires-2 :
     tie.Need-put-reply-requires-2 Inv-loop2 μ-loop2 Inv-loop3 μ-loop3 Inv-loop μ-loop
 put-reply-requires-2 c κs =
     let e = turning (entering (decided (woken (filled c)))) in (
-      e .before .before .before .table2 .ensures,
+      e .before .before .before .table .ensures,
       reply-part _ _ _ _ _ _ _ _ _ (e .before .loop .inv .0) (e .loop-test .taken),
     )
 
@@ -812,7 +806,6 @@ answer-requests-spec =
     Inv-loop
     μ-loop
     table-requires
-    table-requires-2
     reply-size-requires
     loop-holds
     mul-from

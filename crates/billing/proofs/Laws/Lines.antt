@@ -6,7 +6,7 @@ use native.Mathlib.Omega.{arith}
 use lib.Dec.{eqb, ltb}
 use lib.ListN.{getD}
 use Rattle.hub.specs.Basics.{bit, weight}
-use Rattle.line.specs.Form.{asBytes}
+use Rattle.encoding.specs.Form.{asBytes}
 use Rattle.line.specs.Program.{Reply, rendered}
 use Rattle.billing.specs.Counting.{sum, linesIn, codeAt, partyAt, wokenAt, receiverOf, grants}
 use Rattle.billing.specs.Counting.{grantsOf}

@@ -146,8 +146,8 @@ use Rattle.hub.proofs.record.Hub as T
 use Rattle.hub.proofs.record.Hub.Laws as T′
 use Rattle.hub.proofs.record.Outcome as R
 use Rattle.hub.proofs.record.Outcome.Laws as R′
-use Rattle.board.proofs.Shell.{answerVal, by-op, hubVal, outcomeVal, parts, Shell}
-use Rattle.board.proofs.Lent.{to-shell, loan, lends, comes-back}
+use Rattle.shellwalk.proofs.Shell.{answerVal, by-op, hubVal, outcomeVal, parts, Shell}
+use Rattle.shellwalk.proofs.Lent.{to-shell, loan, lends, comes-back}
 use Rattle.board.proofs.acquire.Symbol as acquire
 use Rattle.board.proofs.acquire.Met as acquire-thm
 use Rattle.board.proofs.step.Symbol as step

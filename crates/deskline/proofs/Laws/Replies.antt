@@ -6,8 +6,8 @@ use native.Mathlib.Omega.{arith}
 use Rattle.hub.specs.declared.moves.Op.{Op}
 use Rattle.hub.specs.declared.opening.Opening.{Opening}
 use Rattle.hub.specs.Answers.{Printed, printed}
-use Rattle.line.specs.declared.answer.Print.{Print}
-use Rattle.line.specs.Frame.{paper}
+use Rattle.encoding.specs.declared.answer.Print.{Print}
+use Rattle.encoding.specs.Frame.{paper}
 use Rattle.line.specs.Requests.{Request, headerOf, isOpening, malformed, toCall, toOpen}
 use Rattle.screen.specs.declared.record.Line.{Line}
 use Rattle.screen.specs.declared.record.Moved.{Moved}

@@ -4,8 +4,8 @@ use mathlib.Core.Path.{_≡_}
 use Rattle.hub.specs.declared.counts.Counts.{Counts}
 use Rattle.hub.specs.declared.record.Hub.{Hub}
 use Rattle.hub.specs.Counts.{countsOf}
-use Rattle.line.specs.Frame.{frameOf, twosComplement}
-use Rattle.line.specs.Hex.{textOf}
+use Rattle.encoding.specs.Frame.{frameOf, twosComplement}
+use Rattle.encoding.specs.Hex.{textOf}
 use Rattle.line.specs.Program.{closing}
 
 pub shown : (h : Hub) (c : Counts) → c ≡ countsOf h → (n : ℕ) → n ≡ twosComplement (h .figures .counter)

@@ -14,12 +14,12 @@ use lib.ListN.{take-append-drop, drop-of-length-le}
 use native.Mathlib.Nat.{le-of-eq}
 use Rattle.hub.specs.declared.record.Hub.{Hub}
 use Rattle.hub.proofs.Laws.Bools.{if-true, if-false}
-use Rattle.line.specs.Form.{asText}
+use Rattle.encoding.specs.Form.{asText}
 use Rattle.line.specs.Program.{isOpen, Reply, Response, whenOpen}
 use Rattle.line.specs.Program.{respond, replies, after, rendered, closing}
 use Rattle.line.specs.Requests.{Request, malformed, toOpen, toCall, requestOf, headerOf}
 use Rattle.line.proofs.Laws.Codes.{is-call, op-back}
-use Rattle.line.proofs.Laws.Parts.{parts, put-length}
+use Rattle.encoding.proofs.Laws.Parts.{parts, put-length}
 use Rattle.line.proofs.Laws.Schedules.{respond-open, still-open}
 use Rattle.batch.specs.Batch.{requestFor, requestsIn, replied, Reachable}
 use Rattle.batch.proofs.Laws.Reachable.{reachable-open}

@@ -9,22 +9,20 @@ use borrow.Rule.Slice.PartMut.{putMid}
 use lib.Dec.{eqb}
 use lib.ListN.{length, getD, take, drop, length-append, take-append-drop, drop-of-length-le}
 use lib.Seq.{drop-cons, take-suc, take-at, drop-at, drop-drop}
-use Rattle.hub.specs.declared.answers.Answer.{Answer}
 use Rattle.hub.specs.declared.moves.Op.{Op}
 use Rattle.hub.specs.declared.opening.Opening.{Opening}
 use Rattle.hub.specs.declared.record.Hub.{Hub}
 use Rattle.hub.specs.declared.record.Outcome.{Outcome}
 use Rattle.hub.specs.Answers.{plain}
-use Rattle.hub.specs.Basics.{upTo32}
-use Rattle.hub.specs.Opening.{fresh, opening, openingIf, radiosDiffer}
+use Rattle.hub.specs.Opening.{fresh, opening, tests}
 use Rattle.hub.proofs.Laws.Bools.{if-true, if-false}
-use Rattle.hub.proofs.Laws.Opening.{accepted}
-use Rattle.line.specs.Form.{asText}
-use Rattle.line.specs.Frame.{codeOf}
+use Rattle.hub.proofs.Laws.Opening.{Ends, ends, opened, refused}
+use Rattle.encoding.specs.Form.{asText}
+use Rattle.encoding.specs.Frame.{codeOf}
 use Rattle.line.specs.Program.{unopened, isOpen, Response, beforeOpen, respond, after}
 use Rattle.line.specs.Program.{replies, replyIn, rendered}
 use Rattle.line.specs.Requests.{Request, malformed, toOpen, toCall, requestOf, headerOf, isOpening}
-use Rattle.line.proofs.Laws.Parts.{parts, put-length}
+use Rattle.encoding.proofs.Laws.Parts.{parts, put-length}
 use Rattle.line.proofs.Laws.Schedules.{respond-before}
 use Rattle.batch.specs.Batch.{Reachable}
 use Rattle.batch.proofs.Laws.Reachable.{reachable-open, opening-reachable, response-reachable}
@@ -56,22 +54,13 @@ session-shut h (inl e) o = e
 session-shut h (inr r) o = not-both (reachable-open h r) o
 
 opening-session : (o : Opening) → SessionHub (opening o .hub)
-unfolding openingIf
-opening-session o =
-    go (upTo32 (o .permits)) refl (upTo32 (o .parties)) refl (radiosDiffer o) refl
+opening-session o = go _ _ (ends o (tests o)) refl
   where
-    yes : upTo32 (o .permits) ≡ true → upTo32 (o .parties) ≡ true → radiosDiffer o ≡ true
-        → opening o ≡ record { answer = Answer.Opened; hub = fresh o }
-    yes = accepted (upTo32 (o .permits)) (upTo32 (o .parties)) (radiosDiffer o) o
-
-    go : (a : Bool) → upTo32 (o .permits) ≡ a → (b : Bool) → upTo32 (o .parties) ≡ b
-        → (d : Bool) → radiosDiffer o ≡ d → SessionHub (openingIf a b d o .hub)
-    go true e true f true g =
-        inr (subst (λ (x : Outcome). Reachable (x .hub)) (yes e f g)
-        (opening-reachable o (ap (λ (x : Outcome). x .answer) (yes e f g))))
-    go true e true f false g = inl refl
-    go true e false f d g = inl refl
-    go false e b f d g = inl refl
+    go : (b : Bool) (x : Outcome) → Ends o b x → opening o ≡ x → SessionHub (x .hub)
+    go false x (refused r) e = inl refl
+    go true x opened e =
+        inr (subst (λ (x : Outcome). Reachable (x .hub)) e
+        (opening-reachable o (ap (λ (x : Outcome). x .answer) e)))
 
 before-session : (q : Request) → SessionHub (beforeOpen q .hub)
 unfolding beforeOpen

@@ -7,7 +7,7 @@ use native.Mathlib.Omega.{arith}
 use lib.Dec.{eqb}
 use lib.ListN.{length-replicate}
 use Rattle.hub.specs.declared.record.Hub.{Hub}
-use Rattle.line.specs.Form.{asText}
+use Rattle.encoding.specs.Form.{asText}
 use Rattle.line.specs.Program.{respond, replies, after, replyIn, rendered, repliesIn}
 use Rattle.line.specs.Program.{closing, linesOf, outputOf}
 use Rattle.line.specs.Requests.{Request, requestOf}

@@ -11,7 +11,7 @@ use lib.ListN.{take-append-drop}
 use lib.Seq.{drop-cons}
 use Rattle.hub.specs.declared.record.Hub.{Hub}
 use Rattle.hub.proofs.Laws.Bools.{if-true, if-false}
-use Rattle.line.specs.Form.{asText}
+use Rattle.encoding.specs.Form.{asText}
 use Rattle.line.specs.Program.{unopened, respond, replies, after, rendered, repliesIn, closing}
 use Rattle.line.specs.Program.{linesFrom, linesOf, outputOf}
 use Rattle.line.specs.Requests.{Request, requestOf}

@@ -8,9 +8,9 @@ use borrow.Rule.Slice.PartMut.{putMid}
 use lib.ListN.{length, getD, take, drop, take-append-drop, length-drop}
 use lib.Seq.{drop-drop, getD-drop, length-take-le}
 use Rattle.hub.specs.Answers.{printed}
-use Rattle.line.specs.Frame.{frameOf}
+use Rattle.encoding.specs.Frame.{frameOf}
 use Rattle.line.specs.Program.{rendered}
-use Rattle.line.proofs.Laws.Parts.{put-length, put-take, put-drop}
+use Rattle.encoding.proofs.Laws.Parts.{put-length, put-take, put-drop}
 use Rattle.latch.specs.declared.moves.LatchCall.{LatchCall}
 use Rattle.latch.specs.declared.record.Latch.{Latch}
 use Rattle.latch.specs.declared.record.LatchOutcome.{LatchOutcome}

@@ -14,7 +14,7 @@ use Rattle.hub.specs.Answers.{Printed, printed}
 use Rattle.hub.specs.Kinds.{kindIn}
 use Rattle.hub.specs.Phases.{ticketOf}
 use Rattle.hub.specs.Ring.{PLACES, Ring, readSeat, writeSeat, skip, retire}
-use Rattle.line.specs.Frame.{frameOf, paper}
+use Rattle.encoding.specs.Frame.{frameOf, paper}
 use Rattle.transition.proofs.Laws.Loops.{tidy, Skipping, skipping, can-skip, in-window, skipping-on}
 use Rattle.transition.proofs.Laws.Loops.{skipping-stop, skipping-end}
 use Rattle.transition.proofs.Laws.Loops.{Retiring, retiring, retiring-on, retiring-stop, retiring-end}

@@ -5,7 +5,7 @@ use mathlib.Core.Bool.{true, false}
 use native.Mathlib.Omega.{arith}
 use borrow.Author.Tests.{ne-eqb}
 use Rattle.hub.specs.declared.moves.Op.{Op}
-use Rattle.line.specs.Frame.{isCall, opOf, codeOf}
+use Rattle.encoding.specs.Frame.{isCall, opOf, codeOf}
 
 -- The codes of the calls are 16 to 20.
 pub no-code : (c : ℕ) → ((k : ℕ) → 16 ≤ k → k ≤ 20 → c ≡ k → ⊥) → isCall c ≡ false

@@ -7,7 +7,7 @@ use native.Mathlib.Numerals.{add-one}
 use native.Mathlib.Omega.{arith}
 use lib.ListN.{length, take, drop, set, length-set, length-drop, drop-of-length-le}
 use lib.Seq.{drop-drop, take-suc-set, length-take-le}
-use Rattle.line.specs.Hex.{byteOf}
+use Rattle.encoding.specs.Hex.{byteOf}
 use Rattle.line.specs.Requests.{LONGEST, allDigits, bytesOf, spelledBy, requested, requestOf}
 use Rattle.line.proofs.Laws.Lines.{spells, strays, digits, stray, byte-is, none}
 use Rattle.line.proofs.Laws.Lines.{no-digit, readable}

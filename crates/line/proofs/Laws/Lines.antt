@@ -11,8 +11,8 @@ use lib.ListN.{length, getD, take, drop, length-drop}
 use lib.Seq.{take-all}
 use native.Mathlib.Nat.{le-of-eq}
 use Rattle.hub.specs.declared.opening.Opening.{Opening}
-use Rattle.line.specs.Frame.{isCall, opOf}
-use Rattle.line.specs.Hex.{digitOf, isDigit, spelled, byteOf}
+use Rattle.encoding.specs.Frame.{isCall, opOf}
+use Rattle.encoding.specs.Hex.{digitOf, isDigit, spelled, byteOf}
 use Rattle.line.specs.Requests.{LONGEST, Request, malformed, toOpen, toCall}
 use Rattle.line.specs.Requests.{allDigits, unreadable, bytesOf, openingIn, requested, spelledBy}
 use Rattle.line.specs.Requests.{requestOf, headerOf, isOpening}

@@ -16,7 +16,7 @@ use Rattle.hub.specs.Kinds.{builtIn}
 use Rattle.hub.specs.Opening.{sized, withKinds, withRadios}
 use Rattle.hub.specs.Radios.{STORE, padded}
 use Rattle.hub.proofs.Laws.Radios.{padded-same}
-use Rattle.line.specs.Frame.{isCall}
+use Rattle.encoding.specs.Frame.{isCall}
 use Rattle.line.specs.Requests.{malformed, toOpen, toCall, givenKinds, openingIn}
 use Rattle.line.specs.Requests.{requested, frameSize, isOpening}
 use Rattle.line.proofs.Laws.Lines.{from}

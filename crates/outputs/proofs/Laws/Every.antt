@@ -1,9 +1,8 @@
 -- Every input: what is left out is 12, 13 and refused openings, and the rest is a schedule's.
 use Prim.Native.Nat.{ℕ}
-use mathlib.Core.Path.{_≡_, refl, ap, _∙_}
-use mathlib.Core.Bool.{Bool, true, false, cond}
+use mathlib.Core.Path.{_≡_, refl, sym, ap, _∙_}
+use mathlib.Core.Bool.{Bool, true, false, cond, _&&_}
 use mathlib.Core.List.{List, [], _∷_, _++_, map}
-use native.Mathlib.Omega.{arith}
 use lib.Dec.{leb}
 use Rattle.hub.specs.declared.answers.Answer.{Answer}
 use Rattle.hub.specs.declared.moves.Call.{Call}
@@ -14,21 +13,22 @@ use Rattle.hub.specs.declared.record.Hub.{Hub}
 use Rattle.hub.specs.declared.record.Outcome.{Outcome}
 use Rattle.hub.specs.declared.record.Phase.{Phase}
 use Rattle.hub.specs.declared.record.Place.{Place}
-use Rattle.hub.specs.Answers.{plain, printed}
-use Rattle.hub.specs.Basics.{upTo32}
+use Rattle.hub.specs.Answers.{plain, printed, refusalCode}
+use Rattle.hub.specs.Basics.{allOf}
 use Rattle.hub.specs.Calls.{answerOf, called, checked}
 use Rattle.hub.specs.Demand3.{Demand3}
 use Rattle.hub.specs.Look.{look}
 use Rattle.hub.specs.Moves.{Move}
-use Rattle.hub.specs.Opening.{fresh, opening, openingIf, radiosDiffer}
+use Rattle.hub.specs.Opening.{Test, allPassed, fresh, notOpened, opening, openingIf, tests}
 use Rattle.hub.specs.Schedule.{entries, run}
 use Rattle.hub.specs.Table.{stepAcquiring, stepSuspending, stepTicketed, stepReleasing, stepResuming}
 use Rattle.hub.specs.Table.{resumeWaiter, stepResumingAt, stepAborting, stepCancelling, stepRefusing}
 use Rattle.hub.specs.Table.{stepFetching, stepStoring, stepIn, acquire, cancel, release, tellRadio, decide}
 use Rattle.hub.proofs.Demand3.{demand3}
-use Rattle.hub.proofs.Laws.Bools.{first, if-true, if-false}
+use Rattle.hub.proofs.Laws.Bools.{first, if-true, if-false, never, second}
+use Rattle.hub.proofs.Laws.Opening.{Ends, each-passed, ends, opened, refused}
 use Rattle.hub.proofs.Laws.Phases.{places-alike}
-use Rattle.line.specs.Form.{asText}
+use Rattle.encoding.specs.Form.{asText}
 use Rattle.line.specs.Program.{unopened, isOpen, Reply, replyOf, whenOpen, beforeOpen}
 use Rattle.line.specs.Program.{replies, after, rendered, closing, linesOf, outputOf}
 use Rattle.line.specs.Requests.{Request, malformed, toOpen, toCall, requestOf}
@@ -37,7 +37,7 @@ use Rattle.outputs.specs.Schedule.{Schedule, started, repliesOf, leftBy,
 use Rattle.outputs.specs.Schedule.{callsIn, scheduleOf, leftOut, kept, EveryInput}
 use Rattle.frame.proofs.Laws.Opening.{shut, stays-shut}
 
--- No call is answered by 2, 3, 12, 13 or 14.
+-- No call is answered by 2, 3 or 12 to 17.
 abbrev isLeftOut : Move → Bool
 isLeftOut m = leftOut (printed (answerOf m) .code)
 
@@ -174,35 +174,39 @@ open-kept (toCall c ∷ rs) h o =
       (λ j. after (t j .hub) rs) ∙ i .1,
     )
 
--- An opening that opens a hub is accepted, and one that does not is answered by 2, 3 or 14.
+-- The test that an opening is refused by says why.
+refused-for : (o : Opening) (ts : List Test) → allOf (map (λ (t : Test). leftOut (refusalCode (t .why))) ts) ≡ true
+    → allPassed ts ≡ false → leftOut (printed (openingIf ts o .answer) .code) ≡ true
+unfolding openingIf allOf
+refused-for o [] w e = never e
+refused-for o (t ∷ ts) w e = go (t .passed) e
+  where
+    go : (b : Bool) → b && allPassed ts ≡ false
+        → leftOut (printed (cond b (openingIf ts o) (notOpened (t .why)) .answer) .code) ≡ true
+    go true e = refused-for o ts (second (leftOut (refusalCode (t .why))) _ w) e
+    go false e = first (leftOut (refusalCode (t .why))) _ w
+
+-- An opening that opens a hub is accepted, and one that does not is answered by 2, 3 or 14 to 17.
 module _ (o : Opening) where
-  abbrev outcome : Bool → Bool → Bool → Outcome
-  outcome a b d = openingIf a b d o
-
   opens : isOpen (opening o .hub) ≡ true → opening o .answer ≡ Answer.Opened
-  unfolding openingIf fresh
-  opens = go (upTo32 (o .permits)) (upTo32 (o .parties)) (radiosDiffer o)
+  unfolding fresh
+  opens = go _ _ (ends o (tests o))
     where
-      go : (a b d : Bool) → isOpen (outcome a b d .hub) ≡ true
-          → outcome a b d .answer ≡ Answer.Opened
-      go true true true z = refl
-      go true true false z = let e : _≡_ {A = ℕ} 0 1 = cc in absurd (omega arith)
-      go true false d z = let e : _≡_ {A = ℕ} 0 1 = cc in absurd (omega arith)
-      go false b d z = let e : _≡_ {A = ℕ} 0 1 = cc in absurd (omega arith)
+      go : (b : Bool) (x : Outcome) → Ends o b x → isOpen (x .hub) ≡ true → x .answer ≡ Answer.Opened
+      go false x (refused r) z = never (sym z)
+      go true x opened z = refl
 
-  opens-not : isOpen (opening o .hub) ≡ false
-      → leftOut (printed (opening o .answer) .code) ≡ true
-  unfolding openingIf fresh
-  opens-not = go (upTo32 (o .permits)) refl (upTo32 (o .parties)) (radiosDiffer o)
+  opens-not : isOpen (opening o .hub) ≡ false → leftOut (printed (opening o .answer) .code) ≡ true
+  unfolding fresh allOf
+  opens-not z = go (allPassed (tests o)) refl
     where
-      go : (a : Bool) → upTo32 (o .permits) ≡ a → (b d : Bool) → isOpen (outcome a b d .hub) ≡ false
-          → leftOut (printed (outcome a b d .answer) .code) ≡ true
-      go true e true true z =
-          let f = first (leb 1 (o .permits)) (leb (o .permits) 32) e in
-          let g : _≡_ {A = ℕ} 0 1 = cc in absurd (omega arith)
-      go true e true false z = refl
-      go true e false d z = refl
-      go false e b d z = refl
+      go : (b : Bool) → allPassed (tests o) ≡ b → leftOut (printed (opening o .answer) .code) ≡ true
+      go false e = refused-for o (tests o) refl e
+      go true e = never (sym (made _ _ (ends o (tests o)) e) ∙ z)
+        where
+          made : (b : Bool) (x : Outcome) → Ends o b x → b ≡ true → isOpen (x .hub) ≡ true
+          made false x (refused r) f = never (sym f)
+          made true x opened f = first (leb 1 (o .permits)) (leb (o .permits) 32) (each-passed o e 0)
 
 -- Before an opening, and from it on.
 abbrev Follows : List Request → Schedule → Type 0

@@ -6,8 +6,8 @@ use Rattle.hub.specs.declared.moves.Call.{Call}
 use Rattle.hub.specs.declared.opening.Opening.{Opening}
 use Rattle.hub.specs.Answers.{plain, printed}
 use Rattle.hub.specs.Opening.{fresh, opening}
-use Rattle.line.specs.Form.{asText}
-use Rattle.line.specs.Frame.{codeOf}
+use Rattle.encoding.specs.Form.{asText}
+use Rattle.encoding.specs.Frame.{codeOf}
 use Rattle.line.specs.Program.{unopened, Reply, beforeOpen, respond}
 use Rattle.line.specs.Program.{replies, after, rendered, closing, linesFrom, linesOf, outputOf}
 use Rattle.line.specs.Requests.{toOpen, toCall, requestOf}
@@ -42,13 +42,13 @@ module _ (o : Opening) (e : opening o .answer ≡ Answer.Opened) where
 
 pub prints-schedule : PrintsSchedule
 unfolding PrintsSchedule outputOf replies rendered after
-prints-schedule o e w cs b =
+prints-schedule o e ks w cs b =
     let h = opening o .hub in
     let t = opening-response o e in
     let f = reachable-open h (opening-reachable o e) in
-    let asked : map requestOf (linesOf (inputOf o cs)) ≡ toOpen o ∷ map toCall cs =
-    ap (map requestOf) (line-read (openingFrame o) [] (callLines cs))
-    ∙ (λ i. opening-back o e w i ∷ calls-asked cs b i) in
+    let asked : map requestOf (linesOf (inputOf o ks cs)) ≡ toOpen o ∷ map toCall cs =
+    ap (map requestOf) (line-read (openingFrame o ks) [] (callLines cs))
+    ∙ (λ i. opening-back o e ks w i ∷ calls-asked cs b i) in
     (λ i. rendered asText (replies unopened (asked i)) ++ closing (after unopened (asked i)))
     ∙ (λ i. rendered asText (t i .reply ∷ replies (t i .hub) (map toCall cs))
     ++ closing (after (t i .hub) (map toCall cs)))

@@ -2,27 +2,31 @@
 use Prim.Native.Nat.{ℕ, zero, suc, _+_, _*_, _/_, _%_, _≤_, _<_}
 use mathlib.Core.Path.{_≡_, refl, sym, ap, _∙_, subst}
 use mathlib.Core.Bool.{Bool, true, false, cond, not, _&&_}
-use mathlib.Core.List.{List, [], _∷_, _++_, append-assoc, append-nil}
+use mathlib.Core.List.{List, [], _∷_, _++_, append-assoc, append-nil, map}
 use native.Mathlib.Omega.{arith}
-use borrow.Author.Tests.{eq-eqb, eqb-true, eqb-false, not-true}
-use lib.Dec.{eqb}
-use lib.ListN.{length}
+use borrow.Author.Tests.{eqb-true, le-leb, leb-true, not-true}
+use lib.Dec.{eqb, leb}
+use lib.ListN.{getD, length, length-append}
+use lib.Seq.{drop-at, take-at}
 use Rattle.hub.specs.declared.answers.Answer.{Answer}
 use Rattle.hub.specs.declared.moves.Call.{Call}
 use Rattle.hub.specs.declared.moves.Op.{Op}
-use Rattle.hub.specs.Basics.{allFrom}
+use Rattle.hub.specs.Basics.{allFrom, allPass}
 use Rattle.hub.specs.declared.opening.Opening.{Opening}
 use Rattle.hub.specs.Demand3.{AllBelow}
-use Rattle.hub.specs.Opening.{opening, sized, withRadios}
+use Rattle.hub.specs.Kinds.{builtIn, kindsKnown}
+use Rattle.hub.specs.Opening.{Test, opening, sized, tests, withRadios}
 use Rattle.hub.specs.Radios.{radiosOf}
 use Rattle.hub.proofs.Demand3.{InRange, in-range}
 use Rattle.hub.proofs.Laws.Bools.{first, second, if-true, if-false}
+use Rattle.hub.proofs.Laws.Opening.{by-opened, each-passed, ends}
 use Rattle.hub.proofs.Laws.Ranges.{one-true}
 use Rattle.hub.proofs.Radios.Length.{radios-length}
-use Rattle.line.specs.Frame.{isCall, codeOf}
-use Rattle.line.specs.Hex.{digitOf, byteOf, charOf, hexOf, textOf}
+use Rattle.encoding.specs.Frame.{isCall, codeOf}
+use Rattle.encoding.specs.Hex.{digitOf, byteOf, charOf, hexOf, textOf}
 use Rattle.line.specs.Program.{linesFrom}
-use Rattle.line.specs.Requests.{malformed, toOpen, toCall, allDigits, bytesOf, openingIn, requested, requestOf}
+use Rattle.line.specs.Requests.{malformed, toOpen, toCall, allDigits, bytesOf, givenKinds, openingIn}
+use Rattle.line.specs.Requests.{requested, requestOf}
 use Rattle.line.proofs.Laws.Codes.{is-call, op-back}
 use Rattle.line.proofs.Laws.Lines.{byte-both, spells, byte-is, one-more, none, readable}
 use Rattle.outputs.specs.Schedule.{openingFrame, Spelled}
@@ -123,34 +127,81 @@ call-back c m =
     ∙ if-true (isCall (codeOf o)) _ malformed (is-call o)
     ∙ (λ i. toCall (record { op = op-back o i; party = c .party }))
 
-pub opening-back : (o : Opening) → opening o .answer ≡ Answer.Opened → Spelled o
-    → requestOf (hexOf (openingFrame o)) ≡ toOpen o
+below-append : (n : ℕ) (l m : List ℕ) → AllBelow n l → AllBelow n m → AllBelow n (l ++ m)
+unfolding AllBelow
+below-append n [] m a b = b
+below-append n (x ∷ l) m a b = (a .0, below-append n l m (a .1) b)
+
+-- Kinds that are known are bytes.
+known-bytes : (ks : List ℕ) → kindsKnown ks ≡ true → AllBelow 256 ks
+unfolding kindsKnown allPass AllBelow
+known-bytes [] e = tt
+known-bytes (k ∷ ks) e =
+    let i = leb-true k 3 (first (leb k 3) (kindsKnown ks) e) in
+    (omega arith, known-bytes ks (second (leb k 3) (kindsKnown ks) e))
+
+-- The kinds that an accepted opening is given are 32, and bytes, or there are none.
+given-bytes : (ks : List ℕ) (p o : Opening) → givenKinds ks p ≡ o → o .counted ≡ true
+    → kindsKnown (o .kinds) ≡ true → AllBelow 256 ks × (length ks ≤ 32)
+unfolding givenKinds AllBelow
+given-bytes [] p o e c k = (tt, omega arith)
+given-bytes (x ∷ l) p o e c k =
+    let n : eqb (length (x ∷ l)) 32 ≡ true = ap (λ (o : Opening). o .counted) e ∙ c in
+    let same : x ∷ l ≡ o .kinds =
+    sym (if-true (eqb (length (x ∷ l)) 32) (x ∷ l) builtIn n) ∙ ap (λ (o : Opening). o .kinds) e in (
+      known-bytes (x ∷ l) (ap kindsKnown same ∙ k),
+      omega (arith, eqb-true (length (x ∷ l)) 32 n),
+    )
+
+pub opening-back : (o : Opening) → opening o .answer ≡ Answer.Opened → (ks : List ℕ) → Spelled o ks
+    → requestOf (hexOf (openingFrame o ks)) ≡ toOpen o
 unfolding AllBelow requested openingIn
-opening-back o e s =
+opening-back o e ks s =
     let g = bytes (o .named) in
-    line-back (openingFrame o) (g .0) (g .1) ∙ asks (o .named) ∙ ap toOpen (s .1)
+    line-back (openingFrame o ks) (g .0) (g .1) ∙ asks (o .named) ∙ ap toOpen (s .1)
   where
     r : InRange o
     r = in-range o e
 
+    size : length (radiosOf o) ≡ o .permits
+    size = radios-length o (r .permits .1)
+
+    each : (i : ℕ) → getD (map (λ (t : Test). t .passed) (tests o)) i true ≡ true
+    each = each-passed o (by-opened o _ _ (ends o (tests o)) e .0)
+
+    given : AllBelow 256 ks × (length ks ≤ 32)
+    given = given-bytes ks _ o (s .1) (each 3) (each 4)
+
     frame : Bool → List ℕ
-    frame b = cond b (0x02 ∷ o .permits ∷ o .parties ∷ radiosOf o) (0x01 ∷ o .permits ∷ o .parties ∷ [])
+    frame b =
+        cond b (0x02 ∷ o .permits ∷ o .parties ∷ radiosOf o ++ ks) (0x01 ∷ o .permits ∷ o .parties ∷ ks)
 
     bytes : (b : Bool) → AllBelow 256 (frame b) × (length (frame b) ≤ 80)
     bytes true = (
-      (omega arith, (omega (arith, r .permits .1), (omega (arith, r .parties .1), s .0))),
-      omega (arith, r .permits .1, radios-length o (r .permits .1)),
+      (
+        omega arith,
+        (
+          omega (arith, r .permits .1),
+          (omega (arith, r .parties .1), below-append 256 (radiosOf o) ks (s .0) (given .0)),
+        ),
+      ),
+      simp length-append (omega (arith, r .permits .1, size, given .1)),
     )
     bytes false = (
-      (omega arith, (omega (arith, r .permits .1), (omega (arith, r .parties .1), tt))),
-      omega arith,
+      (omega arith, (omega (arith, r .permits .1), (omega (arith, r .parties .1), given .0))),
+      omega (arith, given .1),
     )
 
-    -- an opening with radios is as long as its K says
+    -- of an opening with radios the first K bytes are radios
     asks : (b : Bool)
         → requested (frame b)
-        ≡ toOpen (cond b (withRadios (o .permits) (o .parties) (radiosOf o)) (sized (o .permits) (o .parties)))
+        ≡ toOpen
+        (givenKinds ks
+        (cond b (withRadios (o .permits) (o .parties) (radiosOf o)) (sized (o .permits) (o .parties))))
     asks true =
-        if-true (eqb (length (radiosOf o)) (o .permits)) _ _
-        (eq-eqb _ _ (radios-length o (r .permits .1)))
+        if-true (leb (o .permits) (length (radiosOf o ++ ks))) _ _
+        (le-leb (o .permits) (length (radiosOf o ++ ks)) (simp length-append (omega (arith, size))))
+        ∙ (λ i. toOpen
+        (givenKinds (drop-at (radiosOf o) ks (o .permits) size i)
+        (withRadios (o .permits) (o .parties) (take-at (radiosOf o) ks (o .permits) size i))))
     asks false = refl

@@ -10,8 +10,8 @@ use lib.Seq.{drop-drop, length-take-le}
 use Rattle.hub.specs.declared.moves.Call.{Call}
 use Rattle.hub.specs.declared.record.Hub.{Hub}
 use Rattle.hub.proofs.Laws.Bools.{first, second}
-use Rattle.line.specs.Frame.{opOf}
-use Rattle.line.proofs.Laws.Parts.{put-length, put-take, put-drop}
+use Rattle.encoding.specs.Frame.{opOf}
+use Rattle.encoding.proofs.Laws.Parts.{put-length, put-take, put-drop}
 use Rattle.operations.specs.Operation.{operated}
 use Rattle.run.specs.Bytes.{callsOf, wellFormed}
 use Rattle.run.proofs.Laws.Pairs.{one-formed, pair}

@@ -4,7 +4,7 @@ use mathlib.Core.Path.{_≡_, refl, sym, subst}
 use mathlib.Core.Bool.{Bool, true, false, true≢false, _||_}
 use borrow.Author.Tests.{eqb-true}
 use lib.Dec.{eqb}
-use Rattle.line.specs.Frame.{opOf}
+use Rattle.encoding.specs.Frame.{opOf}
 use Rattle.operations.specs.AtRest.{isOperation}
 use Rattle.perform.specs.Bytes.{isOperationCode}
 

@@ -26,7 +26,7 @@ use Rattle.hub.specs.Record.{PARTIES, readSlot, withPhase, writeSlot}
 use Rattle.hub.specs.Ring.{readPlace, readSeat, writeSeat}
 use Rattle.hub.specs.Table.{aboveZero, acquire, belowZero, canCancel, cancel, decide, givenUp, release}
 use Rattle.hub.proofs.Laws.Phases.{phases-alike}
-use Rattle.line.specs.Frame.{opOf}
+use Rattle.encoding.specs.Frame.{opOf}
 use Rattle.operations.specs.declared.Operated.{Operated}
 use Rattle.operations.specs.AtRest.{acquired, byMove, cancelled, operatedAtRest, released}
 use Rattle.transition.specs.Tidied.{tidiedBy}

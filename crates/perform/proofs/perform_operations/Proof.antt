@@ -221,18 +221,17 @@ plan-is c =
     let h = head (entered c) in
     let s = readSlot (h .loop .slots) (party h) in
     let f = c .before in
-    let sight : ℕ → ℕ → Seen = λ k t.
+    let sight : ℕ → Seen = λ t.
     record {
       party = party h;
-      kind = k;
+      kind = getD (hub h .opening .kinds) (party h) 0;
       named = hub h .opening .named;
       slot = s;
       seat = getD (h .loop .places) t emptySeat;
       figures = h .loop .figures;
     } in
-    let kind = ap (λ (l : List ℕ). getD l (party h) 0) (h .before .table .ensures) in
     c .plan-for .ensures
-    ∙ (λ i. planOf (code h) (f .is-full-for .ensures i) (sight (kind i) (index-is c i)))
+    ∙ (λ i. planOf (code h) (f .is-full-for .ensures i) (sight (index-is c i)))
     ∙ as-asked (code h) (full (hub h) (party h)) (seenOf (hub h) (party h) (code h))
 
 comes : (c : Planned)
@@ -374,9 +373,6 @@ turned-down : (c : Turning) → hub (c .before) .opening .parties ≤ party (c .
 turned-down c l =
     let h = c .before in
     rests-on c ∙ no-such-party (hub h) (party h) (h .loop .inv .1) (fit h) (code h) (le-ltb _ _ l)
-
-table-requires : tie.Need-table-requires Inv-loop2 μ-loop2 Inv-loop3 μ-loop3 Inv-loop μ-loop
-table-requires c κs = search needs
 
 loop-holds : tie.Need-loop-holds Inv-loop2 μ-loop2 Inv-loop3 μ-loop3 Inv-loop μ-loop
 loop-holds c =
@@ -676,7 +672,6 @@ perform-operations-spec =
     μ-loop3
     Inv-loop
     μ-loop
-    table-requires
     loop-holds
     mul-code
     shared-slice-read-code

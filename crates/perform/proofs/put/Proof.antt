@@ -1,5 +1,5 @@
 -- `put` meets its contract: what it writes fills its part of the buffer.
-use Rattle.line.proofs.Laws.Filled.{all-set}
+use Rattle.encoding.proofs.Laws.Filled.{all-set}
 use borrow.Author.Needs.{needs}
 use Rattle.perform.proofs.put.Statement.{statement}
 use Rattle.perform.proofs.put.Tie as tie

@@ -2,7 +2,7 @@
 use Prim.Native.Nat.{_+_}
 use mathlib.Core.Path.{ap}
 use lib.IntN.{ℤ}
-use Rattle.table.proofs.Laws.Counter.{less, less-fits}
+use Rattle.effects.proofs.Laws.Counter.{less, less-fits}
 use borrow.Author.Needs.{needs}
 use Rattle.plan.proofs.asked.Statement.{statement}
 use Rattle.plan.proofs.asked.Tie as tie

@@ -1,7 +1,7 @@
 -- `given` meets its contract: a counter that fits still fits an `i32` once one is added to it.
 use mathlib.Core.Path.{ap}
 use lib.IntN.{ℤ}
-use Rattle.table.proofs.Laws.Counter.{more, more-fits}
+use Rattle.effects.proofs.Laws.Counter.{more, more-fits}
 use Rattle.plan.proofs.given.Statement.{statement}
 use Rattle.plan.proofs.given.Tie as tie
 

@@ -10,7 +10,7 @@ use Rattle.hub.specs.declared.record.Phase.{Phase}
 use Rattle.hub.specs.Phases.{isFree, isOneOf}
 use Rattle.hub.specs.Record.{MAX-BEGUN}
 use Rattle.hub.specs.Table.{aboveZero}
-use Rattle.table.proofs.Laws.Counter.{sign}
+use Rattle.effects.proofs.Laws.Counter.{sign}
 use Rattle.plan.specs.Plan.{planAcquire, short}
 use borrow.Author.Needs.{needs}
 use Rattle.plan.proofs.plan_acquire.Statement.{statement}

@@ -8,7 +8,7 @@ use Rattle.hub.specs.declared.record.Phase.{Phase}
 use Rattle.hub.specs.Phases.{isHolding, isOneOf}
 use Rattle.hub.specs.Ring.{PLACES}
 use Rattle.hub.specs.Table.{belowZero}
-use Rattle.table.proofs.Laws.Counter.{sign}
+use Rattle.effects.proofs.Laws.Counter.{sign}
 use Rattle.plan.specs.Plan.{planRelease, short}
 use borrow.Author.Needs.{needs}
 use Rattle.plan.proofs.plan_release.Statement.{statement}

@@ -11,7 +11,7 @@ use lib.ListN.{length, getD, take, drop, set, length-set, take-append-drop, drop
 use lib.Seq.{drop-drop, drop-cons}
 use Rattle.line.specs.declared.request.Header.{Header}
 use Rattle.line.specs.Requests.{Request, requestOf, headerOf}
-use Rattle.line.proofs.Laws.Parts.{put-length, put-take, put-drop}
+use Rattle.encoding.proofs.Laws.Parts.{put-length, put-take, put-drop}
 use Rattle.hub.proofs.Laws.Bools.{if-true, if-false}
 use Rattle.reader.specs.declared.Read.{Read}
 use Rattle.reader.specs.declared.Reader.{Reader}

@@ -1,6 +1,6 @@
 -- `put_header` meets its contract: what it writes fills its part of the buffer.
 use borrow.Author.Needs.{needs}
-use Rattle.line.proofs.Laws.Filled.{all-set}
+use Rattle.encoding.proofs.Laws.Filled.{all-set}
 use Rattle.reader.proofs.put_header.Statement.{statement}
 use Rattle.reader.proofs.put_header.Tie as tie
 

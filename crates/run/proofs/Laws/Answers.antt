@@ -7,8 +7,8 @@ use native.Mathlib.Omega.{arith}
 use lib.ListN.{length, drop}
 use Rattle.hub.specs.declared.record.Hub.{Hub}
 use Rattle.hub.proofs.Laws.Bools.{first, second, if-true}
-use Rattle.line.specs.Form.{asBytes}
-use Rattle.line.specs.Frame.{isCall, opOf}
+use Rattle.encoding.specs.Form.{asBytes}
+use Rattle.encoding.specs.Frame.{isCall, opOf}
 use Rattle.line.specs.Program.{isOpen, Reply, replies, rendered}
 use Rattle.line.specs.Requests.{Request, toCall}
 use Rattle.line.proofs.Laws.Schedules.{schedule-replies}

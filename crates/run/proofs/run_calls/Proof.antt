@@ -17,8 +17,7 @@ returns : tie.Need-returns
 returns c =
     let o = c .before .before .before in
     let a = o .before .before .before .args in
-    refused (a .o) (a .calls .now) _ _ _ (o .open-hub .ensures .0)
-    (c .before .answer .given .1)
+    refused (a .o) (a .calls .now) _ _ (o .open-hub .ensures .0) _ (c .before .answer .given .1)
 
 well-formed-requires : tie.Need-well-formed-requires
 well-formed-requires c κs = search needs

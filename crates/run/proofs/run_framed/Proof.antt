@@ -31,7 +31,7 @@ returns-2 c =
     let r = c .before .before in
     let a = r .before .before .before .before .before .before .before .before .args in
     let e = r .before .before .opening-in .ensures in (
-      r .run-calls .ensures .0 ∙ ap (λ (q : Request). framedRun q (a .calls .now) (a .out .now) .ran) e,
+      r .run-calls .ensures .0 ∙ ap (λ (q : Request). framedRun q (a .calls .now) (a .out .now) .result) e,
       r .run-calls .ensures .1 ∙ ap (λ (q : Request). framedRun q (a .calls .now) (a .out .now) .out) e,
     )
 

@@ -4,7 +4,7 @@ use native.Mathlib.Omega.{arith}
 use Prim.Native.Nat.{_-_, _/_}
 use lib.ListN.{length}
 use mathlib.Core.Path.{refl}
-use Rattle.line.specs.Frame.{isCall}
+use Rattle.encoding.specs.Frame.{isCall}
 use Rattle.line.proofs.Laws.Codes.{under, over, a-code}
 use Rattle.run.proofs.Laws.Pairs.{Checked, odd, bad, good, all}
 use Rattle.run.proofs.well_formed.Statement.{statement}

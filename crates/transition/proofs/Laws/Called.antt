@@ -29,9 +29,9 @@ use Rattle.hub.specs.Ring.{PLACES, readSeat}
 use Rattle.hub.specs.Table.{decide}
 use Rattle.hub.proofs.Laws.Bools.{clause, first, never, second}
 use Rattle.hub.proofs.Laws.Phases.{ticketed}
-use Rattle.table.specs.declared.effect.Effect.{Effect}
-use Rattle.table.specs.Effect.{effectOf}
-use Rattle.table.specs.Small.{Small}
+use Rattle.effects.specs.declared.effect.Effect.{Effect}
+use Rattle.effects.specs.Effect.{effectOf}
+use Rattle.effects.specs.Small.{Small}
 use Rattle.transition.specs.Tidied.{tidiedBy}
 use Rattle.transition.proofs.Laws.Radios.{refused-pool}
 use Rattle.transition.proofs.Laws.Sight.{Reads, looked, sightOf}

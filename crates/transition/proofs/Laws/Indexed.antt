@@ -14,7 +14,7 @@ use Rattle.hub.specs.Phases.{byWaiter, ticketOf}
 use Rattle.hub.specs.Record.{PARTIES, emptySeat, freeSlot, readSlot, writeSlot}
 use Rattle.hub.specs.Ring.{PLACES, Ring, readSeat, writeSeat, skip, retire}
 use Rattle.hub.specs.Table.{withResumed}
-use Rattle.table.specs.declared.effect.Effect.{Effect}
+use Rattle.effects.specs.declared.effect.Effect.{Effect}
 use Rattle.transition.specs.Tidied.{tidiedBy}
 use Rattle.transition.proofs.Laws.Sight.{Reads}
 use Rattle.transition.proofs.Laws.Stored.{made, stored}

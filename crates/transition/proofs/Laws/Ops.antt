@@ -11,8 +11,8 @@ use Rattle.hub.specs.declared.moves.Op.the-variants.{Acquire, Step, Cancel, Rel
 use Rattle.hub.specs.declared.moves.Sight.{Sight}
 use Rattle.hub.specs.Table.{decide}
 use Rattle.hub.proofs.moves.Op as op
-use Rattle.table.specs.declared.effect.Effect.{Effect}
-use Rattle.table.specs.Effect.{effectOf}
+use Rattle.effects.specs.declared.effect.Effect.{Effect}
+use Rattle.effects.specs.Effect.{effectOf}
 use Rattle.transition.specs.Room.{fullFor}
 
 abbrev opBy : ℕ → Op

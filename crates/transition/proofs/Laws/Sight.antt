@@ -64,21 +64,6 @@ sightOf h p seat waiter =
       stocked = leb 1 (h .pool .stored);
     }
 
--- A sight with the kind that the code looked up.
-abbrev pub of-kind : ℕ → Sight → Sight
-of-kind k s =
-    record {
-      party = s .party;
-      kind = k;
-      slot = s .slot;
-      seat = s .seat;
-      waiter = s .waiter;
-      figures = s .figures;
-      named = s .named;
-      radio = s .radio;
-      stocked = s .stocked;
-    }
-
 -- A party that has a ticket: that is what it looks at.
 pub looked : (h : Hub) (p : ℕ) (seat : PlaceSlot) (q : ℕ) (waiter : PartySlot)
     → Reads h p seat q waiter → ticketed (readSlot (h .slots) p .phase) ≡ true

@@ -20,8 +20,8 @@ use Rattle.hub.specs.Phases.{byTicket, ticketOf}
 use Rattle.hub.specs.Record.{PARTIES, emptySeat, freeSlot, readSlot, writeSlot}
 use Rattle.hub.specs.Ring.{PLACES, readSeat, writeSeat}
 use Rattle.hub.proofs.Laws.Phases.{by-ticket, ticketed}
-use Rattle.table.specs.declared.effect.Effect.{Effect}
-use Rattle.table.specs.Effect.{effectOf, still as unmoved}
+use Rattle.effects.specs.declared.effect.Effect.{Effect}
+use Rattle.effects.specs.Effect.{effectOf, still as unmoved}
 use Rattle.transition.specs.Tidied.{tidiedBy}
 use Rattle.transition.proofs.Laws.Loops.{reclaimed-none}
 use Rattle.transition.proofs.Laws.Sight.{sightOf}

@@ -2,7 +2,7 @@
 use borrow.Author.Needs.{needs}
 use native.Mathlib.Omega.{arith}
 use mathlib.Core.List.{[], _∷_}
-use Rattle.line.specs.Hex.{hexOf}
+use Rattle.encoding.specs.Hex.{hexOf}
 use Rattle.deskline.specs.Text.{SPACE, headText, stepsText}
 use Rattle.deskline.proofs.Laws.Numbers.{head-laid, steps-short}
 use Rattle.deskline.proofs.Laws.Placed.{first, gives, next, text-is}

@@ -4,7 +4,7 @@ use mathlib.Core.Path.{ap, _∙_}
 use mir.Facts.{toZ-ofZ}
 use mir.Syntax.{w32}
 use mir.Val.{SFits}
-use Rattle.line.specs.Frame.{twosComplement}
+use Rattle.encoding.specs.Frame.{twosComplement}
 use Rattle.frame.proofs.closing.counter_number.Statement.{statement}
 use Rattle.frame.proofs.closing.counter_number.Tie as tie
 

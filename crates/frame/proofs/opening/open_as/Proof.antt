@@ -3,9 +3,9 @@ use borrow.Author.Needs.{needs}
 use mathlib.Core.Path.{ap, _∙_}
 use Rattle.hub.specs.declared.record.Outcome.{Outcome}
 use Rattle.hub.specs.Answers.{Printed, printed}
-use Rattle.line.specs.Form.{asText}
-use Rattle.line.specs.Frame.{frameOf}
-use Rattle.line.specs.Hex.{textOf}
+use Rattle.encoding.specs.Form.{asText}
+use Rattle.encoding.specs.Frame.{frameOf}
+use Rattle.encoding.specs.Hex.{textOf}
 use Rattle.line.specs.Program.{beforeOpen, replyIn}
 use Rattle.line.specs.Requests.{Request}
 use Rattle.frame.proofs.opening.open_as.Statement.{statement}

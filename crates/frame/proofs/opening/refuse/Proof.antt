@@ -3,8 +3,8 @@ use borrow.Author.Needs.{needs}
 use borrow.Author.Tests.{eq-eqb, ne-eqb}
 use mathlib.Core.Path.{ap, _∙_}
 use Rattle.hub.specs.Answers.{Printed}
-use Rattle.line.specs.Frame.{frameOf}
-use Rattle.line.specs.Hex.{textOf}
+use Rattle.encoding.specs.Frame.{frameOf}
+use Rattle.encoding.specs.Hex.{textOf}
 use Rattle.frame.proofs.opening.refuse.Statement.{statement}
 use Rattle.frame.proofs.opening.refuse.Tie as tie
 

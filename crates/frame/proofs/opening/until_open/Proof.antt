@@ -6,8 +6,8 @@ use mathlib.Core.Path.{_≡_, sym, ap, _∙_}
 use mathlib.Core.List.{List}
 use native.Mathlib.Omega.{arith}
 use lib.ListN.{length}
-use Rattle.line.proofs.Laws.Parts.{put-length}
-use Rattle.line.specs.Form.{asText}
+use Rattle.encoding.proofs.Laws.Parts.{put-length}
+use Rattle.encoding.specs.Form.{asText}
 use Rattle.line.specs.Program.{unopened, isOpen, beforeOpen, replyIn}
 use Rattle.line.specs.Requests.{Request, requestOf, isOpening}
 use Rattle.reader.specs.Reading.{lineIn}

@@ -3,8 +3,8 @@ use borrow.Author.Needs.{needs}
 use Prim.Native.Nat.{ℕ, _≤_, _<_}
 use mathlib.Core.Path.{sym, ap, _∙_, subst}
 use native.Mathlib.Omega.{arith}
-use Rattle.line.specs.Frame.{isCall, opOf, codeOf}
-use Rattle.line.specs.Hex.{byteOf}
+use Rattle.encoding.specs.Frame.{isCall, opOf, codeOf}
+use Rattle.encoding.specs.Hex.{byteOf}
 use Rattle.line.specs.Requests.{headerOf}
 use Rattle.line.proofs.Laws.Codes.{under, over, a-code, code-back}
 use Rattle.line.proofs.Laws.Lines.{from, four-code, four-party, four}

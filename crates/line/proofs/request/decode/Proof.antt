@@ -3,7 +3,7 @@ use borrow.Author.Needs.{needs}
 use Prim.Native.Nat.{_*_, _-_}
 use mathlib.Core.Path.{ap, _∙_}
 use lib.ListN.{length}
-use Rattle.line.specs.Hex.{byteOf}
+use Rattle.encoding.specs.Hex.{byteOf}
 use Rattle.line.proofs.Laws.Decoding.{Decoding, at-start, decoded, stopped, one-byte}
 use Rattle.line.proofs.Laws.Lines.{too-long, odd, from}
 use Rattle.line.proofs.request.decode.Statement.{statement}

@@ -4,8 +4,8 @@ use mathlib.Core.Path.{_≡_}
 use borrow.Author.Needs.{needs}
 use native.Mathlib.Omega.{arith}
 use lib.ListN.{getD}
-use Rattle.line.specs.Tables.{valueOf}
-use Rattle.line.proofs.Laws.Tables.{value-most, no-byte, a-byte}
+use Rattle.encoding.specs.Tables.{valueOf}
+use Rattle.encoding.proofs.Laws.Tables.{value-most, no-byte, a-byte}
 use Rattle.line.proofs.values.byte_by.Statement.{statement}
 use Rattle.line.proofs.values.byte_by.Tie as tie
 

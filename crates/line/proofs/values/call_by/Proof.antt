@@ -4,7 +4,7 @@ use Prim.Native.Nat.{ℕ, _≤_, _<_}
 use mathlib.Core.Path.{refl, sym, ap, _∙_, subst}
 use mathlib.Core.List.{List, [], _∷_}
 use native.Mathlib.Omega.{arith}
-use Rattle.line.specs.Frame.{isCall, opOf, codeOf}
+use Rattle.encoding.specs.Frame.{isCall, opOf, codeOf}
 use Rattle.line.specs.Requests.{headerOf}
 use Rattle.line.proofs.Laws.Codes.{under, over, a-code, code-back}
 use Rattle.line.proofs.Laws.Lines.{four-code, four-party, four}

@@ -1,7 +1,7 @@
 -- `table` meets its contract: each entry passes the test.
 use mathlib.Core.Path.{refl}
-use Rattle.line.specs.Hex.{digitOf}
-use Rattle.line.proofs.Laws.Tables.{values-right}
+use Rattle.encoding.specs.Hex.{digitOf}
+use Rattle.encoding.proofs.Laws.Tables.{values-right}
 use Rattle.line.proofs.values.table.Statement.{statement}
 use Rattle.line.proofs.values.table.Tie as tie
 

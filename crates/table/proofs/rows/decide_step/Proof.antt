@@ -7,8 +7,8 @@ use Rattle.hub.specs.declared.record.Phase.{Phase}
 use Rattle.hub.specs.Moves.{Move}
 use Rattle.hub.specs.Table.{step, stepIn}
 use Rattle.hub.proofs.Laws.Phases.{phase-arm}
-use Rattle.table.specs.declared.effect.Effect.{Effect}
-use Rattle.table.specs.Effect.{effectOf}
+use Rattle.effects.specs.declared.effect.Effect.{Effect}
+use Rattle.effects.specs.Effect.{effectOf}
 use Rattle.table.proofs.rows.decide_step.Statement.{statement}
 use Rattle.table.proofs.rows.decide_step.Tie as tie
 

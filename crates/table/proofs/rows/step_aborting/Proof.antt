@@ -2,7 +2,7 @@
 use borrow.Author.Needs.{needs}
 use mathlib.Core.Path.{_∙_}
 use Rattle.hub.specs.Table.{belowZero, stepIn, stepAborting}
-use Rattle.table.proofs.Laws.Counter.{sign}
+use Rattle.effects.proofs.Laws.Counter.{sign}
 use Rattle.table.proofs.rows.step_aborting.Statement.{statement}
 use Rattle.table.proofs.rows.step_aborting.Tie as tie
 

@@ -4,8 +4,8 @@ use mathlib.Core.Path.{ap, _∙_}
 use Rattle.hub.specs.declared.answers.Answer.{Answer}
 use Rattle.hub.specs.declared.record.Phase.{Phase}
 use Rattle.hub.specs.Table.{aboveZero, stepAcquiring, take}
-use Rattle.table.specs.Effect.{effectOf}
-use Rattle.table.proofs.Laws.Counter.{sign}
+use Rattle.effects.specs.Effect.{effectOf}
+use Rattle.effects.proofs.Laws.Counter.{sign}
 use Rattle.table.proofs.rows.step_acquiring.Statement.{statement}
 use Rattle.table.proofs.rows.step_acquiring.Tie as tie
 

@@ -4,8 +4,8 @@ use mathlib.Core.Path.{ap, _∙_}
 use Rattle.hub.specs.declared.answers.Answer.{Answer}
 use Rattle.hub.specs.declared.record.Phase.{Phase}
 use Rattle.hub.specs.Table.{belowZero, give, stepIn, stepReleasing}
-use Rattle.table.specs.Effect.{effectOf}
-use Rattle.table.proofs.Laws.Counter.{sign}
+use Rattle.effects.specs.Effect.{effectOf}
+use Rattle.effects.proofs.Laws.Counter.{sign}
 use Rattle.table.proofs.rows.step_releasing.Statement.{statement}
 use Rattle.table.proofs.rows.step_releasing.Tie as tie
 

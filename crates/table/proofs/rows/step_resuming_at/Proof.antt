@@ -6,7 +6,7 @@ use Rattle.hub.proofs.Laws.Phases.{place-arm}
 use Rattle.hub.specs.declared.record.Place.{Place}
 use Rattle.hub.specs.Moves.{Move}
 use Rattle.hub.specs.Table.{stepIn, stepResumingAt}
-use Rattle.table.specs.Effect.{effectOf}
+use Rattle.effects.specs.Effect.{effectOf}
 use Rattle.table.proofs.rows.step_resuming_at.Statement.{statement}
 use Rattle.table.proofs.rows.step_resuming_at.Tie as tie
 

@@ -5,7 +5,7 @@ use Rattle.hub.specs.declared.answers.Answer.{Answer}
 use Rattle.hub.specs.declared.record.Figures.{Figures}
 use Rattle.hub.specs.declared.record.Phase.{Phase}
 use Rattle.hub.specs.Moves.{Act}
-use Rattle.table.specs.Effect.{effectOf}
+use Rattle.effects.specs.Effect.{effectOf}
 use Rattle.hub.specs.Table.{change, stepIn, stepSuspending}
 use Rattle.table.proofs.rows.step_suspending_marked.Statement.{statement}
 use Rattle.table.proofs.rows.step_suspending_marked.Tie as tie

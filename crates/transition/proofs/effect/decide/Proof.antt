@@ -4,7 +4,7 @@ use mathlib.Core.Bool.{Bool}
 use borrow.Author.Needs.{needs}
 use Rattle.hub.specs.Moves.{Move}
 use Rattle.hub.specs.Table as table
-use Rattle.table.specs.Effect.{effectOf}
+use Rattle.effects.specs.Effect.{effectOf}
 use Rattle.transition.proofs.Laws.Ops.{as-asked}
 use Rattle.transition.proofs.effect.decide.Statement.{statement}
 use Rattle.transition.proofs.effect.decide.Tie as tie
