@@ -1,9 +1,9 @@
 // Calls as bytes, two each, and their answers, seven each.
 
-use hub::answers::Answer;
-use latch::moves::LatchOp;
 use encoding::answer::print_of;
 use encoding::answer::put;
+use hub::answers::Answer;
+use latch::moves::LatchOp;
 ghost use mathlib.Core.Path.{_≡_};
 ghost use Prim.Native.Nat.{_*_, _+_, _≤_};
 ghost use lib.ListN.{length};

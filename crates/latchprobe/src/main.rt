@@ -2,6 +2,8 @@
 // a record and a call, 1525 bytes; its reply is the answer and the record that is left, 1530 bytes.
 // tests/README.md lays them out.
 
+use encoding::answer::print_of;
+use encoding::answer::put;
 use latch::moves::LatchOp;
 use latch::record::LatchOutcome;
 use latchlayout::bytes_of;
@@ -9,8 +11,6 @@ use latchlayout::record_of;
 use latchstep::calls::call;
 use libc::STDIN_FILENO;
 use libc::STDOUT_FILENO;
-use encoding::answer::print_of;
-use encoding::answer::put;
 
 fn op_of(byte: u8) -> LatchOp {
     let name = byte % 4;

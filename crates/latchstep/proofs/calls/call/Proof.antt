@@ -115,7 +115,7 @@ effect-is c =
     let k = kinded c in
     let s : ℕ → LatchSight = λ n. sightBy n (latch (start k)) (party (start k)) (seat k) (waiter k) in
     c .decide .ensures
-    ∙ ap (λ (n : ℕ). effectOf (decide (begin c .args .op) (full c) (s n)) (s n)) 
+    ∙ ap (λ (n : ℕ). effectOf (decide (begin c .args .op) (full c) (s n)) (s n))
     (k .kind-in .ensures ∙ ap (λ (l : List ℕ). kindIn l (party (start k))) (k .before .built-in .ensures))
 
 turns-most : (c : tie.After-decide) → c .decide .result .turns ≤ 256

@@ -1,8 +1,8 @@
 -- `laid_of` reads within its bytes and ends: a place is behind the loop each turn.
 use borrow.Author.Needs.{needs}
 use Prim.Native.Nat.{_-_}
-use Rattle.probe.proofs.radios.laid_of.Statement.{statement}
-use Rattle.probe.proofs.radios.laid_of.Tie as tie
+use Rattle.layout.proofs.radios.laid_of.Statement.{statement}
+use Rattle.layout.proofs.radios.laid_of.Tie as tie
 
 abbrev Inv-loop : tie.InvT-loop
 Inv-loop bytes laid₀ i₀ laid i = Unit {0}

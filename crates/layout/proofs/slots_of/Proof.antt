@@ -1,8 +1,8 @@
 -- `slots_of` reads within its bytes and ends: a party is behind the loop each turn.
 use borrow.Author.Needs.{needs}
 use Prim.Native.Nat.{_-_}
-use Rattle.probe.proofs.slots_of.Statement.{statement}
-use Rattle.probe.proofs.slots_of.Tie as tie
+use Rattle.layout.proofs.slots_of.Statement.{statement}
+use Rattle.layout.proofs.slots_of.Tie as tie
 
 abbrev Inv-loop : tie.InvT-loop
 Inv-loop bytes free slots₀ p₀ slots p = Unit {0}

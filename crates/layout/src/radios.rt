@@ -1,4 +1,4 @@
-// The radios of a record as bytes: whether there are any, those of the opening, those with parties, at
+// What a record was opened with, and its radios, as bytes: the kinds; whether there are radios, those of the opening, those with parties, at
 // places and stored. A reply shows a radio only where one is, and the store in order.
 
 use crate::wide;
@@ -10,16 +10,18 @@ use hub::record::PlaceSlot;
 use hub::record::Pool;
 ghost use Prim.Native.Nat.{_+_, _<_, _≤_};
 
-pub(crate) fn opening_of(bytes: &[u8; 1849]) -> Opening {
+pub(crate) fn opening_of(bytes: &[u8; 1881]) -> Opening {
     Opening {
         permits: bytes[0],
         parties: bytes[1],
         named: bytes[1462] % 2 == 1,
         radios: few_at(bytes, 1463),
+        kinds: few_at(bytes, 1849),
+        counted: true,
     }
 }
 
-pub(crate) fn pool_of(bytes: &[u8; 1849]) -> Pool {
+pub(crate) fn pool_of(bytes: &[u8; 1881]) -> Pool {
     let first = wide(bytes[1783]);
     Pool {
         hands: few_at(bytes, 1495),
@@ -30,9 +32,14 @@ pub(crate) fn pool_of(bytes: &[u8; 1849]) -> Pool {
     }
 }
 
+pub(crate) fn put_kinds(out: &mut [u8; 1881], opening: Opening) {
+    let kinds = opening.kinds;
+    put_few(out, 1849, kinds);
+}
+
 // On a hub with radios alone; else nothing is written.
 pub(crate) fn put_radios(
-    out: &mut [u8; 1849],
+    out: &mut [u8; 1881],
     opening: Opening,
     slots: [PartySlot; 32],
     places: [PlaceSlot; 256],
@@ -54,8 +61,8 @@ pub(crate) fn put_radios(
 }
 
 // The 32 bytes from here on.
-fn few_at(bytes: &[u8; 1849], at: usize) -> [u8; 32]
-    requires { ⌜ at + 32 ≤ 1849 ⌝ }
+fn few_at(bytes: &[u8; 1881], at: usize) -> [u8; 32]
+    requires { ⌜ at + 32 ≤ 1881 ⌝ }
 {
     let mut few = [0u8; 32];
     let mut i: usize = 0;
@@ -66,8 +73,8 @@ fn few_at(bytes: &[u8; 1849], at: usize) -> [u8; 32]
     few
 }
 
-fn put_few(out: &mut [u8; 1849], at: usize, few: [u8; 32])
-    requires { ⌜ at + 32 ≤ 1849 ⌝ }
+fn put_few(out: &mut [u8; 1881], at: usize, few: [u8; 32])
+    requires { ⌜ at + 32 ≤ 1881 ⌝ }
 {
     let mut i: usize = 0;
     while i < 32 {
@@ -76,7 +83,7 @@ fn put_few(out: &mut [u8; 1849], at: usize, few: [u8; 32])
     }
 }
 
-fn laid_of(bytes: &[u8; 1849]) -> [u8; 256] {
+fn laid_of(bytes: &[u8; 1881]) -> [u8; 256] {
     let mut laid = [0u8; 256];
     let mut i: usize = 0;
     while i < 256 {
@@ -87,7 +94,7 @@ fn laid_of(bytes: &[u8; 1849]) -> [u8; 256] {
 }
 
 // Where a permit lies.
-fn put_laid(out: &mut [u8; 1849], places: [PlaceSlot; 256], laid: [u8; 256]) {
+fn put_laid(out: &mut [u8; 1881], places: [PlaceSlot; 256], laid: [u8; 256]) {
     let mut i: usize = 0;
     while i < 256 {
         let slot = places[i];

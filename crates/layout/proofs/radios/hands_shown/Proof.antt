@@ -1,8 +1,8 @@
 -- `hands_shown` stays within its arrays and ends: a party is behind the loop each turn.
 use borrow.Author.Needs.{needs}
 use Prim.Native.Nat.{_-_}
-use Rattle.probe.proofs.radios.hands_shown.Statement.{statement}
-use Rattle.probe.proofs.radios.hands_shown.Tie as tie
+use Rattle.layout.proofs.radios.hands_shown.Statement.{statement}
+use Rattle.layout.proofs.radios.hands_shown.Tie as tie
 
 abbrev Inv-loop : tie.InvT-loop
 Inv-loop slots hands shown₀ p₀ shown p = Unit {0}

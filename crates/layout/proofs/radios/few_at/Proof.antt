@@ -1,8 +1,8 @@
 -- `few_at` reads within its bytes and ends: a byte is behind the loop each turn.
 use borrow.Author.Needs.{needs}
 use Prim.Native.Nat.{_-_}
-use Rattle.probe.proofs.radios.few_at.Statement.{statement}
-use Rattle.probe.proofs.radios.few_at.Tie as tie
+use Rattle.layout.proofs.radios.few_at.Statement.{statement}
+use Rattle.layout.proofs.radios.few_at.Tie as tie
 
 abbrev Inv-loop : tie.InvT-loop
 Inv-loop bytes at few₀ i₀ few i = Unit {0}

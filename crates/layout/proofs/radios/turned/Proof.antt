@@ -1,8 +1,8 @@
 -- `turned` stays within its rings and ends: a radio is behind the loop each turn.
 use borrow.Author.Needs.{needs}
 use Prim.Native.Nat.{_-_}
-use Rattle.probe.proofs.radios.turned.Statement.{statement}
-use Rattle.probe.proofs.radios.turned.Tie as tie
+use Rattle.layout.proofs.radios.turned.Statement.{statement}
+use Rattle.layout.proofs.radios.turned.Tie as tie
 
 abbrev Inv-loop : tie.InvT-loop
 Inv-loop first radios ring₀ i₀ ring i = Unit {0}

@@ -1,8 +1,8 @@
 -- `in_order` stays within its rings and ends: a radio is behind the loop each turn.
 use borrow.Author.Needs.{needs}
 use Prim.Native.Nat.{_-_}
-use Rattle.probe.proofs.radios.in_order.Statement.{statement}
-use Rattle.probe.proofs.radios.in_order.Tie as tie
+use Rattle.layout.proofs.radios.in_order.Statement.{statement}
+use Rattle.layout.proofs.radios.in_order.Tie as tie
 
 abbrev Inv-loop : tie.InvT-loop
 Inv-loop first stored ring radios₀ i₀ radios i = Unit {0}

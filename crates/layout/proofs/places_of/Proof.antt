@@ -1,8 +1,8 @@
 -- `places_of` reads within its bytes and ends: a place is behind the loop each turn.
 use borrow.Author.Needs.{needs}
 use Prim.Native.Nat.{_-_}
-use Rattle.probe.proofs.places_of.Statement.{statement}
-use Rattle.probe.proofs.places_of.Tie as tie
+use Rattle.layout.proofs.places_of.Statement.{statement}
+use Rattle.layout.proofs.places_of.Tie as tie
 
 abbrev Inv-loop : tie.InvT-loop
 Inv-loop bytes empty places₀ i₀ places i = Unit {0}
