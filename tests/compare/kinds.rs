@@ -73,6 +73,7 @@ impl<'a> Opening<'a> {
             ("15 for 31", code == 15 && count == 31),
             ("15 for 33", code == 15 && count == 33),
             ("15 after radios", code == 15 && self.radios.is_some()),
+            (PAST_A_LINE, code == 15 && count > 77),
             ("16 at party 0", alone(0)),
             ("16 at party n - 1", n > 0 && alone(n - 1)),
             ("16 at party n", alone(n)),
@@ -101,6 +102,9 @@ impl<'a> Opening<'a> {
         facts.into_iter().chain(orders).collect()
     }
 }
+
+/// Only where there are no lines can there be so many.
+const PAST_A_LINE: &str = "15 past a line";
 
 /// The refusals of kinds, and those that each of them may come after.
 const LATER: [u8; 3] = [15, 16, 17];
@@ -140,8 +144,10 @@ impl Kinds {
 
     /// Prints the counts of openings; false if one is missing. Without lines there is no 13.
     pub fn shows_openings(&self, of_lines: bool) -> bool {
+        let is_theirs =
+            |name: &str| if of_lines { name != PAST_A_LINE } else { !name.starts_with("13") };
         let mut asked_for = self.openings.clone();
-        asked_for.retain(|name, _| of_lines || !name.starts_with("13"));
+        asked_for.retain(|name, _| is_theirs(name));
         println!("openings with kinds:");
         let show = |(name, count): (&String, &u64)| match count {
             0 => format!("{name} NEVER"),

@@ -374,8 +374,10 @@ fn wrong_kinds(random: &mut Random, parties: u8) -> Vec<u8> {
         kinds[party] = random.pick(&[4, 5, 0x80, 255, any]);
     }
     if miscounted == 1 {
-        let few = 1 + random.below(44) as usize;
-        let count = random.pick(&[1, 31, 33, 64, few]);
+        // more than a line can carry, too
+        let [few, many] =
+            [1 + random.below(44), 78 + random.below(200)].map(|count| count as usize);
+        let count = random.pick(&[1, 1, 31, 31, 33, 33, 64, few, few, many]);
         kinds = kinds.iter().copied().cycle().take(count).collect();
     }
     kinds
