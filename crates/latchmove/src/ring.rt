@@ -46,8 +46,8 @@ fn retire_done(mut ring: LatchRing, turns: u32) -> LatchRing
     requires { ⌜ (ring .oldest ≤ 1000000) × (turns ≤ 256) ⌝ }
     ensures { λ r. ⌜ ringIn r ≡ retire turns (ringIn ring) ⌝ }
 {
-    let mut n: u32 = 0;
-    while n < turns {
+    let mut m: u32 = 0;
+    while m < turns {
         let t = ring.oldest;
         let i = (t % Hub::PLACES) as usize;
         let seat = ring.places[i];
@@ -56,7 +56,7 @@ fn retire_done(mut ring: LatchRing, turns: u32) -> LatchRing
         }
         ring.places[i] = empty_seat();
         ring.oldest = t + 1;
-        n += 1;
+        m += 1;
     }
     ring
 }

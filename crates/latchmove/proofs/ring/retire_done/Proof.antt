@@ -11,11 +11,11 @@ use Rattle.latchmove.proofs.ring.retire_done.Statement.{statement}
 use Rattle.latchmove.proofs.ring.retire_done.Tie as tie
 
 abbrev Inv-loop : tie.InvT-loop
-Inv-loop turns ring₀ n₀ ring n =
-    Retiring turns (ringIn ring₀) (ringIn ring) n × (ring₀ .oldest ≤ 1000000) × (turns ≤ 256)
+Inv-loop turns ring₀ m₀ ring m =
+    Retiring turns (ringIn ring₀) (ringIn ring) m × (ring₀ .oldest ≤ 1000000) × (turns ≤ 256)
 
 abbrev μ-loop : tie.MeasureT-loop
-μ-loop turns ring₀ n₀ ring n = turns - n
+μ-loop turns ring₀ m₀ ring m = turns - m
 
 loop-holds : tie.Need-loop-holds Inv-loop μ-loop
 loop-holds c = (retiring _ _, c .pre .0, c .pre .1)
@@ -46,8 +46,8 @@ add-ring c =
     let s = c .before .before .before .before .before .loop .inv in
     omega (arith, s .0 .low, s .1, s .2, c .before .before .before .before .loop-test .taken)
 
-add-n : tie.Need-add-n Inv-loop μ-loop
-add-n c =
+add-m : tie.Need-add-m Inv-loop μ-loop
+add-m c =
     omega (
       arith,
       c .before .before .before .before .before .loop .inv .2,
@@ -92,7 +92,7 @@ retire-done-spec =
     mul-t10
     element-set-from-ring
     add-ring
-    add-n
+    add-m
     loop-less
     loop-again
     returns

@@ -5,14 +5,14 @@ use mathlib.Core.Path.{_≡_}
 use mathlib.Core.Bool.{cond}
 use mathlib.Core.List.{List, [], _∷_}
 use Rattle.hub.specs.Refinement.{Window, isSeven, withoutSevens}
 use Rattle.latch.specs.declared.moves.LatchCall.{LatchCall}
 use Rattle.latch.specs.declared.record.Latch.{Latch}
 use Rattle.latch.specs.Calls.{called}
-use Rattle.latch.specs.Claims.{OnSchedules}
+use Rattle.latched.specs.Claims.{OnSchedules}
 use Rattle.latch.specs.Opening.{opening}
 use Rattle.latch.specs.Queue.{Queue}
 use Rattle.latch.specs.Queue as queue
 use Rattle.latch.specs.Schedule.{run, answers}
 
 -- The record h shows the queue m.
 pub record Shows (h : Latch) (m : Queue) : Type 0 where
