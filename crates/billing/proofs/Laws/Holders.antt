@@ -20,7 +20,7 @@ use Rattle.hub.specs.Answers.{printed}
 use Rattle.hub.specs.Basics.{among, bit, count, weight, allFrom}
 use Rattle.hub.specs.Calls.{called}
 use Rattle.hub.specs.Demand3.{Accounts, Demand3, ReachedFits}
-use Rattle.hub.specs.Fits.{fits, figuresFit, partyFits, placeFits, placeListed, ticketFits}
+use Rattle.hub.specs.Fits.{fits, figuresFit, kindsFit, partyFits, placeFits, placeListed, stateFits, ticketFits}
 use Rattle.hub.specs.Ledger.{Ledger, opened, ledger, enter, succeeded, phaseIn, phaseAfter, phasesAfter}
 use Rattle.hub.specs.Ledger.{gives, takes}
 use Rattle.hub.specs.Look.{look}
@@ -71,13 +71,14 @@ free-holds-none f e = ap holds (one-of Phase.Free f e)
 -- In a record that fits the parties from n up are free.
 free-beyond : (h : Hub) → fits h ≡ true → (p : ℕ) → h .opening .parties ≤ p → p < PARTIES
     → isFree (readSlot (h .slots) p .phase) ≡ true
-unfolding fits partyFits
+unfolding fits stateFits partyFits
 free-beyond h e p n b =
+    let state = first (stateFits h) (kindsFit (h .opening)) e in
     let figures = figuresFit (h .opening) (h .figures) (h .oldest) in
     let parties = allFrom (partyFits h) 0 PARTIES in
     let places = allFrom (placeFits h) (h .oldest) PLACES in
     let all =
-    second figures parties (first (figures && parties) places (first (figures && parties && places) _ e)) in
+    second figures parties (first (figures && parties) places (first (figures && parties && places) _ state)) in
     let f = readSlot (h .slots) p .phase in
     let there = ltb p (h .opening .parties) || isFree f in
     let tickets = ticketFits (h .figures) (h .oldest) f in

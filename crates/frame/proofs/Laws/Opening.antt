@@ -16,7 +16,7 @@ use Rattle.hub.specs.declared.record.Outcome.{Outcome}
 use Rattle.hub.specs.Answers.{plain}
 use Rattle.hub.specs.Opening.{fresh, opening, tests}
 use Rattle.hub.proofs.Laws.Bools.{if-true, if-false}
-use Rattle.hub.proofs.Laws.Opening.{Ends, ends, opened, refused}
+use Rattle.hub.proofs.Laws.Opening.{Ends, ends as opening-ends, opened as accepted, refused}
 use Rattle.encoding.specs.Form.{asText}
 use Rattle.encoding.specs.Frame.{codeOf}
 use Rattle.line.specs.Program.{unopened, isOpen, Response, beforeOpen, respond, after}
@@ -54,11 +54,11 @@ session-shut h (inl e) o = e
 session-shut h (inr r) o = not-both (reachable-open h r) o
 
 opening-session : (o : Opening) → SessionHub (opening o .hub)
-opening-session o = go _ _ (ends o (tests o)) refl
+opening-session o = go _ _ (opening-ends o (tests o)) refl
   where
     go : (b : Bool) (x : Outcome) → Ends o b x → opening o ≡ x → SessionHub (x .hub)
     go false x (refused r) e = inl refl
-    go true x opened e =
+    go true x accepted e =
         inr (subst (λ (x : Outcome). Reachable (x .hub)) e
         (opening-reachable o (ap (λ (x : Outcome). x .answer) e)))
 

@@ -179,12 +179,17 @@ refused-for : (o : Opening) (ts : List Test) → allOf (map (λ (t : Test). left
     → allPassed ts ≡ false → leftOut (printed (openingIf ts o .answer) .code) ≡ true
 unfolding openingIf allOf
 refused-for o [] w e = never e
-refused-for o (t ∷ ts) w e = go (t .passed) e
+refused-for o (t ∷ ts) w e =
+    go (t .passed) (first (leftOut (refusalCode (t .why))) _ w)
+    (refused-for o ts (second (leftOut (refusalCode (t .why))) _ w)) e
   where
-    go : (b : Bool) → b && allPassed ts ≡ false
-        → leftOut (printed (cond b (openingIf ts o) (notOpened (t .why)) .answer) .code) ≡ true
-    go true e = refused-for o ts (second (leftOut (refusalCode (t .why))) _ w) e
-    go false e = first (leftOut (refusalCode (t .why))) _ w
+    omitted : Outcome → Bool
+    omitted x = leftOut (printed (x .answer) .code)
+
+    go : (b : Bool) → omitted (notOpened (t .why)) ≡ true → (allPassed ts ≡ false → omitted (openingIf ts o) ≡ true)
+        → b && allPassed ts ≡ false → omitted (cond b (openingIf ts o) (notOpened (t .why))) ≡ true
+    go true w later e = later e
+    go false w later e = w
 
 -- An opening that opens a hub is accepted, and one that does not is answered by 2, 3 or 14 to 17.
 module _ (o : Opening) where

@@ -29,17 +29,20 @@ shared-slice-read-t7 c =
 sub-padded : tie.Need-sub-padded
 sub-padded c =
     let r = c .before in
-    omega (arith, r .frame-size .ensures, framed (r .before .before .before .before) .least)
+    let f = framed (r .before .before .before .before) in
+    omega (arith, r .frame-size .ensures, f .least, f .most)
 
 part-padded-start : tie.Need-part-padded-start
 part-padded-start c =
     let r = c .before in
-    omega (arith, r .frame-size .ensures, framed (r .before .before .before .before) .least)
+    let f = framed (r .before .before .before .before) in
+    omega (arith, r .frame-size .ensures, f .least, f .most)
 
 part-padded-end : tie.Need-part-padded-end
 part-padded-end c =
     let r = c .before in
-    omega (arith, r .frame-size .ensures, framed (r .before .before .before .before) .most)
+    let f = framed (r .before .before .before .before) in
+    omega (arith, r .frame-size .ensures, f .least, f .most)
 
 padded-requires : tie.Need-padded-requires
 padded-requires c κs = search needs
@@ -50,12 +53,14 @@ built-in-requires c κs = search needs
 sub-given-kinds : tie.Need-sub-given-kinds
 sub-given-kinds c =
     let r = c .before .before .before .before in
-    omega (arith, r .frame-size .ensures, framed (r .before .before .before .before) .most)
+    let f = framed (r .before .before .before .before) in
+    omega (arith, r .frame-size .ensures, f .least, f .most)
 
 part-given-kinds-start : tie.Need-part-given-kinds-start
 part-given-kinds-start c =
     let r = c .before .before .before .before in
-    omega (arith, r .frame-size .ensures, framed (r .before .before .before .before) .most)
+    let f = framed (r .before .before .before .before) in
+    omega (arith, r .frame-size .ensures, f .least, f .most)
 
 part-given-kinds-end : tie.Need-part-given-kinds-end
 part-given-kinds-end c = search needs
