@@ -19,7 +19,7 @@ ghost use lib.ListN.{length, drop};
 ghost use Rattle.encoding.specs.Form.{asText};
 ghost use Rattle.line.specs.Program.{beforeOpen, isOpen, repliesIn, replyIn};
 ghost use Rattle.line.specs.Requests.{isOpening, requestOf};
-ghost use Rattle.frame.specs.Opening.{SessionHub, begunBy, early, refusal};
+ghost use Rattle.beforeopen.specs.Opening.{SessionHub, begunBy, early, refusal};
 ghost use Rattle.reader.specs.Reading.{KEPT, asked};
 
 // What the first characters of a piece lead to: those until a hub is open, or all of them.
@@ -31,7 +31,7 @@ pub struct Begun {
 }
 
 // A hub that is open has permits.
-pub(crate) fn is_open(hub: Hub) -> bool
+pub fn is_open(hub: Hub) -> bool
     ensures { λ r. ⌜ r ≡ isOpen hub ⌝ }
 {
     1 <= hub.opening.permits
@@ -63,7 +63,7 @@ fn open_as(line: &[u8], out: &mut [u8]) -> Hub
 }
 
 // Reads a piece until a hub is open, a character at a time.
-pub(crate) fn until_open(hub: Hub, reader: Reader, piece: &[u8], out: &mut [u8]) -> Begun
+pub fn until_open(hub: Hub, reader: Reader, piece: &[u8], out: &mut [u8]) -> Begun
     requires { ⌜ SessionHub hub ⌝ }
     requires { ⌜ reader .len ≤ KEPT ⌝ }
     requires { ⌜ 15 * length (asked reader (now piece)) ≤ length (now out) ⌝ }

@@ -2,10 +2,10 @@
 use borrow.Author.Needs.{needs}
 use Prim.Native.Nat.{_-_}
 use lib.ListN.{length}
-use Rattle.frame.proofs.Laws.Sizes.{Counted, counted-none, counted-end, counted-within}
-use Rattle.frame.proofs.Laws.Sizes.{counted-all}
-use Rattle.frame.proofs.whole.count_lines.Statement.{statement}
-use Rattle.frame.proofs.whole.count_lines.Tie as tie
+use Rattle.beforeopen.proofs.Laws.Sizes.{Counted, counted-none, counted-end, counted-within}
+use Rattle.beforeopen.proofs.Laws.Sizes.{counted-all}
+use Rattle.wholeinput.proofs.whole.count_lines.Statement.{statement}
+use Rattle.wholeinput.proofs.whole.count_lines.Tie as tie
 
 abbrev Inv-loop : tie.InvT-loop
 Inv-loop input ended₀ within₀ i₀ ended within i = Counted input ended within i

@@ -11,7 +11,7 @@ use Rattle.hub.specs.Answers.{plain}
 use Rattle.line.specs.Program.{unopened, isOpen, Reply, beforeOpen, after}
 use Rattle.line.specs.Requests.{Request, requestOf}
 use Rattle.batch.specs.Batch.{Reachable}
-use Rattle.frame.specs.declared.opening.Begun.{Begun}
+use Rattle.beforeopen.specs.declared.opening.Begun.{Begun}
 use Rattle.reader.specs.declared.Reader.{Reader}
 use Rattle.reader.specs.Reading.{lineIn, next, past, asked}
 

@@ -4,13 +4,13 @@ use Prim.Native.Nat.{_-_, _≤_}
 use native.Mathlib.Omega.{arith}
 use lib.ListN.{length}
 use mathlib.Core.Path.{_≡_, refl, sym, ap, _∙_, subst}
 use Rattle.frame.specs.declared.session.Session.{Session}
 use Rattle.frame.proofs.Laws.Feeding.{written-size}
-use Rattle.frame.proofs.Laws.Whole.{Printing, nothing-printed, piece-room}
-use Rattle.frame.proofs.Laws.Whole.{piece-fits, asked-fits, printed-on, few-lines, end-room}
-use Rattle.frame.proofs.Laws.Whole.{all-printed}
-use Rattle.frame.proofs.whole.write_output.Statement.{statement}
-use Rattle.frame.proofs.whole.write_output.Tie as tie
+use Rattle.wholeinput.proofs.Laws.Whole.{Printing, nothing-printed, piece-room}
+use Rattle.wholeinput.proofs.Laws.Whole.{piece-fits, asked-fits, printed-on, few-lines, end-room}
+use Rattle.wholeinput.proofs.Laws.Whole.{all-printed}
+use Rattle.wholeinput.proofs.whole.write_output.Statement.{statement}
+use Rattle.wholeinput.proofs.whole.write_output.Tie as tie
 
 abbrev Inv-loop : tie.InvT-loop
 Inv-loop input requests₀ out₀ end session₀ lines₀ from₀ requests out session lines from =

@@ -1,14 +1,14 @@
 // A whole input into a buffer.
 
-use crate::session::begin;
-use crate::session::feed;
-use crate::session::finish;
+use frame::session::begin;
+use frame::session::feed;
+use frame::session::finish;
 ghost use mathlib.Core.Path.{_≡_};
 ghost use mathlib.Core.List.{_++_};
 ghost use Prim.Native.Nat.{_-_, _≤_, _<_};
 ghost use lib.ListN.{length, drop};
 ghost use Rattle.line.specs.Program.{linesOf, outputOf};
-ghost use Rattle.frame.specs.Whole.{filled, size};
+ghost use Rattle.wholeinput.specs.Whole.{filled, size};
 
 // The lines of an input; one left without its end mark counts.
 fn count_lines(input: &[u8]) -> usize

@@ -11,13 +11,13 @@ use Rattle.encoding.specs.Form.{asText}
 use Rattle.line.specs.Program.{unopened, isOpen, beforeOpen, replyIn}
 use Rattle.line.specs.Requests.{Request, requestOf, isOpening}
 use Rattle.reader.specs.Reading.{lineIn}
-use Rattle.frame.proofs.Laws.Opening.{session-shut, refused-line, opening-header}
-use Rattle.frame.proofs.Laws.Opening.{already-open, Upto, start, ended, at-most-one}
-use Rattle.frame.proofs.Laws.Opening.{within-line, room-for-one, code-is, party-is}
-use Rattle.frame.proofs.Laws.Opening.{onward, opened}
+use Rattle.beforeopen.proofs.Laws.Opening.{session-shut, refused-line, opening-header}
+use Rattle.beforeopen.proofs.Laws.Opening.{already-open, Upto, start, ended, at-most-one}
+use Rattle.beforeopen.proofs.Laws.Opening.{within-line, room-for-one, code-is, party-is}
+use Rattle.beforeopen.proofs.Laws.Opening.{onward, opened}
 use Rattle.reader.proofs.Laws.Pieces.{whole}
-use Rattle.frame.proofs.opening.until_open.Statement.{statement}
-use Rattle.frame.proofs.opening.until_open.Tie as tie
+use Rattle.beforeopen.proofs.opening.until_open.Statement.{statement}
+use Rattle.beforeopen.proofs.opening.until_open.Tie as tie
 
 abbrev Inv-loop : tie.InvT-loop
 Inv-loop hub piece out₀ table current₀ lines₀ i₀ out current lines i =

@@ -1,9 +1,9 @@
 -- `answer_input` meets its contract: there is room for fifteen characters a line, or there is not.
 use borrow.Author.Needs.{needs}
 use native.Mathlib.Omega.{arith}
-use Rattle.frame.proofs.Laws.Whole.{none-written, enough, all-written}
-use Rattle.frame.proofs.whole.answer_input.Statement.{statement}
-use Rattle.frame.proofs.whole.answer_input.Tie as tie
+use Rattle.wholeinput.proofs.Laws.Whole.{none-written, enough, all-written}
+use Rattle.wholeinput.proofs.whole.answer_input.Statement.{statement}
+use Rattle.wholeinput.proofs.whole.answer_input.Tie as tie
 
 count-lines-requires : tie.Need-count-lines-requires
 count-lines-requires c κs = search needs

@@ -5,8 +5,8 @@ use mathlib.Core.Path.{ap, _∙_}
 use Rattle.hub.specs.Answers.{Printed}
 use Rattle.encoding.specs.Frame.{frameOf}
 use Rattle.encoding.specs.Hex.{textOf}
-use Rattle.frame.proofs.opening.refuse.Statement.{statement}
-use Rattle.frame.proofs.opening.refuse.Tie as tie
+use Rattle.beforeopen.proofs.opening.refuse.Statement.{statement}
+use Rattle.beforeopen.proofs.opening.refuse.Tie as tie
 
 plain-requires : tie.Need-plain-requires
 plain-requires c κs = search needs

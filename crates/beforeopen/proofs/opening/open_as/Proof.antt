@@ -8,8 +8,8 @@ use Rattle.encoding.specs.Frame.{frameOf}
 use Rattle.encoding.specs.Hex.{textOf}
 use Rattle.line.specs.Program.{beforeOpen, replyIn}
 use Rattle.line.specs.Requests.{Request}
-use Rattle.frame.proofs.opening.open_as.Statement.{statement}
-use Rattle.frame.proofs.opening.open_as.Tie as tie
+use Rattle.beforeopen.proofs.opening.open_as.Statement.{statement}
+use Rattle.beforeopen.proofs.opening.open_as.Tie as tie
 
 read-opening-requires : tie.Need-read-opening-requires
 read-opening-requires c κs = search needs

@@ -26,16 +26,16 @@ use Rattle.encoding.proofs.Laws.Parts.{parts, put-length}
 use Rattle.line.proofs.Laws.Schedules.{respond-before}
 use Rattle.batch.specs.Batch.{Reachable}
 use Rattle.batch.proofs.Laws.Reachable.{reachable-open, opening-reachable, response-reachable}
-use Rattle.frame.specs.declared.opening.Begun.{Begun}
+use Rattle.beforeopen.specs.declared.opening.Begun.{Begun}
 use Rattle.reader.specs.declared.Read.{Read}
 use Rattle.reader.specs.declared.Reader.{Reader}
-use Rattle.frame.specs.Opening.{SessionHub, refusal, opensHub, untilOpen, openAt, early, begunBy}
+use Rattle.beforeopen.specs.Opening.{SessionHub, refusal, opensHub, untilOpen, openAt, early, begunBy}
 use Rattle.reader.specs.Reading.{lineIn, next, past, asked}
 use Rattle.reader.specs.Reading.{headerBytes, requestBytes, written}
 use Rattle.reader.proofs.Laws.Pieces.{Kept, past-kept}
-use Rattle.frame.proofs.Laws.Sessions.{lines, replies-append, after-append}
-use Rattle.frame.proofs.Laws.Sessions.{past-append, asked-append}
-use Rattle.frame.proofs.Laws.Sizes.{replies-size, asked-few}
+use Rattle.beforeopen.proofs.Laws.Appended.{lines, replies-append, after-append}
+use Rattle.beforeopen.proofs.Laws.Appended.{past-append, asked-append}
+use Rattle.beforeopen.proofs.Laws.Sizes.{replies-size, asked-few}
 
 not-both : {A : Type 0} {b : Bool} → b ≡ true → b ≡ false → A
 not-both e f = let z : _≡_ {A = ℕ} 0 1 = cc in let y : ⊥ = omega arith in absurd y
