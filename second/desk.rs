@@ -6,9 +6,9 @@
 //! Neither side looks at the other: the screen moves its line and tells the
 //! steps from that line, the hub goes by the step table and counts them.
 
-use super::{kind, parse, read_frame, read_line};
+use super::{check_kinds, parse, read_frame, read_line};
 use super::{Call, Frame, Hub, Kind, Opening, Phase, Refusal};
-use super::{MAX_LINE, MAX_PERMITS, NO_PARTY, PARTIES};
+use super::{BATTERY_ROUND, MAX_LINE, MAX_PERMITS, NO_PARTY, PARTIES};
 use std::collections::BTreeSet;
 use std::io::{self, BufRead, ErrorKind, Read, Write};
 
@@ -60,6 +60,8 @@ pub struct Screen {
     pub parties: u8,
     /// Whether the hub has radios.
     pub radios: bool,
+    /// The hub's. No move alters them.
+    pub kinds: [Kind; PARTIES],
     pub holders: BTreeSet<u8>,
     /// The first to be served first.
     pub waiting: Vec<u8>,
@@ -73,6 +75,7 @@ impl Screen {
             permits: hub.permits,
             parties: hub.parties,
             radios: hub.pool.is_some(),
+            kinds: hub.kinds,
             holders: BTreeSet::new(),
             waiting: Vec::new(),
         })
@@ -115,7 +118,7 @@ impl Screen {
         let Some(at) = self.waiting.iter().position(|&waiter| waiter == party) else {
             return Err(Refusal::NotWaiting);
         };
-        if kind(usize::from(party)) == Kind::BatteryRound {
+        if self.kinds[usize::from(party)] == BATTERY_ROUND {
             return Err(Refusal::MustWait);
         }
         self.waiting.remove(at);
@@ -155,6 +158,7 @@ impl Screen {
         let permits = usize::from(self.permits);
         (1..=MAX_PERMITS).contains(&self.permits)
             && (1..=PARTIES).contains(&usize::from(self.parties))
+            && check_kinds(&self.kinds).is_ok()
             && different.len() == on_line().count()
             && on_line().all(|&party| party < self.parties)
             && self.holders.len() <= permits

@@ -11,7 +11,9 @@
 //! with radios, opened by 02). Phases and places keep the paper's names, save
 //! that a place with a link is `Permit`.
 
+use std::array;
 use std::collections::VecDeque;
+use std::convert::TryFrom;
 use std::env;
 use std::io::{self, BufRead, BufReader, BufWriter, ErrorKind, Write};
 use std::mem;
@@ -96,22 +98,41 @@ impl Phase {
     }
 }
 
-#[derive(Clone, Copy, Debug, PartialEq, Eq)]
-enum Kind {
-    Desk,
-    Door,
-    Replacement,
-    BatteryRound,
+/// The kind of a party, as a byte of the opening or of a record: any byte.
+type Kind = u8;
+
+const DESK: Kind = 0;
+const DOOR: Kind = 1;
+const REPLACEMENT: Kind = 2;
+/// The one kind whose waits may not be given up, and the last one.
+const BATTERY_ROUND: Kind = 3;
+
+/// The constant table of kinds, for an opening that brings none.
+fn built_in_kinds() -> [Kind; PARTIES] {
+    array::from_fn(|party| match party {
+        0..=7 => DESK,
+        8..=27 => DOOR,
+        28..=29 => REPLACEMENT,
+        _ => BATTERY_ROUND,
+    })
 }
 
-/// The constant table of kinds.
-const fn kind(party: usize) -> Kind {
-    match party {
-        0..=7 => Kind::Desk,
-        8..=27 => Kind::Door,
-        28..=29 => Kind::Replacement,
-        _ => Kind::BatteryRound,
+/// What refuses an opening's kinds, once they are one for each party. A record
+/// whose kinds meet it does not fit. Parties from n up have kinds too.
+fn check_kinds(kinds: &[Kind; PARTIES]) -> Result<(), Refusal> {
+    let (mut unknown, mut desk) = (false, false);
+    // No way out of the loop: each call that is checked goes through it.
+    for &kind in kinds {
+        unknown |= kind > BATTERY_ROUND;
+        desk |= kind == DESK;
     }
+    if unknown {
+        return Err(Refusal::NoSuchKind);
+    }
+    if !desk {
+        return Err(Refusal::NoDesk);
+    }
+    Ok(())
 }
 
 #[derive(Clone, Copy, Debug, PartialEq, Eq)]
@@ -144,6 +165,9 @@ enum Refusal {
     Malformed = 12,
     OutOfOrder = 13,
     RadiosAlike = 14,
+    KindCount = 15,
+    NoSuchKind = 16,
+    NoDesk = 17,
 }
 
 #[derive(Clone, Copy, Debug, PartialEq, Eq)]
@@ -258,6 +282,8 @@ struct Hub {
     marked: [bool; PARTIES],
     /// On a hub with radios, where they are.
     pool: Option<Pool>,
+    /// The kind of each party. No call alters it.
+    kinds: [Kind; PARTIES],
 }
 
 impl Hub {
@@ -280,6 +306,7 @@ impl Hub {
             phases: [Phase::Free; PARTIES],
             marked: [false; PARTIES],
             pool: None,
+            kinds: built_in_kinds(),
         })
     }
 
@@ -293,6 +320,15 @@ impl Hub {
             pool: Some(Pool::filled(radios)),
             ..hub
         })
+    }
+
+    /// A hub just opened, with the house's own kinds.
+    fn with_kinds(self, kinds: &[Kind]) -> Result<Hub, Refusal> {
+        let Ok(kinds) = <[Kind; PARTIES]>::try_from(kinds) else {
+            return Err(Refusal::KindCount);
+        };
+        check_kinds(&kinds)?;
+        Ok(Hub { kinds, ..self })
     }
 
     /// One of the five calls. A refusal leaves the whole record alone.
@@ -343,7 +379,7 @@ impl Hub {
         if !early && !matches!(self.phases[party], Phase::Waiting(_)) {
             return Err(Refusal::NotWaiting);
         }
-        if kind(party) == Kind::BatteryRound {
+        if self.kinds[party] == BATTERY_ROUND {
             return Err(Refusal::MustWait);
         }
         match self.phases[party] {
@@ -551,6 +587,7 @@ impl Hub {
             && (0..PARTIES).all(|party| self.mark_fits(party))
             && (self.oldest..self.oldest + SPAN).all(|t| self.place_fits(t))
             && self.radios_fit()
+            && check_kinds(&self.kinds).is_ok()
     }
 
     fn bounds_fit(&self) -> bool {
@@ -690,13 +727,19 @@ struct Opening {
     parties: u8,
     /// Of opening 02.
     radios: Option<Vec<Radio>>,
+    /// All bytes after those. Where there are none the built-in kinds hold.
+    kinds: Vec<Kind>,
 }
 
 impl Opening {
     fn hub(&self) -> Result<Hub, Refusal> {
-        match &self.radios {
+        let hub = match &self.radios {
             None => Hub::open(self.permits, self.parties),
             Some(radios) => Hub::open_pool(self.permits, self.parties, radios),
+        }?;
+        match &self.kinds[..] {
+            [] => Ok(hub),
+            kinds => hub.with_kinds(kinds),
         }
     }
 }
@@ -710,17 +753,20 @@ fn parse(line: &[u8]) -> Option<Frame> {
 
 fn read_frame(frame: &[u8]) -> Option<Frame> {
     match *frame {
-        [0x01, permits, parties] => Some(Frame::Open(Opening {
+        [0x01, permits, parties, ref kinds @ ..] => Some(Frame::Open(Opening {
             permits,
             parties,
             radios: None,
+            kinds: kinds.to_vec(),
         })),
-        // As many radios as it says, whether or not a hub may have so many.
-        [0x02, permits, parties, ref radios @ ..] if radios.len() == usize::from(permits) => {
+        [0x02, permits, parties, ref rest @ ..] => {
+            // As many radios as it says, whether or not a hub may have so many.
+            let (radios, kinds) = rest.split_at_checked(usize::from(permits))?;
             Some(Frame::Open(Opening {
                 permits,
                 parties,
                 radios: Some(radios.to_vec()),
+                kinds: kinds.to_vec(),
             }))
         }
         [0x10, party] => Some(Frame::Call {

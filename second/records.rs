@@ -3,18 +3,18 @@
 //! reaches can be handed in too. tests/README.md lays the bytes out.
 
 use super::{Answer, Call, Hub, Phase, Place, Pool, Ticket};
-use super::{MAX_RADIOS, NO_NUMBER, NO_PARTY, PARTIES, PLACES};
+use super::{DESK, MAX_RADIOS, NO_NUMBER, NO_PARTY, PARTIES, PLACES};
 use std::io::{self, ErrorKind, Read, Write};
 
-/// Bytes of a record but for its radios and marks: K, n, five figures, the
-/// places and the phases.
+/// Bytes of a record but for its radios, marks and kinds: K, n, five figures,
+/// the places and the phases.
 const LINKS: usize = 2 + 5 * 4 + PLACES * 5 + PARTIES * 5;
 /// Bytes of the radios: whether the hub has them, the opening's, one for each
 /// party, one for each place; how far the store is turned, how many it has,
 /// and room for the most.
 const RADIOS: usize = 1 + MAX_RADIOS + PARTIES + PLACES + 2 + MAX_RADIOS;
-/// Bytes of a record: after all that, a mark for each party.
-pub const RECORD: usize = LINKS + RADIOS + PARTIES;
+/// Bytes of a record: after all that, a mark and then a kind for each party.
+pub const RECORD: usize = LINKS + RADIOS + PARTIES + PARTIES;
 /// Bytes of a case: a record, the call's code and its party.
 pub const CASE: usize = RECORD + 2;
 /// Bytes of a reply: an answer as on a line, and a record.
@@ -64,7 +64,8 @@ fn read_record(bytes: &[u8]) -> Hub {
     let (figures, rest) = bytes.split_at(22);
     let (places, rest) = rest.split_at(PLACES * 5);
     let (phases, rest) = rest.split_at(PARTIES * 5);
-    let (radios, marks) = rest.split_at(RADIOS);
+    let (radios, rest) = rest.split_at(RADIOS);
+    let (marks, kinds) = rest.split_at(PARTIES);
     let mut hub = Hub {
         permits: figures[0],
         parties: figures[1],
@@ -77,6 +78,7 @@ fn read_record(bytes: &[u8]) -> Hub {
         phases: [Phase::Free; PARTIES],
         marked: [false; PARTIES],
         pool: None,
+        kinds: [DESK; PARTIES],
     };
     for (place, bytes) in hub.ring.iter_mut().zip(places.chunks(5)) {
         *place = read_place(bytes[0], number(bytes, 1));
@@ -89,6 +91,7 @@ fn read_record(bytes: &[u8]) -> Hub {
         hub.marked[party] = hub.phases[party].may_be_marked() && byte % 2 == 1;
     }
     hub.pool = read_pool(&hub, radios);
+    hub.kinds.copy_from_slice(kinds);
     hub
 }
 
@@ -146,6 +149,7 @@ fn write_record(hub: &Hub, bytes: &mut Vec<u8>) {
         None => bytes.extend([0; RADIOS]),
     }
     bytes.extend(hub.marked.map(u8::from));
+    bytes.extend(hub.kinds);
 }
 
 /// The party counts for a waiting place only.

@@ -1,6 +1,7 @@
 //! Tests of the second program: the paper's run and edges, malformed lines,
-//! hand-made records for the fit check, records as bytes, random schedules, and
-//! whole operations on the desk's screen and on the hub.
+//! hand-made records for the fit check, radios, early cancels, a house's own
+//! kinds, records as bytes, random schedules, and whole operations on the
+//! desk's screen and on the hub.
 
 use super::*;
 
@@ -209,15 +210,6 @@ mod paper {
         }
     }
 
-    #[test]
-    fn kinds() {
-        let of = |kind_wanted| (0..PARTIES).filter(move |&party| kind(party) == kind_wanted);
-        assert!(of(Kind::Desk).eq(0..8));
-        assert!(of(Kind::Door).eq(8..28));
-        assert!(of(Kind::Replacement).eq(28..30));
-        assert!(of(Kind::BatteryRound).eq(30..32));
-    }
-
     /// Every row of the step table on hand-made records: phase and place
     /// before, then code, phase and place after. The place is number 7's.
     #[test]
@@ -294,14 +286,13 @@ mod frames {
         let long = "0".repeat(161);
         let full = "0".repeat(160);
         let longer = "1000".repeat(100_000);
-        let lines: [&[u8]; 34] = [
+        let lines: [&[u8]; 33] = [
             b"",
             b"1",
             b"100",
             b"10000",
             b"0101",
             b"01010",
-            b"01010100",
             b"10",
             b"01",
             b"100000",
@@ -349,9 +340,10 @@ mod frames {
             for length in 1..=33usize {
                 let line = format!("{code:02X}{}\n", "01".repeat(length - 1));
                 let known = match code {
-                    0x01 => length == 3,
+                    // All more bytes are kinds.
+                    0x01 => length >= 3,
                     // Its second byte says one radio.
-                    0x02 => length == 4,
+                    0x02 => length >= 4,
                     0x10..=0x14 => length == 2,
                     _ => false,
                 };
@@ -823,14 +815,16 @@ mod radios {
         let of = |permits: u8, parties: u8, radios: usize| {
             format!("02{permits:02X}{parties:02X}{}", "55".repeat(radios))
         };
-        let wrong_lengths = [of(0, 0, 1), of(1, 0, 0), of(33, 0, 32), of(33, 0, 34)];
+        let wrong_lengths = [of(2, 0, 1), of(1, 0, 0), of(33, 0, 32), of(77, 0, 76)];
         let long_lines = [of(78, 0, 78), of(255, 1, 255)];
         for line in wrong_lengths.iter().chain(&long_lines) {
             assert_run(&[(line, MALFORMED)], NOTHING_OPENED);
         }
         assert_run(&[("02", MALFORMED), ("0200", MALFORMED)], NOTHING_OPENED);
-        for line in [of(0, 1, 0), of(0, 0, 0), of(33, 0, 33), of(77, 1, 77)] {
-            assert_run(&[(&line, "02FFFFFFFFFFFF")], NOTHING_OPENED);
+        let refused = [of(0, 1, 0), of(0, 0, 0), of(33, 0, 33), of(77, 1, 77)];
+        let with_kinds = [of(0, 0, 1), of(33, 0, 34)];
+        for line in refused.iter().chain(&with_kinds) {
+            assert_run(&[(line, "02FFFFFFFFFFFF")], NOTHING_OPENED);
         }
         for line in [of(2, 0, 2), of(32, 33, 32), of(1, 255, 1)] {
             assert_run(&[(&line, "03FFFFFFFFFFFF")], NOTHING_OPENED);
@@ -1296,6 +1290,398 @@ mod early {
     }
 }
 
+/// A house's own kinds (M-140).
+mod kinds {
+    use super::*;
+    use desk::{Operation, Screen};
+
+    const OPENED: &str = "1FFFFFFFFFFFFF";
+    const OUT_OF_ORDER: &str = "0DFFFFFFFFFFFF";
+    const COUNT: &str = "0FFFFFFFFFFFFF";
+    const UNKNOWN: &str = "10FFFFFFFFFFFF";
+    const NO_DESK: &str = "11FFFFFFFFFFFF";
+
+    /// Every party of this kind but one, which is of that.
+    fn all_but(kind: Kind, party: usize, other: Kind) -> [Kind; PARTIES] {
+        let mut kinds = [kind; PARTIES];
+        kinds[party] = other;
+        kinds
+    }
+
+    /// A line of these bytes.
+    fn hex(parts: &[&[u8]]) -> String {
+        let bytes = parts.iter().copied().flatten();
+        bytes.map(|byte| format!("{byte:02X}")).collect()
+    }
+
+    fn opened(permits: u8, parties: u8, kinds: &[Kind]) -> Result<Hub, Refusal> {
+        let opening = Opening {
+            permits,
+            parties,
+            radios: None,
+            kinds: kinds.to_vec(),
+        };
+        opening.hub()
+    }
+
+    #[test]
+    fn built_in() {
+        let kinds = built_in_kinds();
+        let of = |wanted| (0..PARTIES).filter(move |&party| kinds[party] == wanted);
+        assert!(of(0).eq(0..8));
+        assert!(of(1).eq(8..28));
+        assert!(of(2).eq(28..30));
+        assert!(of(3).eq(30..32));
+        assert_eq!(check_kinds(&kinds), Ok(()));
+    }
+
+    /// Without kinds a hub is as with the built-in ones written out.
+    #[test]
+    fn built_in_ones_given() {
+        let radios: Vec<Radio> = (100..132).collect();
+        for permits in 1..=32 {
+            for parties in 1..=32 {
+                let hub = Hub::open(permits, parties);
+                assert_eq!(hub.clone().unwrap().kinds, built_in_kinds());
+                assert_eq!(opened(permits, parties, &[]), hub);
+                assert_eq!(opened(permits, parties, &built_in_kinds()), hub);
+                let radios = &radios[..usize::from(permits)];
+                let bytes: &[&[u8]] = &[&[2, permits, parties], radios, &built_in_kinds()];
+                let Some(Frame::Open(opening)) = read_frame(&bytes.concat()) else {
+                    panic!("no opening");
+                };
+                assert_eq!(opening.hub(), Hub::open_pool(permits, parties, radios));
+            }
+        }
+    }
+
+    /// They are the hub's from then on, and nothing else of it is altered.
+    #[test]
+    fn kept_in_the_record() {
+        let kinds: Vec<Kind> = (0..32).map(|party| (party * 7 / 4) % 4).collect();
+        for (permits, parties) in [(1, 1), (3, 13), (32, 32)] {
+            let plain = Hub::open(permits, parties).unwrap();
+            let hub = opened(permits, parties, &kinds).unwrap();
+            assert_eq!(hub.kinds, kinds[..]);
+            let mut expected = plain.clone();
+            expected.kinds.copy_from_slice(&kinds);
+            assert_eq!(hub, expected);
+            assert!(hub.fits());
+        }
+    }
+
+    /// After 01, K, n and after 02, K, n and K radios all other bytes are
+    /// kinds. There are 32 of them, as far as a line goes.
+    #[test]
+    fn how_many() {
+        let radios: Vec<Radio> = (100..132).collect();
+        for permits in [None, Some(0), Some(1), Some(2), Some(32)] {
+            let own = match permits {
+                None => vec![1, 1, 1],
+                Some(0) => vec![2, 0, 1],
+                Some(permits) => [&[2, permits, 1], &radios[..usize::from(permits)]].concat(),
+            };
+            for more in 0..=90 {
+                let line = hex(&[&own, &vec![0; more]]);
+                let expected = match (more, permits) {
+                    _ if own.len() + more > 80 => MALFORMED,
+                    (_, Some(0)) => "02FFFFFFFFFFFF",
+                    (0 | 32, _) => OPENED,
+                    _ => COUNT,
+                };
+                assert_eq!(line.len() > 160, own.len() + more > 80);
+                assert_eq!(last_answer(line), expected, "{permits:?} and {more}");
+            }
+            for length in 0..own.len() {
+                assert_eq!(last_answer(hex(&[&own[..length]]) + "\n"), MALFORMED);
+            }
+        }
+        for more in [1, 31, 33, 64] {
+            assert_eq!(last_answer(hex(&[&[1, 1, 1], &vec![0; more]])), COUNT);
+            assert_eq!(last_answer(hex(&[&[2, 1, 1, 9], &vec![0; more]])), COUNT);
+        }
+    }
+
+    /// The longest opening: 32 radios and 32 kinds.
+    #[test]
+    fn with_all_radios() {
+        let radios: Vec<Radio> = (0..32).map(|at| 255 - at).collect();
+        let kinds = all_but(3, 31, 0);
+        let line = hex(&[&[2, 32, 32], &radios, &kinds]);
+        assert_eq!(line.len(), 134);
+        for line in [line.clone(), line.to_lowercase()] {
+            assert_run(
+                &[
+                    (&line, OPENED),
+                    ("1000", "2000FFFFFFFFFF"),
+                    ("1200", "0A00FFFFFFFFFF"),
+                    ("101F", "201FFFFFFFFFFF"),
+                    ("121F", "201FFFFFFFFFFF"),
+                    ("1100", "2100FFFFFFFFFF"),
+                    ("1100", "3600FFFFFFFFFF"),
+                    ("1400", "3900FF000000FF"),
+                ],
+                "7E01000000001F",
+            );
+        }
+        // One of the radios less is one of the kinds less.
+        let shorter = hex(&[&[2, 32, 32], &radios[1..], &kinds]);
+        assert_eq!(last_answer(shorter), COUNT);
+        // Radios like kinds, and the last like the first kind.
+        let line = hex(&[&[2, 3, 1, 3, 1, 0], &all_but(0, 0, 3)]);
+        assert_eq!(last_answer(line), OPENED);
+        let line = hex(&[&[2, 2, 1, 4, 5], &all_but(0, 0, 4)]);
+        assert_eq!(last_answer(line), UNKNOWN);
+        let line = hex(&[&[2, 1, 1, 0], &[1; 32]]);
+        assert_eq!(last_answer(line), NO_DESK);
+    }
+
+    /// The refusals of an opening's own, in order.
+    const ORDER: [u8; 6] = [2, 3, 14, 15, 16, 17];
+
+    /// The bytes of an opening that meets these of them; 14 needs radios.
+    fn meeting(refusals: &[u8], radios: bool) -> Vec<u8> {
+        let meets = |number| refusals.contains(&number);
+        let permits = if meets(2) { 33 } else { 2 };
+        let parties = if meets(3) { 33 } else { 7 };
+        let mut kinds = [if meets(17) { 2 } else { 0 }; 33];
+        kinds[19] = if meets(16) { 4 } else { 3 };
+        let kinds = &kinds[..if meets(15) { 33 } else { 32 }];
+        if !radios {
+            return [&[1, permits, parties], kinds].concat();
+        }
+        let radios: Vec<Radio> = (0..permits)
+            .map(|at| if meets(14) { 9 } else { at })
+            .collect();
+        [&[2, permits, parties], &radios[..], kinds].concat()
+    }
+
+    /// 12, 13, 2, 3, 14, 15, 16, 17, whatever applies besides.
+    #[test]
+    fn refusals_of_an_opening_come_in_order() {
+        let mut tried = 0;
+        for (choice, radios) in (0..64).flat_map(|choice| [(choice, false), (choice, true)]) {
+            let chosen = (0..6).filter(|at| choice >> at & 1 == 1);
+            let refusals: Vec<u8> = chosen.map(|at| ORDER[at]).collect();
+            if refusals.contains(&14) && !radios {
+                continue;
+            }
+            tried += 1;
+            let bytes = meeting(&refusals, radios);
+            let line = hex(&[&bytes]);
+            assert_eq!(
+                desk::operate(&bytes, &[], 0).err(),
+                refusals.first().copied()
+            );
+            for malformed in [&line[1..], &format!("{line}G0")] {
+                assert_run(&[(malformed, MALFORMED)], NOTHING_OPENED);
+                let pairs = [("010101", OPENED), (malformed, MALFORMED)];
+                assert_run(&pairs, "7E000000000001");
+            }
+            let pairs = [("010101", OPENED), (&line, OUT_OF_ORDER)];
+            assert_run(&pairs, "7E000000000001");
+            let Some(first) = refusals.first() else {
+                assert_run(&[(&line, OPENED)], "7E000000000002");
+                continue;
+            };
+            // It opened nothing: a call is 13, and the next opening counts.
+            let answer = format!("{first:02X}FFFFFFFFFFFF");
+            assert_run(&[(&line, &answer)], NOTHING_OPENED);
+            let pairs = [
+                (&line[..], &answer[..]),
+                ("1000", "0D00FFFFFFFFFF"),
+                ("010101", OPENED),
+            ];
+            assert_run(&pairs, "7E000000000001");
+        }
+        assert_eq!(tried, 64 + 32);
+    }
+
+    /// Above 3 at any party, also from n up, and before 17.
+    #[test]
+    fn unknown_kinds() {
+        for party in 0..PARTIES {
+            for kind in 0..=255 {
+                for parties in [1, 16, 32] {
+                    let outcome = opened(1, parties, &all_but(0, party, kind)).err();
+                    assert_eq!(outcome, (kind > 3).then_some(Refusal::NoSuchKind));
+                    let outcome = opened(1, parties, &all_but(1, party, kind)).err();
+                    let expected = match kind {
+                        0 => None,
+                        1..=3 => Some(Refusal::NoDesk),
+                        _ => Some(Refusal::NoSuchKind),
+                    };
+                    assert_eq!(outcome, expected);
+                }
+            }
+        }
+        let line = hex(&[&[1, 1, 1], &all_but(0, 31, 4)]);
+        assert_eq!(last_answer(line), UNKNOWN);
+        let line = hex(&[&[1, 1, 1], &[255; 32]]);
+        assert_eq!(last_answer(line), UNKNOWN);
+    }
+
+    /// One desk is enough, wherever it is.
+    #[test]
+    fn no_desk() {
+        for kind in 1..=3 {
+            let line = hex(&[&[1, 1, 1], &[kind; 32]]);
+            assert_eq!(last_answer(line), NO_DESK);
+            for party in 0..PARTIES {
+                let line = hex(&[&[1, 1, 1], &all_but(kind, party, 0)]);
+                assert_eq!(last_answer(line), OPENED);
+            }
+        }
+    }
+
+    /// Party 0 may not give up, 30 and 31 may, early and when they wait.
+    #[test]
+    fn kind_3_at_party_0() {
+        let line = hex(&[&[1, 1, 32], &all_but(0, 0, 3)]);
+        assert_run(
+            &[
+                (&line, OPENED),
+                ("1005", "2005FFFFFFFFFF"),
+                ("1105", "2105FFFFFFFFFF"),
+                ("1200", "0900FFFFFFFFFF"),
+                ("1000", "2000FFFFFFFFFF"),
+                ("1200", "0A00FFFFFFFFFF"),
+                ("1100", "2200FFFFFFFFFF"),
+                ("1200", "0A00FFFFFFFFFF"),
+                ("1100", "2300FF00000000"),
+                ("1200", "0A00FFFFFFFFFF"),
+                ("1100", "2400FF00000000"),
+                ("1200", "0A00FFFFFFFFFF"),
+                ("101F", "201FFFFFFFFFFF"),
+                ("121F", "201FFFFFFFFFFF"),
+                ("121F", "091FFFFFFFFFFF"),
+                ("101E", "201EFFFFFFFFFF"),
+                ("111E", "221EFFFFFFFFFF"),
+                ("111E", "231EFF00000001"),
+                ("111E", "241EFF00000001"),
+                ("121E", "201EFFFFFFFFFF"),
+                ("111E", "2E1EFFFFFFFFFF"),
+                ("111E", "301EFF00000001"),
+                // A second opening alters no kind.
+                ("010120", OUT_OF_ORDER),
+                ("1200", "0A00FFFFFFFFFF"),
+            ],
+            "7E0101FFFFFFFF",
+        );
+    }
+
+    /// 10 by the party's own kind, in each phase in which it could give up.
+    #[test]
+    fn own_kind_decides() {
+        let phases = [
+            Phase::Asked,
+            Phase::Unnumbered,
+            Phase::Numbered(7),
+            Phase::Waiting(7),
+        ];
+        for party in 0..PARTIES {
+            for kind in 0..=3 {
+                // A desk elsewhere, and everybody else of the other sort.
+                let other = if kind == 3 { 1 } else { 3 };
+                let mut kinds = all_but(other, party, kind);
+                kinds[(party + 1) % PARTIES] = 0;
+                for phase in phases {
+                    let mut hub = opened(1, 32, &kinds).unwrap();
+                    hub.next_ticket = 8;
+                    hub.phases[party] = phase;
+                    if let Phase::Waiting(_) = phase {
+                        hub.ring[7] = Place::Waiting(party as u32);
+                    }
+                    let mut expected = hub.clone();
+                    let outcome = hub.call(Call::Cancel, party as u8, true);
+                    if kind == 3 {
+                        assert_eq!(outcome, Err(Refusal::MustWait));
+                    } else {
+                        assert_eq!(outcome, Ok(Answer::plain(0x20)));
+                        match phase {
+                            Phase::Waiting(t) => expected.phases[party] = Phase::GivingUp(t),
+                            _ => expected.marked[party] = true,
+                        }
+                    }
+                    assert_eq!(hub, expected);
+                }
+                // Where it could not, 9 comes first.
+                let mut hub = opened(1, 32, &kinds).unwrap();
+                let outcome = hub.call(Call::Cancel, party as u8, true);
+                assert_eq!(outcome, Err(Refusal::NotWaiting));
+            }
+        }
+    }
+
+    /// 1 to every call of anybody where the kinds meet 16 or 17, and the
+    /// record stays. Without the check nobody looks at them.
+    #[test]
+    fn of_a_record_that_fits() {
+        let fits = |kinds: [Kind; PARTIES]| {
+            let mut hub = Hub::open(2, 13).unwrap();
+            hub.kinds = kinds;
+            let before = hub.clone();
+            let mut misfits = 0;
+            for call in CALLS {
+                for party in [0, 12, 13, 255] {
+                    let mut left = hub.clone();
+                    if left.call(call, party, true) == Err(Refusal::Misfit) {
+                        assert_eq!(left, before);
+                        misfits += 1;
+                    }
+                    assert_ne!(hub.clone().call(call, party, false), Err(Refusal::Misfit));
+                }
+            }
+            assert_eq!(misfits, if hub.fits() { 0 } else { 20 });
+            hub.fits()
+        };
+        assert!(fits(built_in_kinds()));
+        assert!(fits([0; PARTIES]));
+        for kind in 1..=255 {
+            assert!(!fits([kind; PARTIES]));
+        }
+        for party in 0..PARTIES {
+            for kind in 0..=255 {
+                assert_eq!(fits(all_but(0, party, kind)), kind <= 3);
+                assert_eq!(fits(all_but(3, party, kind)), kind == 0);
+            }
+        }
+    }
+
+    /// As for a record: 1 to every move where a line's kinds meet 16 or 17.
+    #[test]
+    fn of_a_line_that_is_reached() {
+        let reached = |kinds: [Kind; PARTIES]| {
+            let screen = Screen {
+                permits: 2,
+                parties: 5,
+                radios: false,
+                kinds,
+                holders: [1, 3].iter().copied().collect(),
+                waiting: vec![4, 0],
+            };
+            let operations = [Operation::Acquire, Operation::Cancel, Operation::Release];
+            for operation in operations {
+                for party in [0, 1, 2, 5, 255] {
+                    let mut left = screen.clone();
+                    let misfit = left.operate(operation, party) == Err(Refusal::Misfit);
+                    assert_eq!(misfit, !screen.is_reached());
+                    assert!(!misfit || left == screen);
+                }
+            }
+            screen.is_reached()
+        };
+        assert!(reached(built_in_kinds()));
+        for kind in 0..=255 {
+            assert_eq!(reached([kind; PARTIES]), kind == 0);
+            for party in 0..PARTIES {
+                assert_eq!(reached(all_but(0, party, kind)), kind <= 3);
+                assert_eq!(reached(all_but(3, party, kind)), kind == 0);
+            }
+        }
+    }
+}
+
 mod record_mode {
     use super::*;
     use records::{CASE, RECORD, REPLY};
@@ -1321,6 +1707,8 @@ mod record_mode {
         record[0] = permits;
         record[1] = parties;
         record[5] = permits;
+        record[KIND + 8..KIND + 28].fill(1);
+        record[KIND + 28..].copy_from_slice(&[2, 2, 3, 3]);
         record
     }
 
@@ -1334,6 +1722,7 @@ mod record_mode {
     const COUNT: usize = 1784;
     const STORE: usize = 1785;
     const MARK: usize = 1817;
+    const KIND: usize = 1849;
 
     fn set(record: &mut [u8], at: usize, byte: u8, number: u32) {
         record[at] = byte;
@@ -1342,7 +1731,7 @@ mod record_mode {
 
     #[test]
     fn sizes() {
-        assert_eq!((RECORD, CASE, REPLY), (1849, 1851, 1856));
+        assert_eq!((RECORD, CASE, REPLY), (1881, 1883, 1888));
     }
 
     /// The run, each record handed back in; the last one by hand.
@@ -1422,6 +1811,7 @@ mod record_mode {
             let t = if numbered { 0xA1B2_C3D4 } else { 0 };
             set(&mut record, PHASE + 5 * party, phase, t);
             record[MARK + party] = u8::from(matches!(phase, 3..=5) && party < 14);
+            record[KIND + party] = 0xE1 + party as u8;
         }
         let calls = [(0x10, 0), (0x11, 31), (0x12, 32), (0x13, 255), (0x14, 0)];
         let mut with_radios = record.clone();
@@ -1458,7 +1848,7 @@ mod record_mode {
         for flag in 0..=255u8 {
             let mut record = opened(0, 0);
             record[FLAG] = flag;
-            record[OPENING..].fill(0x77);
+            record[OPENING..KIND].fill(0x77);
             record[COUNT] = 33 + 2;
             let mut expected = opened(0, 0);
             if flag % 2 == 1 {
@@ -1590,6 +1980,39 @@ mod record_mode {
             assert_eq!(answer, expected);
             assert_eq!((next[PHASE + 5 * 2], next[MARK + 2]), (phase, mark));
             left = next;
+        }
+    }
+
+    /// The last 32 bytes, as they are. Above 3, or none of them 0, is 1, also
+    /// of a party from n up; else they decide 10, and no call alters them.
+    #[test]
+    fn kinds() {
+        for party in 0..32u8 {
+            for kind in 0..=255u8 {
+                let mut record = opened(1, 30);
+                record[5] = 0;
+                record[KIND..].fill(1);
+                record[KIND + usize::from(party ^ 1)] = 0;
+                record[KIND + usize::from(party)] = kind;
+                set(&mut record, PHASE + 5 * usize::from(party), 3, 0);
+                let (answer, left) = reply(&record, 0x12, party);
+                let code = match (kind, party) {
+                    // Asked, and from n up.
+                    (4.., _) | (_, 30..) => "01",
+                    (3, _) => "0A",
+                    _ => "20",
+                };
+                assert_eq!(answer, format!("{code}{party:02X}FFFFFFFFFF"));
+                record[MARK + usize::from(party)] = u8::from(code == "20");
+                assert_eq!(left, record);
+                // Nobody asked: the kinds alone.
+                let mut record = opened(1, 30);
+                record[KIND..].fill(2);
+                record[KIND + usize::from(party)] = kind;
+                let (answer, left) = reply(&record, 0x11, 0);
+                assert_eq!(&answer[..2], if kind == 0 { "08" } else { "01" });
+                assert_eq!(left, record);
+            }
         }
     }
 
@@ -1929,6 +2352,8 @@ mod schedules {
     struct Walk {
         hub: Hub,
         ledger: Ledger,
+        /// The opening's.
+        kinds: [Kind; PARTIES],
         random: Random,
     }
 
@@ -1943,20 +2368,23 @@ mod schedules {
             let (most_permits, most_parties) = if random.one_in(3) { (32, 32) } else { (3, 6) };
             let permits = 1 + random.below(most_permits) as u8;
             let parties = 1 + random.below(most_parties) as u8;
-            if random.one_in(2) {
-                let first = random.below(256) as u8;
-                let radios: Vec<Radio> = (0..permits)
-                    .map(|at| first.wrapping_add(at.wrapping_mul(151)))
-                    .collect();
-                return Walk {
-                    hub: Hub::open_pool(permits, parties, &radios).unwrap(),
-                    ledger: Ledger::new(permits, Some(&radios)),
-                    random,
-                };
-            }
+            let kinds = any_kinds(&mut random);
+            let own = random.one_in(2);
+            let first = random.below(256) as u8;
+            let radios: Option<Vec<Radio>> = random.one_in(2).then(|| {
+                let radios = (0..permits).map(|at| first.wrapping_add(at.wrapping_mul(151)));
+                radios.collect()
+            });
+            let opening = Opening {
+                permits,
+                parties,
+                radios: radios.clone(),
+                kinds: if own { kinds.to_vec() } else { Vec::new() },
+            };
             Walk {
-                hub: Hub::open(permits, parties).unwrap(),
-                ledger: Ledger::new(permits, None),
+                hub: opening.hub().unwrap(),
+                ledger: Ledger::new(permits, radios.as_deref()),
+                kinds: if own { kinds } else { built_in_kinds() },
                 random,
             }
         }
@@ -1978,6 +2406,12 @@ mod schedules {
             seen[number] += 1;
             seen[256 + number] += u64::from(marked);
             assert!(self.hub.fits());
+            assert_eq!(self.hub.kinds, self.kinds);
+            // A give-up is 10 for the party's kind, and for that alone.
+            if call == Call::Cancel && party < self.hub.parties {
+                let must_wait = self.kinds[usize::from(party)] == 3;
+                assert_ne!(number, if must_wait { 0x20 } else { 10 });
+            }
             self.ledger.assert_shown_by(&self.hub);
             self.ledger.assert_sound();
         }
@@ -2051,17 +2485,30 @@ mod schedules {
         assert!(fitting > 1_000);
     }
 
+    /// Any kinds that an opening may bring.
+    fn any_kinds(random: &mut Random) -> [Kind; PARTIES] {
+        let mut kinds = [DESK; PARTIES];
+        for kind in &mut kinds {
+            *kind = random.below(4) as u8;
+        }
+        kinds[random.below(32) as usize] = DESK;
+        kinds
+    }
+
     /// A record made up at random, near enough to fitting to do so at times.
     fn any_record(random: &mut Random) -> Hub {
         let wild = random.one_in(4);
         let mut hub = Hub::open(1 + random.below(32) as u8, 1 + random.below(32) as u8).unwrap();
         hub.counter = random.below(65) as i32 - 32;
         hub.begun = random.below(MAX_BEGUN + 1);
+        hub.kinds = any_kinds(random);
         hub.oldest = random.below(MAX_BEGUN - 300);
         hub.next_ticket = hub.oldest + random.below(SPAN + 1);
         hub.next_resume = hub.oldest + random.below(SPAN + 1);
         if wild {
-            match random.below(6) {
+            match random.below(8) {
+                6 => hub.kinds[random.below(32) as usize] = random.below(256) as u8,
+                7 => hub.kinds = hub.kinds.map(|kind| kind.max(1)),
                 0 => hub.permits = random.below(256) as u8,
                 1 => hub.parties = random.below(256) as u8,
                 2 => hub.counter = random.below(u32::MAX) as i32,
@@ -2156,8 +2603,9 @@ mod schedules {
     fn random_lines() {
         for seed in 0..40 {
             let mut random = Random::seeded(seed);
-            let opening = ["010203\n", "020203A7A6\n"][random.below(2) as usize];
-            let mut input = opening.as_bytes().to_vec();
+            let opening = ["010203", "020203A7A6"][random.below(2) as usize];
+            let kinds = "0003".repeat(16 * random.below(2) as usize);
+            let mut input = format!("{opening}{kinds}\n").into_bytes();
             let mut lines = 2;
             for _ in 0..2_000 {
                 let (code, party) = (0x10 + random.below(5), random.below(4));
@@ -2189,7 +2637,17 @@ mod operations {
             permits,
             parties,
             radios: radios.then(|| (0..permits).map(|at| 0xA7 - at).collect()),
+            kinds: Vec::new(),
         }
+    }
+
+    /// The same with these parties of kind 3, and desks besides.
+    fn with_rounds(opening: Opening, rounds: &[usize]) -> Opening {
+        let mut kinds = vec![DESK; PARTIES];
+        for &party in rounds {
+            kinds[party] = BATTERY_ROUND;
+        }
+        Opening { kinds, ..opening }
     }
 
     fn line(permits: u8, parties: u8, holders: &[u8], waiting: &[u8]) -> Screen {
@@ -2197,6 +2655,7 @@ mod operations {
             permits,
             parties,
             radios: false,
+            kinds: built_in_kinds(),
             holders: holders.iter().copied().collect(),
             waiting: waiting.to_vec(),
         }
@@ -2216,6 +2675,7 @@ mod operations {
             permits: hub.permits,
             parties: hub.parties,
             radios: hub.pool.is_some(),
+            kinds: hub.kinds,
             holders: in_phase(|phase| (phase == Phase::Holding).then_some(0)).collect(),
             waiting: in_phase(|phase| match phase {
                 Phase::Waiting(t) => Some(t),
@@ -2321,6 +2781,33 @@ mod operations {
         );
     }
 
+    /// By the house's own kinds: 1 must wait, and 30 need not.
+    #[test]
+    fn moves_with_own_kinds() {
+        use Refusal::*;
+        for radios in [false, true] {
+            let fetched = done(1 + u8::from(radios));
+            assert_rows(
+                with_rounds(opening(1, 32, radios), &[1, 2]),
+                &[
+                    (Ask, 31, fetched, (&[31], &[])),
+                    (GiveUp, 1, Err(NotWaiting), (&[31], &[])),
+                    (Ask, 1, done(3), (&[31], &[1])),
+                    (Ask, 30, done(3), (&[31], &[1, 30])),
+                    (Ask, 2, done(3), (&[31], &[1, 30, 2])),
+                    (GiveUp, 1, Err(MustWait), (&[31], &[1, 30, 2])),
+                    (GiveUp, 2, Err(MustWait), (&[31], &[1, 30, 2])),
+                    (GiveUp, 30, done(2), (&[31], &[1, 2])),
+                    (GiveUp, 31, Err(NotWaiting), (&[31], &[1, 2])),
+                    (GiveBack, 31, wakes(1), (&[1], &[2])),
+                    (GiveUp, 1, Err(NotWaiting), (&[1], &[2])),
+                    (GiveBack, 1, wakes(2), (&[2], &[])),
+                    (GiveBack, 2, fetched, (&[], &[])),
+                ],
+            );
+        }
+    }
+
     /// Every move on a line that is never reached is 1, whoever makes it.
     #[test]
     fn lines_never_reached() {
@@ -2375,12 +2862,17 @@ mod operations {
         all
     }
 
-    /// The lines that moves reach are those that are said to be, among all.
+    /// The lines that moves reach are those that are said to be, among all,
+    /// whoever may give up.
     #[test]
     fn reached_lines_of_small_hubs() {
         assert_eq!(sequences(2, 2).len(), 1 + 2 + 4);
-        for (permits, parties) in (1..=4).flat_map(|k| (1..=4).map(move |n| (k, n))) {
-            let opened = Screen::open(&opening(permits, parties, false)).unwrap();
+        let sizes = (1..=4).flat_map(|k| (1..=4).map(move |n| (k, n)));
+        let rounds: [&[usize]; 3] = [&[], &[1], &[0, 1, 2, 3]];
+        for ((permits, parties), rounds) in sizes.flat_map(|size| rounds.map(|some| (size, some))) {
+            let opening = with_rounds(opening(permits, parties, false), rounds);
+            let opened = Screen::open(&opening).unwrap();
+            let kinds = opened.kinds;
             let mut reached = vec![opened];
             let mut at = 0;
             while at < reached.len() {
@@ -2401,7 +2893,10 @@ mod operations {
             for holders in 0..1 << (parties + 1) {
                 let holders: Vec<u8> = (0..=parties).filter(|p| holders >> p & 1 == 1).collect();
                 for waiting in &candidates {
-                    let screen = line(permits, parties, &holders, waiting);
+                    let screen = Screen {
+                        kinds,
+                        ..line(permits, parties, &holders, waiting)
+                    };
                     if screen.is_reached() {
                         assert!(reached.contains(&screen), "{:?}", screen);
                         expected += 1;
@@ -2438,6 +2933,9 @@ mod operations {
         for (permits, parties) in [(1, 2), (1, 3), (2, 3), (2, 4), (4, 3)] {
             for radios in [false, true] {
                 let opening = opening(permits, parties, radios);
+                let screen = Screen::open(&opening).unwrap();
+                assert_alike(&screen, &opening.hub().unwrap(), 7);
+                let opening = with_rounds(opening, &[1]);
                 let screen = Screen::open(&opening).unwrap();
                 assert_alike(&screen, &opening.hub().unwrap(), 7);
             }
@@ -2477,7 +2975,11 @@ mod operations {
                 1 + random.below(most) as u8
             });
             let parties = if random.one_in(4) { 32 } else { parties };
-            let opening = opening(permits, parties, random.one_in(2));
+            let mut opening = opening(permits, parties, random.one_in(2));
+            if random.one_in(2) {
+                let rounds: Vec<usize> = (1..PARTIES).filter(|_| random.one_in(4)).collect();
+                opening = with_rounds(opening, &rounds);
+            }
             let mut screen = Screen::open(&opening).unwrap();
             let mut hub = opening.hub().unwrap();
             let calm = [1, 3, 1_000][random.below(3) as usize];
@@ -2570,6 +3072,50 @@ mod operations {
         ]);
     }
 
+    /// Openings with kinds, and what refuses them.
+    #[test]
+    fn printed_lines_with_own_kinds() {
+        let nobody = "- held waiting";
+        let few = |count: usize| format!("010120{}", "00".repeat(count));
+        let doors = "01".repeat(32);
+        let rounds = format!("03{}", "00".repeat(31));
+        let radios: String = (0..32).map(|at| format!("{at:02X}")).collect();
+        let longest = format!("022020{radios}{rounds}");
+        assert_eq!(longest.len(), 134);
+        assert_printed(&[
+            ("01012", &format!("0C FF {nobody}")),
+            (&few(78), &format!("0C FF {nobody}")),
+            (&few(77), &format!("0F FF {nobody}")),
+            (&few(64), &format!("0F FF {nobody}")),
+            (&few(33), &format!("0F FF {nobody}")),
+            (&few(31), &format!("0F FF {nobody}")),
+            (&few(1), &format!("0F FF {nobody}")),
+            (&format!("010001{doors}"), &format!("02 FF {nobody}")),
+            (&format!("010121{doors}"), &format!("03 FF {nobody}")),
+            (&format!("0202200707{doors}"), &format!("0E FF {nobody}")),
+            (&format!("{}04", few(31)), &format!("10 FF {nobody}")),
+            (
+                &format!("010101{}", "04".repeat(32)),
+                &format!("10 FF {nobody}"),
+            ),
+            (&format!("010120{doors}"), &format!("11 FF {nobody}")),
+            (&format!("010120{rounds}"), &format!("1F FF {nobody}")),
+            ("101F", "20 1F 1 held 31 waiting"),
+            ("1000", "20 00 3 held 31 waiting 0"),
+            ("101E", "20 1E 3 held 31 waiting 0 30"),
+            ("1200", "0A 00 - held 31 waiting 0 30"),
+            (&few(32), "0D FF - held 31 waiting 0 30"),
+            (&few(31), "0D FF - held 31 waiting 0 30"),
+            ("1200", "0A 00 - held 31 waiting 0 30"),
+            ("121E", "20 1E 2 held 31 waiting 0"),
+            ("131F", "20 1F 3 held 0 waiting"),
+        ]);
+        assert_printed(&[
+            (&longest, &format!("1F FF {nobody}")),
+            ("1000", "20 00 2 held 0 waiting"),
+        ]);
+    }
+
     /// The screen has neither 6 nor 7.
     #[test]
     fn the_screen_never_runs_out() {
@@ -2622,6 +3168,42 @@ mod operations {
         assert_eq!(desk::operate(&[1, 32, 32], &[], 0), Ok(vec![]));
     }
 
+    /// Openings with kinds as bytes, also where no line could bring them.
+    #[test]
+    fn operate_with_own_kinds() {
+        let mut kinds = [2; 32];
+        kinds[31] = 0;
+        kinds[0] = 3;
+        let operations = [
+            0x10, 30, 0x10, 0, 0x10, 31, 0x12, 0, 0x12, 31, 0x13, 30, 0x12, 0,
+        ];
+        let expected = |got| {
+            let rows = [
+                [0x20, 255, got],
+                [0x20, 255, 3],
+                [0x20, 255, 3],
+                [10, 255, 0],
+                [0x20, 255, 2],
+                [0x20, 0, 3],
+                [9, 255, 0],
+            ];
+            Ok(rows.concat())
+        };
+        let plain = [&[1, 1, 32], &kinds[..]].concat();
+        assert_eq!(desk::operate(&plain, &operations, 21), expected(1));
+        let with_radio = [&[2, 1, 32, 0], &kinds[..]].concat();
+        assert_eq!(desk::operate(&with_radio, &operations, 21), expected(2));
+        assert_eq!(desk::operate(&plain, &operations, 20), Err(255));
+        for more in [1, 31, 33, 64, 77, 78, 1000] {
+            let opening = [vec![1, 1, 1], vec![0; more]].concat();
+            assert_eq!(desk::operate(&opening, &[], 0), Err(15));
+            let opening = [vec![2, 255, 1], vec![0; 255 + more]].concat();
+            assert_eq!(desk::operate(&opening, &[], 0), Err(2));
+        }
+        let opening = [vec![2, 255, 1], vec![0; 254]].concat();
+        assert_eq!(desk::operate(&opening, &[], 0), Err(12));
+    }
+
     /// The opening's refusals, malformed operations, no room, in this order.
     #[test]
     fn operate_results() {
@@ -2629,7 +3211,7 @@ mod operations {
         for (opening, refusal) in [
             (&[][..], 12),
             (&[1, 1], 12),
-            (&[1, 0, 0, 0], 12),
+            (&[1, 0, 0, 0], 2),
             (&[2, 2, 0, 7], 12),
             (&[3, 1, 1], 12),
             (&[0x10, 0], 12),
@@ -2639,6 +3221,11 @@ mod operations {
             (&[1, 1, 0], 3),
             (&[2, 2, 33, 7, 7], 3),
             (&[2, 2, 2, 7, 7], 14),
+            (&[2, 2, 2, 7, 7, 0], 14),
+            (&[1, 1, 1, 4], 15),
+            (&[2, 1, 1, 7, 0], 15),
+            (&[&[1, 1, 1], &[4; 32][..]].concat(), 16),
+            (&[&[1, 1, 1], &[3; 32][..]].concat(), 17),
         ] {
             assert_eq!(desk::operate(opening, &odd, 0), Err(refusal), "{opening:?}");
         }

@@ -1,12 +1,13 @@
 // Whole operations as C sees them: asks, give-ups and give-backs on a hub with radios and without,
-// the paper's last edge, and each way in which a run is refused.
+// with a house's own kinds, the paper's last edge, and each way in which a run is refused.
 #include <stdint.h>
 #include <stdio.h>
 #include <string.h>
 
-// The opening is a frame as in a line: 01, K, n, or 02, K, n and K radios. An operation is 10, 12 or
-// 13 and a party. 0 done; 2, 3, 12 or 14 not opened, by the opening's refusal; 254 malformed
-// operations, 255 no room. A slice is its address and its length.
+// The opening is a frame as in a line: 01, K, n, or 02, K, n and K radios, and after either the kinds
+// of the 32 parties, or nothing. An operation is 10, 12 or 13 and a party. 0 done; 2, 3, 12 or 14 to
+// 17 not opened, by the opening's refusal; 254 malformed operations, 255 no room. A slice is its
+// address and its length.
 uint8_t hub_operate(const uint8_t *opening, size_t opening_len, const uint8_t *operations,
                     size_t operations_len, uint8_t *out, size_t out_len);
 
@@ -52,6 +53,14 @@ static const uint8_t radio_answers[] = {
     11,   255, 0, //
     0x20, 255, 2, // 26 and 38
     0x20, 255, 2, //
+};
+
+static const uint8_t kind_operations[] = {0x10, 1, 0x10, 0, 0x10, 2, 0x12, 0, 0x12, 2, 0x13, 1};
+
+// with K 1 and n 3, and kind 3 at party 0, then at party 2
+static const uint8_t kind_answers[2][18] = {
+    {0x20, 255, 1, 0x20, 255, 3, 0x20, 255, 3, 10, 255, 0, 0x20, 255, 2, 0x20, 0, 3},
+    {0x20, 255, 1, 0x20, 255, 3, 0x20, 255, 3, 0x20, 255, 2, 10, 255, 0, 0x20, 2, 3},
 };
 
 static int failures = 0;
@@ -101,6 +110,20 @@ static void edge(const char *name, size_t given_up, const uint8_t *last_three) {
     }
 }
 
+// The first bytes of an opening in `frame`, and so many kinds after them, all the same but for one
+// party's. How long it then is.
+static uint8_t frame[3 + 32 + 255];
+
+static size_t opening(const uint8_t *first, size_t first_len, size_t kinds, uint8_t kind,
+                      size_t party, uint8_t other) {
+    memcpy(frame, first, first_len);
+    memset(frame + first_len, kind, kinds);
+    if (party < kinds) {
+        frame[first_len + party] = other;
+    }
+    return first_len + kinds;
+}
+
 #define FRAME(...) (const uint8_t[]){__VA_ARGS__}, sizeof((const uint8_t[]){__VA_ARGS__})
 
 int main(void) {
@@ -122,22 +145,54 @@ int main(void) {
     refused("no parties, and two radios alike", FRAME(2, 2, 0, 7, 7), 3);
     refused("two radios alike", FRAME(2, 3, 3, 7, 0, 7), 14);
     refused("one radio too few", FRAME(2, 2, 3, 7), 12);
-    refused("one radio too many", FRAME(2, 2, 3, 7, 8, 9), 12);
+    refused("one radio too many, which is a kind", FRAME(2, 2, 3, 7, 8, 9), 15);
     refused("an empty opening", operations, 0, 12);
     refused("an opening cut short", FRAME(1, 1), 12);
-    refused("a longer opening", FRAME(1, 1, 3, 0), 12);
     refused("an unknown opening", FRAME(3, 1, 3), 12);
     refused("an operation for an opening", FRAME(0x10, 0), 12);
     uint8_t most[36] = {2, 33, 33};
     refused("33 radios, all alike, and 33 parties", most, sizeof most, 2);
     most[1] = 32;
-    refused("32 permits and 33 radios", most, sizeof most, 12);
+    refused("33 parties, 32 radios alike and a kind", most, sizeof most, 3);
     most[2] = 32;
     refused("32 radios alike", most, sizeof most - 1, 14);
     for (uint8_t at = 0; at < 32; at++) {
         most[3 + at] = 200 - at;
     }
     expect("32 radios", most, sizeof most - 1, FRAME(0x10, 31), 3, 0, FRAME(0x20, 255, 2));
+    size_t kind_all = sizeof kind_operations, kind_room = sizeof kind_answers[0], len;
+    for (size_t at = 0; at < 2; at++) {
+        len = opening(FRAME(1, 1, 3), 32, 0, 2 * at, 3);
+        expect("kind 3", frame, len, kind_operations, kind_all, kind_room, 0, kind_answers[at],
+               kind_room);
+    }
+    len = opening(FRAME(1, 2, 31), 32, 1, 0, 0);
+    memset(frame + 3, 0, 8);
+    memset(frame + 3 + 28, 2, 2);
+    memset(frame + 3 + 30, 3, 2);
+    expect("the built-in kinds", frame, len, operations, all, room, 0, answers, room);
+    len = opening(FRAME(2, 1, 3, 0xA7), 32, 1, 31, 0);
+    expect("kinds and a radio", frame, len, radio_operations, radio_all, radio_room, 0, radio_answers,
+           radio_room);
+    len = opening(most, sizeof most - 1, 32, 2, 9, 0);
+    expect("32 radios and 32 kinds", frame, len, FRAME(0x10, 31), 3, 0, FRAME(0x20, 255, 2));
+    refused("one radio too few, and no kinds", frame, 3 + 31, 12);
+    refused("one kind too few", frame, len - 1, 15);
+    refused("one kind", frame, opening(FRAME(1, 1, 3), 1, 0, 0, 0), 15);
+    refused("31 kinds", frame, opening(FRAME(1, 1, 3), 31, 0, 0, 0), 15);
+    refused("33 kinds", frame, opening(FRAME(1, 1, 3), 33, 0, 0, 0), 15);
+    refused("255 kinds", frame, opening(FRAME(2, 1, 3, 7), 255, 0, 0, 0), 15);
+    refused("a kind of party 0 that there is not", frame, opening(FRAME(1, 1, 3), 32, 0, 0, 4), 16);
+    refused("a kind of party 3 that there is not", frame, opening(FRAME(1, 1, 3), 32, 0, 3, 4), 16);
+    refused("a kind of party 31 that there is not", frame, opening(FRAME(2, 1, 3, 7), 32, 0, 31, 255),
+            16);
+    refused("no desk", frame, opening(FRAME(1, 1, 3), 32, 1, 0, 2), 17);
+    refused("no desk, a radio 0", frame, opening(FRAME(2, 1, 3, 0), 32, 3, 0, 1), 17);
+    refused("no permits, one kind", frame, opening(FRAME(1, 0, 0), 1, 4, 0, 4), 2);
+    refused("no parties, no desk", frame, opening(FRAME(1, 1, 0), 32, 4, 0, 4), 3);
+    refused("radios alike, one kind", frame, opening(FRAME(2, 2, 3, 7, 7), 1, 4, 0, 4), 14);
+    refused("33 kinds that there are not", frame, opening(FRAME(1, 1, 3), 33, 4, 0, 4), 15);
+    refused("no desk, and a kind that there is not", frame, opening(FRAME(1, 1, 3), 32, 1, 31, 4), 16);
     // malformed comes before no room
     expect("half an operation", FRAME(1, 2, 31), operations, all - 1, 0, 254, answers, 0);
     expect("one byte", FRAME(1, 2, 31), operations, 1, room, 254, answers, 0);

@@ -3,17 +3,22 @@
 //! librun.a.
 
 mod early;
+mod kinds;
 mod library;
 mod process;
 mod schedules;
 
 use early::{Early, Follower};
+use kinds::{Kinds, Opening};
 use library::hub_run;
-use schedules::{hex, schedule, Random, Schedule, Seen};
+use schedules::{hex, opening, schedule, Random, Schedule, Seen};
 use std::env;
 use std::process::ExitCode;
 
 const ANSWER: usize = 7;
+
+/// Openings without calls after them, for each schedule.
+const OPENINGS: usize = 10;
 
 /// The answers of the proved code, the opening's first.
 fn proved(schedule: &Schedule) -> Vec<[u8; ANSWER]> {
@@ -36,12 +41,22 @@ fn second(program: &str, schedule: &Schedule, answers: usize) -> Vec<String> {
     text.lines().take(answers).map(str::to_string).collect()
 }
 
-/// The refusal of an opening that no line can carry: the archive has no lines, and judges it by its
-/// length and its K.
-fn past_a_line(schedule: &Schedule) -> Option<u8> {
-    let length = schedule.opening().len();
-    let whole = length == 3 + usize::from(schedule.permits);
-    (length > 80).then_some(if whole { 2 } else { 12 })
+/// Bytes of the longest opening that a line can carry. The archive has no lines, and judges longer
+/// ones too.
+const LINE: usize = 80;
+
+/// Follows a schedule and its answers; false if one of them is not what the opening says.
+fn follow(early: &mut Early, kinds: &mut Kinds, schedule: &Schedule, answers: &[[u8; 7]]) -> bool {
+    let frame = schedule.opening();
+    if !kinds.opens(&frame, false, answers[0][0]) {
+        return false;
+    }
+    let Some(opening) = Opening::read(&frame).filter(|_| answers[0][0] == 0x1F) else {
+        return true;
+    };
+    let mut hub = Follower::opened(&opening);
+    let mut calls = schedule.calls.iter().zip(&answers[1..]);
+    calls.all(|(call, answer)| hub.enter(early, kinds, *call, answer[0]))
 }
 
 fn main() -> ExitCode {
@@ -53,35 +68,41 @@ fn main() -> ExitCode {
     let schedules: u64 = schedules.parse().expect("SCHEDULES is a number");
     let mut seen = Seen::nothing();
     let mut early = Early::nothing();
+    let mut kinds = Kinds::nothing();
     for seed in 1..=schedules {
-        let s = schedule(&mut Random::seeded(seed), 4000);
+        let random = &mut Random::seeded(seed);
+        let s = schedule(random, 4000);
         let answers = proved(&s);
-        if let Some(refusal) = past_a_line(&s) {
-            if answers[0][0] != refusal {
-                println!("schedule {seed}: opening {}: {}", hex(&s.opening()), answers[0][0]);
-                return ExitCode::FAILURE;
-            }
-            continue;
-        }
         let ours: Vec<String> = answers.iter().map(|answer| hex(answer)).collect();
-        let theirs = second(program, &s, answers.len());
+        let past_a_line = s.opening().len() > LINE;
+        let theirs = if past_a_line { ours.clone() } else { second(program, &s, answers.len()) };
         if ours != theirs {
             let at = ours.iter().zip(&theirs).take_while(|(a, b)| a == b).count();
             println!("schedule {seed}: opening {}, line {}", hex(&s.opening()), at + 1);
             println!("archive: {:?}\nsecond:  {:?}", ours.get(at), theirs.get(at));
             return ExitCode::FAILURE;
         }
+        if !follow(&mut early, &mut kinds, &s, &answers) {
+            println!("schedule {seed}: opening {}: {} is wrong", hex(&s.opening()), ours[0]);
+            return ExitCode::FAILURE;
+        }
         answers.iter().for_each(|answer| seen.count(answer[0]));
-        let mut hub = Follower::opened(s.radios.is_some());
-        for (call, answer) in s.calls.iter().zip(&answers[1..]) {
-            hub.enter(&mut early, *call, answer[0]);
+        for _ in 0..OPENINGS {
+            let alone = opening(random);
+            let answers = proved(&alone);
+            seen.count(answers[0][0]);
+            if !follow(&mut early, &mut kinds, &alone, &answers) {
+                println!("opening {}: {} is wrong", hex(&alone.opening()), hex(&answers[0]));
+                return ExitCode::FAILURE;
+            }
         }
     }
     println!("archive and second program: {schedules} schedules, all answers agree");
     // 1 no opening reaches, 6 takes a million asks, 13 is the program's; 12 is an opening's
-    let refusals = (2..=14).filter(|&refusal| refusal != 6 && refusal != 13);
+    let refusals = (2..=17).filter(|&refusal| refusal != 6 && refusal != 13);
     let answers = seen.shows(refusals.chain(0x1F..=0x33).chain(0x36..=0x39));
-    if early.shows(true) && answers {
+    let own_kinds = [kinds.shows_openings(false), kinds.shows_decided(true)];
+    if early.shows(true) && answers && own_kinds == [true; 2] {
         ExitCode::SUCCESS
     } else {
         ExitCode::FAILURE

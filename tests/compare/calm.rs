@@ -7,7 +7,7 @@ mod process;
 #[allow(dead_code)] // openings with radios are not for here
 mod schedules;
 
-use schedules::{hex, House, Random, Schedule, Seen, ASK, GIVE_BACK, GIVE_UP, STEP};
+use schedules::{hex, kinds, House, Random, Schedule, Seen, ASK, GIVE_BACK, GIVE_UP, STEP};
 use std::collections::BTreeSet;
 use std::env;
 use std::process::ExitCode;
@@ -141,10 +141,12 @@ fn schedule(random: &mut Random) -> Schedule {
     let parties = 1 + random.below(few) as u8;
     // few links, so that many wait
     let permits = 1 + random.below(1 + few / 8) as u8;
-    let mut schedule = Schedule { permits, parties, radios: None, calls: Vec::new() };
+    let kinds = random.one_in(2).then(|| kinds(random));
+    let mut schedule = Schedule { permits, parties, kinds, ..Schedule::default() };
     let most = random.pick(&[1, 30, 300, 2000]);
     let total = random.below(most);
-    schedule.live(random, &mut House::new(permits, parties), total);
+    let mut house = House::of(&schedule);
+    schedule.live(random, &mut house, total);
     for _ in 0..random.below(3) {
         let rush = [&[ASK, GIVE_UP][..], &[ASK, GIVE_BACK], &[GIVE_BACK, ASK, GIVE_UP]];
         for &call in random.pick(&rush) {

@@ -49,9 +49,13 @@ pub enum Clause {
     MoreForeign,
     MoreTwice,
     Missing,
+    /// No kind is above 3, of the parties from n up too.
+    Known,
+    /// One kind is 0.
+    Desk,
 }
 
-const CLAUSES: [(Clause, &str); 27] = [
+const CLAUSES: [(Clause, &str); 29] = [
     (Clause::Links, "K"),
     (Clause::Parties, "n"),
     (Clause::Counter, "counter"),
@@ -79,13 +83,17 @@ const CLAUSES: [(Clause, &str); 27] = [
     (Clause::MoreForeign, "foreign radio too many"),
     (Clause::MoreTwice, "radio once too often"),
     (Clause::Missing, "radio missing"),
+    (Clause::Known, "kind at most 3"),
+    (Clause::Desk, "desk"),
 ];
 
-/// What has a radio, by kind; then where that is.
+/// What has a radio; then where that is.
 const KEEPERS: [&str; 7] =
     ["holding", "giving back", "putting back", "carrying", "handing", "link place", "store"];
 const KEEPERS_AT: [&str; 6] =
     ["party 0", "party 31", "first place", "last place", "first stored", "32nd stored"];
+/// Whose kind is as high as it may be, or higher.
+const KINDS_OF: [&str; 4] = ["party 0", "party n - 1", "party n", "party 31"];
 
 /// Whether a record that breaks only this case exists, one step outside of its bound, and whether
 /// one that meets it exists, just at the bound.
@@ -173,6 +181,16 @@ impl Clause {
                 cases.extend(each(&["none stored", "32 stored"], INSIDE));
                 cases
             }
+            Clause::Known => {
+                let mut cases = each(&KINDS_OF, BOTH);
+                cases.extend(each(&["255"], OUTSIDE));
+                cases
+            }
+            Clause::Desk => {
+                let mut cases = each(&["all doors", "all of kind 3", "any"], OUTSIDE);
+                cases.extend(each(&["one, party 0", "one, below n", "one, from n up"], INSIDE));
+                cases
+            }
             Clause::Found => each(
                 &[
                     "party 0",
@@ -227,6 +245,7 @@ impl Judgement {
             judgement.alike(record);
             judgement.kept(record);
         }
+        judgement.kinds_of_parties(record);
         judgement
     }
 
@@ -304,7 +323,7 @@ impl Judgement {
             }
         }
         if record.phases[party].marked {
-            let kind_3 = if party >= 30 { 3 } else { 0 };
+            let kind_3 = if record.kinds[party] == 3 { 3 } else { 0 };
             self.at_bound.push((Clause::Mark, phase as usize - Phase::Asked as usize + kind_3));
         }
         if phase.has_number() {
@@ -399,6 +418,34 @@ impl Judgement {
 }
 
 impl Judgement {
+    fn kinds_of_parties(&mut self, record: &Record) {
+        let n = usize::from(record.parties);
+        for (party, &kind) in record.kinds.iter().enumerate() {
+            let at = [party == 0, party + 1 == n, party == n, party == PARTIES - 1];
+            let at = (0..).zip(at).filter(|(_, so)| *so).map(|(case, _)| (Clause::Known, case));
+            match kind {
+                0..=2 => {}
+                3 => self.at_bound.extend(at),
+                4 => self.breaks(Clause::Known, at),
+                255 => self.breaks(Clause::Known, at.chain([(Clause::Known, 4)])),
+                _ => self.breaks(Clause::Known, []),
+            }
+        }
+        let all = |kind| record.kinds.iter().all(|&other| other == kind);
+        let desks: Vec<usize> = (0..PARTIES).filter(|&party| record.kinds[party] == 0).collect();
+        let cases = match desks[..] {
+            [] => [all(1), all(3), true, false, false, false],
+            [one] => [false, false, false, one == 0, one < n, one >= n],
+            _ => return,
+        };
+        let cases = (0..).zip(cases).filter(|(_, so)| *so).map(|(case, _)| (Clause::Desk, case));
+        if desks.is_empty() {
+            self.breaks(Clause::Desk, cases);
+        } else {
+            self.at_bound.extend(cases);
+        }
+    }
+
     fn alike(&mut self, record: &Record) {
         let k = record.radios();
         let (opening, past) = record.opening.split_at(k);
@@ -425,8 +472,8 @@ impl Judgement {
         let surplus: usize = (0..=255).map(|radio| more(&radios, opening, radio)).sum();
         let lack: usize = (0..=255).map(|radio| more(opening, &radios, radio)).sum();
         if surplus + lack == 0 {
-            let labels = keepers.iter().flat_map(|&keeper| kinds(record, keeper));
-            self.at_bound.extend(labels.map(|kind| (Clause::Foreign, kind)));
+            let cases = keepers.iter().flat_map(|&keeper| keeper_cases(record, keeper));
+            self.at_bound.extend(cases.map(|case| (Clause::Foreign, case)));
             self.at_bound.extend(record.store.is_empty().then_some((Clause::Missing, 3)));
             self.at_bound.extend((record.store.len() == RADIOS).then_some((Clause::Missing, 4)));
             return;
@@ -450,34 +497,35 @@ impl Judgement {
             labels.extend((k == RADIOS).then_some((clause, 2)));
         }
         for keeper in keepers.into_iter().filter(|&keeper| wrong(record.radio(keeper))) {
-            labels.extend(kinds(record, keeper).into_iter().map(|kind| (clause, kind)));
+            let cases = keeper_cases(record, keeper);
+            labels.extend(cases.into_iter().map(|case| (clause, case)));
         }
         if clause != Clause::Foreign {
             // where it is, is asked of that one alone
-            labels.retain(|&(_, kind)| kind < KEEPERS.len());
+            labels.retain(|&(_, case)| case < KEEPERS.len());
         }
         self.breaks(clause, labels);
     }
 }
 
-/// The cases of a keeper: its kind, and where it is.
-fn kinds(record: &Record, keeper: Keeper) -> Vec<usize> {
-    let (kind, at) = match keeper {
+/// The cases of a keeper: what it is, and where it is.
+fn keeper_cases(record: &Record, keeper: Keeper) -> Vec<usize> {
+    let (what, at) = match keeper {
         Keeper::Party(party) => {
-            let kind = match record.phases[party].phase {
+            let what = match record.phases[party].phase {
                 Phase::Holding => 0,
                 Phase::GivingBack => 1,
                 Phase::PuttingBack => 2,
                 Phase::Carrying => 3,
                 _ => 4,
             };
-            (kind, [party == 0, party + 1 == PARTIES, false, false, false, false])
+            (what, [party == 0, party + 1 == PARTIES, false, false, false, false])
         }
         Keeper::Place(at) => (5, [false, false, at == 0, at + 1 == PLACES, false, false]),
         Keeper::Store(at) => (6, [false, false, false, false, at == 0, at + 1 == RADIOS]),
     };
     let at = (KEEPERS.len()..).zip(at).filter(|(_, so)| *so).map(|(case, _)| case);
-    [kind].into_iter().chain(at).collect()
+    [what].into_iter().chain(at).collect()
 }
 
 /// How often each case of a clause decided alone: the record was refused for nothing else, one

@@ -2,6 +2,7 @@
 //! they print must be equal byte for byte. What is printed for an operation must also be what the
 //! operation makes of the line printed before. Usage: desk PROVED SECOND INPUTS.
 
+mod kinds;
 mod lines;
 mod operations;
 mod process;
@@ -9,9 +10,10 @@ mod process;
 #[allow(dead_code)]
 mod schedules;
 
-use lines::{bytes, damaged, joined, outputs, show, Programs};
+use kinds::{Kinds, Opening};
+use lines::{bytes, damaged, frame, joined, openings, outputs, show, Programs, LONGEST};
 use operations::{operations, Line, Met};
-use schedules::{hex, Random, Seen, RADIO, STEP};
+use schedules::{hex, Random, Seen, BUILT_IN, GIVE_UP, RADIO, STEP};
 use std::env;
 use std::process::ExitCode;
 
@@ -26,8 +28,8 @@ const MEETINGS: [&str; 21] = [
     "4 for party n",
     "9 for a party of kind 3",
     "9 for a holder",
-    "10 for party 30",
-    "10 for party 31",
+    "10 for party 30, built in",
+    "10 for party 31, built in",
     "11 for a waiting party",
     "13 for an opening",
     "13 for an operation",
@@ -44,7 +46,7 @@ const MEETINGS: [&str; 21] = [
     "a last line without its end",
 ];
 
-/// The input of a seed: mostly good lists of operations, then damaged ones, then bytes.
+/// The input of a seed: mostly good lists of operations, then damaged ones, openings, bytes.
 fn input(seed: u64) -> Vec<u8> {
     let random = &mut Random::seeded(seed);
     match LAST.iter().position(|&last| last == seed) {
@@ -53,8 +55,9 @@ fn input(seed: u64) -> Vec<u8> {
         Some(_) => return over_and_over("", "1000\n1300\n", 1_000_001),
         None => {}
     }
-    match random.below(10) {
+    match random.below(11) {
         0 => bytes(random),
+        10 => openings(random),
         1..=4 => {
             let mut lines = operations(random, 800).lines();
             add_calls(random, &mut lines);
@@ -80,18 +83,6 @@ fn add_calls(random: &mut Random, lines: &mut [String]) {
             line.replace_range(..2, &hex(&[random.pick(&[STEP, RADIO])]));
         }
     }
-}
-
-/// The bytes of a line of digits.
-fn frame(line: &[u8]) -> Option<Vec<u8>> {
-    let pair = |pair: &[u8]| match *pair {
-        [high, low] => {
-            let [high, low] = [high, low].map(|digit| char::from(digit).to_digit(16));
-            Some((high? << 4 | low?) as u8)
-        }
-        _ => None,
-    };
-    line.chunks(2).map(pair).collect()
 }
 
 /// A printed line.
@@ -123,11 +114,26 @@ impl Said {
     }
 }
 
+/// What an accepted opening says.
+#[derive(Clone, Copy)]
+struct Opened {
+    parties: u8,
+    radios: bool,
+    kinds: [u8; 32],
+}
+
+impl Opened {
+    fn read(frame: &[u8]) -> Option<Self> {
+        let opening = Opening::read(frame)?;
+        let (radios, kinds) = (opening.radios.is_some(), opening.kinds());
+        Some(Opened { parties: opening.parties, radios, kinds })
+    }
+}
+
 /// What the lines and their answers have told so far.
 #[derive(Default)]
 struct Story {
-    /// The parties, and whether there are radios.
-    opened: Option<(u8, bool)>,
+    opened: Option<Opened>,
     /// An opening was refused.
     refused: bool,
     line: Line,
@@ -135,16 +141,21 @@ struct Story {
 
 impl Story {
     /// One line more and what was printed for it. False if it is not what the line before leads to.
-    fn goes_on(&mut self, met: &mut Met, text: &[u8], said: &Said) -> bool {
+    fn goes_on(&mut self, met: &mut Met, kinds: &mut Kinds, text: &[u8], said: &Said) -> bool {
         let frame = frame(text).unwrap_or_default();
         let before = self.line.clone();
         let is_open = self.opened.is_some();
+        let is_opening = matches!(frame[..], [1 | 2, ..]);
+        let is_line = text.len() <= LONGEST;
+        if is_opening && is_line && !kinds.opens(&frame, is_open, said.code) {
+            return false;
+        }
         let sound = match (said.code, &frame[..], self.opened) {
-            (0x1F, &[code, _, parties, ..], None) => {
-                self.opened = Some((parties, code == 2));
-                said.steps.is_none()
+            (0x1F, _, None) => {
+                self.opened = Opened::read(&frame);
+                self.opened.is_some() && said.steps.is_none()
             }
-            (0x20, &[code, party], Some((_, radios))) => {
+            (0x20, &[code, party], Some(Opened { radios, .. })) => {
                 let waits = said.line.waiting.contains(&party);
                 match (self.line.follow([code, party], waits), said.steps) {
                     (Some((shape, _)), Some(steps)) => met.shape(shape, radios, steps),
@@ -153,20 +164,25 @@ impl Story {
             }
             (code, ..) => code < 0x1F && said.steps.is_none(),
         };
-        let of_kind_3 = (30..32).contains(&said.party);
-        let last = self.opened.is_some_and(|(parties, _)| said.party == parties - 1);
-        let beyond = self.opened.is_some_and(|(parties, _)| said.party == parties);
-        let is_opening = matches!(frame[..], [1 | 2, ..]);
+        let caller = |opened: Opened| opened.kinds.get(usize::from(said.party)).copied();
+        let kind = self.opened.and_then(caller).unwrap_or_default();
+        if matches!(frame[..], [GIVE_UP, _]) && !kinds.gives_up(false, said.party, kind, said.code)
+        {
+            return false;
+        }
+        let built_in = self.opened.is_some_and(|opened| opened.kinds == BUILT_IN);
+        let last = self.opened.is_some_and(|opened| said.party == opened.parties - 1);
+        let beyond = self.opened.is_some_and(|opened| said.party == opened.parties);
         let whole =
             matches!(frame[..], [2, permits, ..] if frame.len() == 3 + usize::from(permits));
         let facts = [
             ("all 32 parties on the line", before.holders.len() + before.waiting.len() == 32),
             ("party n - 1 accepted", said.code == 0x20 && last),
             ("4 for party n", said.code == 4 && beyond),
-            ("9 for a party of kind 3", said.code == 9 && of_kind_3),
+            ("9 for a party of kind 3", said.code == 9 && kind == 3),
             ("9 for a holder", said.code == 9 && before.holders.contains(&said.party)),
-            ("10 for party 30", said.code == 10 && said.party == 30),
-            ("10 for party 31", said.code == 10 && said.party == 31),
+            ("10 for party 30, built in", said.code == 10 && said.party == 30 && built_in),
+            ("10 for party 31, built in", said.code == 10 && said.party == 31 && built_in),
             ("11 for a waiting party", said.code == 11 && before.waiting.contains(&said.party)),
             ("13 for an opening", said.code == 13 && is_opening),
             ("13 for an operation", said.code == 13 && !is_opening),
@@ -181,7 +197,7 @@ impl Story {
                 "not 12 for small letters",
                 said.code != 12 && text.iter().any(u8::is_ascii_lowercase),
             ),
-            ("not 12 for 160 characters", said.code != 12 && text.len() == 160),
+            ("not 12 for 160 characters", said.code != 12 && text.len() == LONGEST),
             ("12 for 162 characters", whole && text.len() == 162),
         ];
         for (name, _) in facts.iter().filter(|(_, fact)| *fact) {
@@ -191,14 +207,18 @@ impl Story {
             }
             met.meet(name);
         }
-        self.refused |= matches!(said.code, 2 | 3 | 14);
+        self.refused |= matches!(said.code, 2 | 3 | 14..=17);
         sound && self.line == said.line
     }
 }
 
 /// Counts what an input met. The number of the first line that should not have been printed, if
 /// there is one.
-fn told(seen: &mut Seen, met: &mut Met, input: &[u8], output: &[u8]) -> Option<usize> {
+fn told(
+    (seen, met, kinds): (&mut Seen, &mut Met, &mut Kinds),
+    input: &[u8],
+    output: &[u8],
+) -> Option<usize> {
     let ended = input.is_empty() || input.ends_with(b"\n");
     if !ended {
         met.meet("a last line without its end");
@@ -211,7 +231,8 @@ fn told(seen: &mut Seen, met: &mut Met, input: &[u8], output: &[u8]) -> Option<u
     let printed: Vec<&str> = text.lines().collect();
     let mut story = Story::default();
     for (at, (line, text)) in lines.iter().zip(&printed).enumerate() {
-        let Some(said) = Said::read(text).filter(|said| story.goes_on(met, line, said)) else {
+        let said = Said::read(text).filter(|said| story.goes_on(met, kinds, line, said));
+        let Some(said) = said else {
             return Some(at + 1);
         };
         seen.count(said.code);
@@ -229,6 +250,7 @@ fn main() -> ExitCode {
     let inputs: u64 = inputs.parse().expect("INPUTS is a number");
     let mut seen = Seen::nothing();
     let mut met = Met::nothing(&MEETINGS);
+    let mut kinds = Kinds::nothing();
     for seed in (1..=inputs).chain(LAST) {
         let input = input(seed);
         let piece = [input.len(), 4096, 7][(seed % 3) as usize];
@@ -237,16 +259,17 @@ fn main() -> ExitCode {
             show(programs, seed, &input, piece);
             return ExitCode::FAILURE;
         }
-        if let Some(line) = told(&mut seen, &mut met, &input, &ours) {
+        if let Some(line) = told((&mut seen, &mut met, &mut kinds), &input, &ours) {
             println!("seed {seed}: both programs are wrong in line {line}");
             return ExitCode::FAILURE;
         }
     }
     println!("desk and second program: {inputs} inputs and three more, equal");
     // 1 no opening reaches; 6, 7 and 8 are the hub's
-    let codes = [2, 3, 4, 5, 9, 10, 11, 12, 13, 14, 0x1F, 0x20];
+    let codes = [2, 3, 4, 5, 9, 10, 11, 12, 13, 14, 15, 16, 17, 0x1F, 0x20];
     let answers = seen.shows(codes.into_iter());
-    if met.shows() && answers {
+    let own_kinds = [kinds.shows_openings(true), kinds.shows_decided(false)];
+    if met.shows() && answers && own_kinds == [true; 2] {
         ExitCode::SUCCESS
     } else {
         ExitCode::FAILURE

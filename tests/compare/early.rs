@@ -1,6 +1,7 @@
 //! Early give-ups: what parties asked, unnumbered or numbered met, marked and not. Each meeting
 //! that is asked for must have occurred.
 
+use crate::kinds::{Kinds, Opening};
 use crate::schedules::{ASK, GIVE_UP, STEP};
 
 /// The phases before a wait.
@@ -42,9 +43,15 @@ impl Early {
         Early([0; MEETINGS.len()])
     }
 
-    /// A call by a party in such a phase, and its answer.
-    pub fn count(&mut self, phase: Before, marked: bool, call: [u8; 2], code: u8, radios: bool) {
-        let meeting = match (call[0], code, marked) {
+    /// A call by a party in such a phase and of some kind, and its answer.
+    pub fn count(
+        &mut self,
+        (phase, marked, kind): (Before, bool, u8),
+        call: u8,
+        code: u8,
+        radios: bool,
+    ) {
+        let meeting = match (call, code, marked) {
             (GIVE_UP, 0x20, false) => phase as usize,
             (GIVE_UP, 9, true) => 3 + phase as usize,
             (GIVE_UP, 10, false) => 6 + phase as usize,
@@ -53,7 +60,7 @@ impl Early {
             _ => return,
         };
         self.0[meeting] += 1;
-        if call[0] == GIVE_UP && code == 9 && (30..32).contains(&call[1]) {
+        if call == GIVE_UP && code == 9 && kind == 3 {
             self.0[MARKED_KIND_3] += 1;
         }
     }
@@ -85,24 +92,33 @@ struct Ask {
 
 /// Follows the calls of one hub, from its opening, and their answers.
 pub struct Follower {
-    asks: [Ask; 256],
+    asks: [Ask; 32],
     radios: bool,
+    kinds: [u8; 32],
 }
 
 impl Follower {
-    pub fn opened(radios: bool) -> Self {
-        Follower { asks: [Ask { phase: None, marked: false, forgot: false }; 256], radios }
+    pub fn opened(opening: &Opening) -> Self {
+        let asks = [Ask { phase: None, marked: false, forgot: false }; 32];
+        Follower { asks, radios: opening.radios.is_some(), kinds: opening.kinds() }
     }
 
-    pub fn enter(&mut self, early: &mut Early, call: [u8; 2], code: u8) {
-        let ask = &mut self.asks[usize::from(call[1])];
+    /// False if the caller's kind says otherwise.
+    pub fn enter(&mut self, early: &mut Early, kinds: &mut Kinds, call: [u8; 2], code: u8) -> bool {
+        let Some(ask) = self.asks.get_mut(usize::from(call[1])) else {
+            return code == 4;
+        };
+        let kind = self.kinds[usize::from(call[1])];
+        if call[0] == GIVE_UP && !kinds.gives_up(ask.phase.is_some(), call[1], kind, code) {
+            return false;
+        }
         let Some(phase) = ask.phase else {
             if call[0] == ASK && code == 0x20 {
                 (ask.phase, ask.marked) = (Some(Before::Asked), false);
             }
-            return;
+            return true;
         };
-        early.count(phase, ask.marked, call, code, self.radios);
+        early.count((phase, ask.marked, kind), call[0], code, self.radios);
         match (call[0], code) {
             (GIVE_UP, 0x20) => ask.marked = true,
             (STEP, 0x22) => ask.phase = Some(Before::Unnumbered),
@@ -117,5 +133,6 @@ impl Follower {
             }
             _ => {}
         }
+        true
     }
 }

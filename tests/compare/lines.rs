@@ -1,5 +1,6 @@
 //! Inputs of lines, good and damaged, and two programs side by side on them.
 
+use crate::kinds::Opening;
 use crate::process;
 use crate::schedules::{hex, opening, radios, Random};
 use std::thread;
@@ -9,6 +10,9 @@ const SHOWN: usize = 30;
 
 /// As many lines are gone through one by one for the shortest difference.
 const SEARCHED: usize = 12_000;
+
+/// Characters of the longest line that is looked into.
+pub const LONGEST: usize = 160;
 
 /// The proved program, and the second one in the mode in which it does the same.
 #[derive(Clone, Copy)]
@@ -59,6 +63,18 @@ pub fn damaged(random: &mut Random, lines: Vec<String>) -> Vec<u8> {
             damage(random, line);
         }
     }
+    joined(&lines, random.one_in(2))
+}
+
+/// Openings alone, those that are refused first; after one that is not, all are out of order.
+pub fn openings(random: &mut Random) -> Vec<u8> {
+    let frames = |random: &mut Random, most: u64| -> Vec<Vec<u8>> {
+        (0..random.below(most)).map(|_| opening(random).opening()).collect()
+    };
+    let mut first = frames(random, 60);
+    first.sort_by_key(|frame| Opening::read(frame).is_some_and(|opening| opening.answer() == 0x1F));
+    first.extend(frames(random, 10));
+    let lines: Vec<String> = first.iter().map(|frame| hex(frame)).collect();
     joined(&lines, random.one_in(2))
 }
 
@@ -121,6 +137,18 @@ pub fn bytes(random: &mut Random) -> Vec<u8> {
     let most = random.pick(&[4, 100, 3000]);
     let rest = (0..random.below(most)).map(|_| random.pick(alphabet));
     opening.iter().copied().chain(rest).collect()
+}
+
+/// The bytes of a line of digits.
+pub fn frame(line: &[u8]) -> Option<Vec<u8>> {
+    let pair = |pair: &[u8]| match *pair {
+        [high, low] => {
+            let [high, low] = [high, low].map(|digit| char::from(digit).to_digit(16));
+            Some((high? << 4 | low?) as u8)
+        }
+        _ => None,
+    };
+    line.chunks(2).map(pair).collect()
 }
 
 /// What both print. The pieces in which they get it must not show.

@@ -2,11 +2,13 @@
 //! nothing is judged here.
 
 use crate::clauses::{is_listed, Judgement};
+use crate::kinds::Opening;
 use crate::record::{
-    Keeper, Party, Phase, Place, Record, State, AT_PLACE_AT, MARKS_AT, OPENING_AT, PARTIES, PHASES,
-    PLACES, RADIOS, RADIOS_AT, RECORD, STATES, STORED_AT, STORE_AT, TURNED_AT, WITH_PARTY_AT,
+    Keeper, Party, Phase, Place, Record, State, AT_PLACE_AT, KINDS_AT, MARKS_AT, OPENING_AT,
+    PARTIES, PHASES, PLACES, RADIOS, RADIOS_AT, RECORD, STATES, STORED_AT, STORE_AT, TURNED_AT,
+    WITH_PARTY_AT,
 };
-use crate::schedules::{radios, schedule, Random, Schedule, ASK, GIVE_BACK, GIVE_UP, RADIO, STEP};
+use crate::schedules::{kinds, radios, schedule, Random, ASK, GIVE_BACK, GIVE_UP, RADIO, STEP};
 use std::vec;
 
 const SPAN: u32 = PLACES as u32;
@@ -23,10 +25,11 @@ pub enum Family {
     ToUnfit,
     Unfit,
     Early,
+    OwnKinds,
     OddBytes,
 }
 
-pub const FAMILIES: [&str; 10] = [
+pub const FAMILIES: [&str; 11] = [
     "reached",
     "called on from any that fits",
     "damaged",
@@ -36,6 +39,7 @@ pub const FAMILIES: [&str; 10] = [
     "to be left unfit",
     "left unfit",
     "not yet waiting",
+    "giving up by kind",
     "odd bytes",
 ];
 
@@ -64,13 +68,14 @@ struct World {
 impl World {
     fn opened(random: &mut Random) -> Self {
         let s = schedule(random, 4000);
-        if !opens(&s) {
+        if Opening::read(&s.opening()).is_none_or(|opening| opening.answer() != 0x1F) {
             return World::opened(random);
         }
-        let record = match &s.radios {
+        let mut record = match &s.radios {
             Some(radios) => Record::opened_with(s.parties, radios),
             None => Record::opened(s.permits, s.parties),
         };
+        record.kinds = s.kinds();
         World { record, schedule: Some(s.calls.into_iter()), over: false }
     }
 
@@ -100,22 +105,13 @@ impl World {
     }
 }
 
-/// Whether a schedule's opening is accepted.
-fn opens(schedule: &Schedule) -> bool {
-    let radios_fit = |radios: &Vec<u8>| {
-        let alike = (1..radios.len()).any(|at| radios[..at].contains(&radios[at]));
-        radios.len() == usize::from(schedule.permits) && !alike
-    };
-    (1..=32).contains(&schedule.permits)
-        && (1..=32).contains(&schedule.parties)
-        && schedule.radios.as_ref().is_none_or(radios_fit)
-}
-
 /// Makes the cases of one turn after the other.
 pub struct Maker {
     worlds: Vec<World>,
     /// Records that a success has just left unfit.
     unfit: Vec<Record>,
+    /// The party that gives up by its kind in this turn.
+    party: usize,
 }
 
 impl Maker {
@@ -124,7 +120,7 @@ impl Maker {
         for _ in 0..60 {
             worlds.extend([World::opened(random), World::fitting(random)]);
         }
-        Maker { worlds, unfit: Vec::new() }
+        Maker { worlds, unfit: Vec::new(), party: 0 }
     }
 
     /// The cases of a turn, those of the worlds first.
@@ -155,6 +151,8 @@ impl Maker {
         }
         cases.extend((0..40).map(|_| to_unfit(random)));
         early(random, &mut cases);
+        by_kind(random, self.party, &mut cases);
+        self.party = (self.party + 1) % PARTIES;
         cases.extend((0..20).map(|_| odd_bytes(random)));
         cases.iter_mut().for_each(|case| litter(random, &mut case.bytes));
         cases
@@ -217,15 +215,16 @@ fn success(random: &mut Random, record: &mut Record) -> [u8; 2] {
         if random.one_in(10) {
             return [RADIO, party];
         }
-        if phase.takes_mark() && !marked && party < 30 && random.one_in(2) {
+        let may_leave = record.kinds[usize::from(party)] != 3;
+        if phase.takes_mark() && !marked && may_leave && random.one_in(2) {
             return [GIVE_UP, party];
         }
         // an ask may find no room, and waits of kind 3 stay
-        if phase != Phase::Free && (phase != Phase::Waiting || party < 30) {
+        if phase != Phase::Free && (phase != Phase::Waiting || may_leave) {
             return [usual(phase), party];
         }
     }
-    if record.phases[0].phase == Phase::Free {
+    if matches!(record.phases[0].phase, Phase::Free | Phase::Waiting) {
         record.phases[0] = Party::at(Phase::Holding, 0);
         mend(random, record, &[0], &[]);
     }
@@ -243,13 +242,16 @@ fn figure(random: &mut Random, few: &[u32], bound: u32) -> u32 {
 }
 
 /// A record with figures that fit, its places empty and its parties free; every other one of a
-/// hub with radios, all of them stored.
+/// hub with radios, all of them stored, and every other one with its own kinds.
 fn bare(random: &mut Random) -> Record {
     let links = 1 + figure(random, &[0, 31], 32) as u8;
     let parties = 1 + figure(random, &[1, 2, 30, 31, 31], 32) as u8;
     let mut record = Record::opened(links, parties);
     record.has_radios = random.one_in(2);
     deal(random, &mut record);
+    if random.one_in(2) {
+        record.kinds.copy_from_slice(&kinds(random));
+    }
     record.counter = figure(random, &[0, 1, 31, 32, 33, 63, 64], 65) as i32 - 32;
     record.begun = figure(random, &[0, MOST - 1, MOST], MOST);
     record.oldest = figure(random, &[0, 1, 255, 256, 257, 65_535, MOST - SPAN, MOST], MOST);
@@ -452,7 +454,7 @@ fn damaged(random: &mut Random, record: &Record) -> Record {
 fn damage(random: &mut Random, record: &mut Record) {
     let party = random.below(32) as usize;
     let at = random.below(256) as usize;
-    match random.below(if record.has_radios { 20 } else { 15 }) {
+    match random.below(if record.has_radios { 21 } else { 16 }) {
         0 => record.links = damaged_byte(random, record.links),
         1 => record.parties = damaged_byte(random, record.parties),
         2 => record.counter = damaged_figure(random, record, record.counter as u32) as i32,
@@ -474,17 +476,18 @@ fn damage(random: &mut Random, record: &mut Record) {
         // no damage: a mark more, or a mark less
         12 => record.phases.iter_mut().for_each(|party| party.marked ^= random.one_in(2)),
         13 => record.has_radios = !record.has_radios,
-        15 => record.opening[party] = damaged_radio(random, record),
-        16 | 17 => {
+        15 => record.kinds[party] = damaged_kind(random),
+        16 => record.opening[party] = damaged_radio(random, record),
+        17 | 18 => {
             let keepers = record.keepers();
             if !keepers.is_empty() {
                 *record.radio_mut(random.pick(&keepers)) = damaged_radio(random, record);
             }
         }
-        18 if random.one_in(2) => drop(record.store.pop()),
-        18 if record.store.len() < RADIOS => record.store.push(damaged_radio(random, record)),
+        19 if random.one_in(2) => drop(record.store.pop()),
+        19 if record.store.len() < RADIOS => record.store.push(damaged_radio(random, record)),
         // in other hands, which is no damage
-        19 => {
+        20 => {
             let keepers = record.keepers();
             if !keepers.is_empty() {
                 let [a, b] = [0; 2].map(|_| random.pick(&keepers));
@@ -524,6 +527,12 @@ fn damaged_radio(random: &mut Random, record: &Record) -> u8 {
     let known = random.pick(&record.opening);
     let near = known ^ (1 << random.below(8));
     random.pick(&[any, 0, known, known, near])
+}
+
+/// Any kind, often one that there is.
+fn damaged_kind(random: &mut Random) -> u8 {
+    let any = random.byte();
+    random.pick(&[0, 1, 2, 3, 4, 255, any])
 }
 
 fn damaged_byte(random: &mut Random, byte: u8) -> u8 {
@@ -581,6 +590,7 @@ fn one_clause(random: &mut Random) -> Vec<Record> {
     radio_phases_alone(random, &mut records);
     alike_alone(random, &mut records);
     kept_alone(random, &mut records);
+    kinds_alone(random, &mut records);
     records
 }
 
@@ -928,6 +938,43 @@ fn kept(random: &mut Random, kind: usize) -> (Record, Keeper) {
     (record, Keeper::Party(party))
 }
 
+/// Gives a party a kind. If nobody is a desk any more, another one is.
+fn set_kind(record: &mut Record, party: usize, kind: u8) {
+    record.kinds[party] = kind;
+    if !record.kinds.contains(&0) {
+        record.kinds[(party + 1) % PARTIES] = 0;
+    }
+}
+
+/// A kind as high as it may be or higher; no desk, and one alone.
+fn kinds_alone(random: &mut Random, records: &mut Vec<Record>) {
+    let n = 1 + random.below(31) as usize;
+    let filled = |random: &mut Random| {
+        let mut record = roomy(random);
+        record.parties = n as u8;
+        fill(random, &mut record);
+        record
+    };
+    for party in [0, n - 1, n, 31] {
+        for kind in [3, 4, 255] {
+            let mut record = filled(random);
+            set_kind(&mut record, party, kind);
+            records.push(record);
+        }
+    }
+    let [below, from] = [random.below(n as u64), n as u64 + random.below(32 - n as u64)];
+    for desk in [None, Some(0), Some(below as usize), Some(from as usize)] {
+        for kind in [Some(1), Some(3), None] {
+            let mut record = filled(random);
+            record.kinds.fill_with(|| kind.unwrap_or_else(|| 1 + random.below(3) as u8));
+            if let Some(party) = desk {
+                record.kinds[party] = 0;
+            }
+            records.push(record);
+        }
+    }
+}
+
 /// A radio that is none of the opening's: at times one of those past K.
 fn foreign(random: &mut Random, record: &Record) -> u8 {
     let opening = &record.opening[..record.radios()];
@@ -1034,17 +1081,34 @@ fn early(random: &mut Random, cases: &mut Vec<Case>) {
         for (at, code) in [GIVE_UP, STEP, GIVE_UP, STEP].into_iter().enumerate() {
             for marked in [false, true] {
                 let mut record = if random.one_in(2) { untidy(random) } else { fitting(random) };
-                let kind_3 = at < 2;
-                if kind_3 {
-                    record.parties = 32;
+                let party = party_of(random, &record);
+                if at < 2 {
+                    set_kind(&mut record, party, 3);
                 }
-                let party = if kind_3 { random.pick(&[30, 31]) } else { party_of(random, &record) };
                 let t = given(random, &record, phase);
                 settle(random, &mut record, party, phase, t);
                 record.phases[party].marked = marked;
                 mend(random, &mut record, &[], &[]);
                 cases.push(Case::new(Family::Early, &record, [code, party as u8]));
             }
+        }
+    }
+}
+
+/// A record that fits, and a party of each kind that waits, or is not yet waiting, and gives up.
+fn by_kind(random: &mut Random, party: usize, cases: &mut Vec<Case>) {
+    let early = random.pick(&[Phase::Asked, Phase::Unnumbered, Phase::Numbered]);
+    for phase in [Phase::Waiting, early] {
+        for kind in 0..4 {
+            let mut record = roomy(random);
+            record.parties = record.parties.max(party as u8 + 1);
+            set_kind(&mut record, party, kind);
+            fill(random, &mut record);
+            let t = given(random, &record, phase);
+            settle(random, &mut record, party, phase, t);
+            record.phases[party].marked = false;
+            mend(random, &mut record, &[party], &[]);
+            cases.push(Case::new(Family::OwnKinds, &record, [GIVE_UP, party as u8]));
         }
     }
 }
@@ -1066,7 +1130,8 @@ fn odd_bytes(random: &mut Random) -> Case {
     let (record, call) = case.bytes.split_at_mut(RECORD);
     record[RADIOS_AT] += 2 * random.below(127) as u8;
     record[STORED_AT] += 33 * random.below(6) as u8;
-    record[MARKS_AT..].iter_mut().for_each(|mark| *mark += 2 * random.below(127) as u8);
+    let marks = record[MARKS_AT..KINDS_AT].iter_mut();
+    marks.for_each(|mark| *mark += 2 * random.below(127) as u8);
     for (at, cell) in record[22..RADIOS_AT].chunks_mut(5).enumerate() {
         let (count, carries): (u8, &[u8]) =
             if at < PLACES { (6, &[1]) } else { (14, &[2, 5, 6, 7, 8, 11]) };
@@ -1152,10 +1217,47 @@ pub fn sample() -> Vec<u8> {
     bytes[odd + 22..odd + 1302].fill(252);
     bytes[odd + 1302] = 253;
     bytes[odd + RADIOS_AT] = 0xFE;
-    bytes[odd + OPENING_AT..odd + RECORD].fill(0xA7);
+    bytes[odd + OPENING_AT..odd + KINDS_AT].fill(0xA7);
     sample_with_radios(&mut bytes);
     sample_marked(&mut bytes);
+    sample_of_kinds(&mut bytes);
     bytes
+}
+
+/// Those of a house's own kinds.
+fn sample_of_kinds(bytes: &mut Vec<u8>) {
+    let mut add = |record: &Record, call: [u8; 2]| {
+        bytes.extend(record.bytes());
+        bytes.extend(call);
+    };
+    // a party of each kind that waits, at either end; one of kind 3 that is not yet waiting
+    let mut waiting = Record::opened_with(32, &[0, 1, 2, 3]);
+    (waiting.numbered, waiting.counter) = (8, -8);
+    waiting.kinds = std::array::from_fn(|party| (party % 4) as u8);
+    for (number, party) in (0..).zip([0, 1, 2, 3, 28, 29, 30, 31]) {
+        waiting.phases[party] = Party::at(Phase::Waiting, number);
+        *waiting.place_mut(number) = Place::waiting(party as u32);
+    }
+    waiting.phases[7] = Party::at(Phase::Asked, 0);
+    for party in [0, 1, 2, 3, 28, 29, 30, 31, 7] {
+        add(&waiting, [GIVE_UP, party]);
+    }
+    // the kinds stay when something else changes, and count for nothing else
+    add(&waiting, [STEP, 7]);
+    add(&waiting, [RADIO, 3]);
+    // of kind 3 are all but party 31, which there is not
+    let mut opened = Record::opened(1, 3);
+    opened.kinds = [3; PARTIES];
+    opened.kinds[31] = 0;
+    add(&opened, [ASK, 0]);
+    // and that was the only desk; then kinds that there are not, of party n, n - 1, 0 and 31
+    opened.kinds[31] = 1;
+    add(&opened, [ASK, 0]);
+    for (party, kind) in [(3, 4), (2, 4), (0, 255), (31, 0x80)] {
+        let mut record = Record::opened(1, 3);
+        record.kinds[party] = kind;
+        add(&record, [ASK, 0]);
+    }
 }
 
 /// Those of early give-ups.
@@ -1211,7 +1313,7 @@ fn sample_marked(bytes: &mut Vec<u8>) {
     let start = bytes.len();
     bytes.extend(odd.bytes());
     bytes.extend([GIVE_UP, 3]);
-    for (mark, byte) in bytes[start + MARKS_AT..start + RECORD].iter_mut().zip(1..) {
+    for (mark, byte) in bytes[start + MARKS_AT..start + KINDS_AT].iter_mut().zip(1..) {
         *mark = byte * 3;
     }
 }

@@ -3,6 +3,7 @@
 //! written, and whom an operation wakes and how many steps it takes must follow from the answers
 //! before. Usage: operate SECOND RUNS. Links liboperate.a.
 
+mod kinds;
 mod library;
 mod operations;
 mod process;
@@ -10,6 +11,7 @@ mod process;
 #[allow(dead_code)]
 mod schedules;
 
+use kinds::{Kinds, Opening};
 use library::hub_operate;
 use operations::{operations, Line, Met};
 use schedules::{hex, opening, Random, Seen, ASK, GIVE_BACK, GIVE_UP, RADIO, STEP};
@@ -19,7 +21,9 @@ use std::process::ExitCode;
 
 const OPERATION: usize = 2;
 const ANSWER: usize = 3;
+/// Cases of a run, and openings that it tries besides, without operations.
 const CASES: usize = 20;
+const OPENINGS: usize = 20;
 const MOST_ASKS: u32 = 1_000_000;
 const DONE: u8 = 0;
 const MALFORMED: u8 = 254;
@@ -136,16 +140,26 @@ fn million() -> Case {
     Case { opening: vec![1, 1, 3], operations, room }
 }
 
-/// Counts what a case met. False if its answers do not follow from one another.
-fn told(seen: &mut Seen, met: &mut Met, case: &Case, said: &[u8]) -> bool {
+/// What the cases met.
+struct Counts {
+    seen: Seen,
+    met: Met,
+    kinds: Kinds,
+}
+
+/// Counts what a case met. False if its answers do not follow from its opening and from one another.
+fn told(Counts { seen, met, kinds }: &mut Counts, case: &Case, said: &[u8]) -> bool {
     let result = said[0];
     let codes = || case.operations.chunks(OPERATION).map(|operation| operation[0]);
     let odd = case.operations.len() % OPERATION != 0;
     let malformed = odd || codes().any(|code| !matches!(code, ASK | GIVE_UP | GIVE_BACK));
     let needed = case.operations.len() / OPERATION * ANSWER;
     let no_room = case.room < needed;
-    let refused = matches!(result, 2 | 3 | 12 | 14);
+    let refused = matches!(result, 2 | 3 | 12 | 14..=17);
     seen.count(result);
+    if !kinds.opens(&case.opening, false, if refused { result } else { 0x1F }) {
+        return false;
+    }
     let facts = [
         ("no operation", result == DONE && case.operations.is_empty()),
         ("more room than needed", result == DONE && case.room > needed),
@@ -163,14 +177,17 @@ fn told(seen: &mut Seen, met: &mut Met, case: &Case, said: &[u8]) -> bool {
         (_, true) => NO_ROOM,
         _ => DONE,
     };
-    if refused || result != expected || result != DONE {
-        return refused || result == expected;
-    }
+    let opening = match Opening::read(&case.opening) {
+        Some(opening) if !refused && result == expected && result == DONE => opening,
+        _ => return refused || result == expected,
+    };
     let mut story = Story::default();
     let answers = said[1..].chunks(ANSWER);
     (case.operations.chunks(OPERATION).zip(answers)).all(|(operation, answer)| {
-        let operation = [operation[0], operation[1]];
-        story.goes_on(seen, met, &case.opening, operation, [answer[0], answer[1], answer[2]])
+        let [code, party] = [operation[0], operation[1]];
+        let kind = opening.kinds().get(usize::from(party)).copied().unwrap_or_default();
+        (code != GIVE_UP || kinds.gives_up(false, party, kind, answer[0]))
+            && story.goes_on(seen, met, &opening, [code, party], [answer[0], answer[1], answer[2]])
     })
 }
 
@@ -198,17 +215,18 @@ impl Story {
         &mut self,
         seen: &mut Seen,
         met: &mut Met,
-        opening: &[u8],
+        opening: &Opening,
         [code, party]: [u8; 2],
         [answer, woken, steps]: [u8; 3],
     ) -> bool {
-        let (parties, radios) = (opening[2], opening[0] == 2);
+        let (parties, radios) = (opening.parties, opening.radios.is_some());
+        let of_kind_3 = opening.kinds().get(usize::from(party)) == Some(&3);
         let no_place = self.places() == 256;
         seen.count(answer);
         let facts = [
             ("6 where 7 applies too", answer == 6 && no_place),
             ("7, and an ask accepted later", self.full && answer == 0x20 && code == ASK),
-            ("9 for a party of kind 3", answer == 9 && (30..32).contains(&party)),
+            ("9 for a party of kind 3", answer == 9 && of_kind_3),
             ("5 for a waiting party", answer == 5 && self.line.waiting.contains(&party)),
             ("party n - 1 accepted", answer == 0x20 && party == parties - 1),
         ];
@@ -243,7 +261,7 @@ impl Story {
 }
 
 /// Both on the same cases; false, and where, if they differ or are wrong.
-fn agree(program: &str, seen: &mut Seen, met: &mut Met, run: &str, cases: &[Case]) -> bool {
+fn agree(program: &str, counts: &mut Counts, run: &str, cases: &[Case]) -> bool {
     let input: Vec<u8> = cases.iter().flat_map(Case::written).collect();
     let theirs = process::output(program, &["--operate"], &input, input.len());
     let mut rest = &theirs[..];
@@ -268,7 +286,7 @@ fn agree(program: &str, seen: &mut Seen, met: &mut Met, run: &str, cases: &[Case
             shown();
             return false;
         }
-        if !told(seen, met, case, &said) {
+        if !told(counts, case, &said) {
             println!("{run}, case {number}: both are wrong");
             shown();
             return false;
@@ -288,23 +306,26 @@ fn main() -> ExitCode {
         return ExitCode::FAILURE;
     };
     let runs: u64 = runs.parse().expect("RUNS is a number");
-    let mut seen = Seen::nothing();
-    let mut met = Met::nothing(&MEETINGS);
+    let (seen, met) = (Seen::nothing(), Met::nothing(&MEETINGS));
+    let mut counts = Counts { seen, met, kinds: Kinds::nothing() };
     for seed in 1..=runs {
         let random = &mut Random::seeded(seed);
-        let cases: Vec<Case> = (0..CASES).map(|_| any_case(random)).collect();
-        if !agree(program, &mut seen, &mut met, &format!("run {seed}"), &cases) {
+        let mut cases: Vec<Case> = (0..CASES).map(|_| any_case(random)).collect();
+        let alone = |opening| Case { opening, operations: Vec::new(), room: 0 };
+        cases.extend((0..OPENINGS).map(|_| alone(opening(random).opening())));
+        if !agree(program, &mut counts, &format!("run {seed}"), &cases) {
             return ExitCode::FAILURE;
         }
     }
-    if !agree(program, &mut seen, &mut met, "a million asks", &[million()]) {
+    if !agree(program, &mut counts, "a million asks", &[million()]) {
         return ExitCode::FAILURE;
     }
     println!("hub_operate and second program: {runs} runs of {CASES} cases and a long one, agree");
     // results and codes
-    let codes = [DONE, 2, 3, 12, 14, MALFORMED, NO_ROOM, 4, 5, 6, 7, 9, 10, 11, 0x20];
-    let answers = seen.shows(codes.into_iter());
-    if met.shows() && answers {
+    let codes = [DONE, 2, 3, 12, 14, 15, 16, 17, MALFORMED, NO_ROOM, 4, 5, 6, 7, 9, 10, 11, 0x20];
+    let answers = counts.seen.shows(codes.into_iter());
+    let own_kinds = [counts.kinds.shows_openings(false), counts.kinds.shows_decided(false)];
+    if counts.met.shows() && answers && own_kinds == [true; 2] {
         ExitCode::SUCCESS
     } else {
         ExitCode::FAILURE

@@ -1,7 +1,8 @@
 //! Seeded random lists of whole operations, asks, give-ups and give-backs, and the line that their
 //! answers tell.
 
-use crate::schedules::{opening, radios, Random, Schedule, ASK, GIVE_BACK, GIVE_UP};
+use crate::schedules::{kinds, kinds_in_turn, opening, radios, Random, Schedule};
+use crate::schedules::{ASK, GIVE_BACK, GIVE_UP};
 use std::collections::BTreeSet;
 
 /// What an accepted operation can do to the line, and the steps that it takes, without radios and
@@ -129,6 +130,7 @@ impl Habits {
 struct House {
     permits: usize,
     parties: u8,
+    kinds: [u8; 32],
     line: Line,
 }
 
@@ -140,7 +142,7 @@ impl House {
             self.sensible_operation(random, habits)
         };
         let [code, party] = operation;
-        if party < self.parties && (code != GIVE_UP || party < 30) {
+        if party < self.parties && (code != GIVE_UP || self.kinds[usize::from(party)] != 3) {
             self.line.follow(operation, self.line.holders.len() >= self.permits);
         }
         operation
@@ -180,11 +182,13 @@ impl House {
 pub fn operations(random: &mut Random, most: u64) -> Schedule {
     if random.one_in(20) {
         let mut list = opening(random);
-        let parties = list.parties.clamp(1, 32);
-        live(random, &mut list, parties, most / 8);
+        live(random, &mut list, most / 8);
         return list;
     }
-    // few links and few parties meet most often; kind 3 needs a full house
+    if random.one_in(12) {
+        return all_give_up(random);
+    }
+    // few links and few parties meet most often; kind 3 of the built-in table needs a full house
     let up_to = |random: &mut Random, most: &[u64]| {
         let most = random.pick(most);
         1 + random.below(most) as u8
@@ -192,15 +196,29 @@ pub fn operations(random: &mut Random, most: u64) -> Schedule {
     let permits = up_to(random, &[1, 2, 4, 32]);
     let parties = if random.one_in(4) { 32 } else { up_to(random, &[4, 8, 32]) };
     let radios = random.one_in(2).then(|| radios(random, permits));
-    let mut list = Schedule { permits, parties, radios, calls: Vec::new() };
+    let kinds = random.one_in(2).then(|| kinds(random));
+    let mut list = Schedule { permits, parties, radios, kinds, ..Schedule::default() };
     let total = if random.one_in(8) { most } else { random.below(most / 8) };
-    live(random, &mut list, parties, total);
+    live(random, &mut list, total);
     list
 }
 
+/// One party has the only link, all others wait, and each tries to give up.
+fn all_give_up(random: &mut Random) -> Schedule {
+    let radios = random.one_in(2).then(|| radios(random, 1));
+    let kinds = Some(kinds_in_turn(random));
+    let holder = random.below(32) as u8;
+    let others = (0..32).filter(|&party| party != holder);
+    let asks = [holder].into_iter().chain(others.clone()).map(|party| [ASK, party]);
+    let calls = asks.chain(others.map(|party| [GIVE_UP, party])).collect();
+    Schedule { permits: 1, parties: 32, radios, kinds, calls }
+}
+
 /// Adds operations; what parties like to do changes on the way.
-fn live(random: &mut Random, list: &mut Schedule, parties: u8, total: u64) {
-    let mut house = House { permits: list.permits.into(), parties, line: Line::default() };
+fn live(random: &mut Random, list: &mut Schedule, total: u64) {
+    let parties = list.parties.clamp(1, 32);
+    let (permits, kinds) = (list.permits.into(), list.kinds());
+    let mut house = House { permits, parties, kinds, line: Line::default() };
     let mut habits = Habits::any(random);
     for _ in 0..total {
         if random.one_in(500) {

@@ -1,5 +1,6 @@
 //! A whole record: its bytes, as tests/README.md lays them out, and how it is shown.
 
+use crate::schedules::BUILT_IN;
 use std::fmt;
 
 pub const PLACES: usize = 256;
@@ -7,7 +8,7 @@ pub const PARTIES: usize = 32;
 /// Most radios of a hub.
 pub const RADIOS: usize = 32;
 /// Bytes of a record, of a case (a record and a call) and of a reply (an answer and a record).
-pub const RECORD: usize = 1849;
+pub const RECORD: usize = 1881;
 pub const CASE: usize = RECORD + 2;
 pub const REPLY: usize = 7 + RECORD;
 
@@ -24,8 +25,9 @@ pub const AT_PLACE_AT: usize = WITH_PARTY_AT + PARTIES;
 pub const TURNED_AT: usize = AT_PLACE_AT + PLACES;
 pub const STORED_AT: usize = TURNED_AT + 1;
 pub const STORE_AT: usize = STORED_AT + 1;
-/// Where the marks of the parties begin, which end the record.
+/// Where the marks of the parties begin, and their kinds, which end the record.
 pub const MARKS_AT: usize = STORE_AT + RADIOS;
+pub const KINDS_AT: usize = MARKS_AT + PARTIES;
 
 #[derive(Clone, Copy, PartialEq)]
 pub enum State {
@@ -211,6 +213,8 @@ pub struct Record {
     pub at_place: [u8; PLACES],
     /// The first to be taken first.
     pub store: Vec<u8>,
+    /// The kind of each party, those from n up too.
+    pub kinds: [u8; PARTIES],
 }
 
 /// Where a radio can be: with a party, at a place, or stored, the first at 0.
@@ -250,7 +254,7 @@ pub fn number(bytes: &[u8]) -> u32 {
 }
 
 impl Record {
-    /// The record of an opening.
+    /// The record of an opening, with the built-in kinds.
     pub fn opened(links: u8, parties: u8) -> Self {
         Record {
             links,
@@ -267,6 +271,7 @@ impl Record {
             with_party: [0; PARTIES],
             at_place: [0; PLACES],
             store: Vec::new(),
+            kinds: BUILT_IN,
         }
     }
 
@@ -285,7 +290,7 @@ impl Record {
             *place = Place::read(bytes);
         }
         let mut phases = [Party::FREE; PARTIES];
-        let marks = &bytes[MARKS_AT..RECORD];
+        let marks = &bytes[MARKS_AT..KINDS_AT];
         let cells = bytes[PHASES_AT..RADIOS_AT].chunks(5).zip(marks);
         for (party, (bytes, mark)) in phases.iter_mut().zip(cells) {
             *party = Party::read(bytes, *mark);
@@ -306,10 +311,12 @@ impl Record {
             with_party: [0; PARTIES],
             at_place: [0; PLACES],
             store: bytes[STORE_AT..STORE_AT + stored].to_vec(),
+            kinds: [0; PARTIES],
         };
         record.opening.copy_from_slice(&bytes[OPENING_AT..WITH_PARTY_AT]);
         record.with_party.copy_from_slice(&bytes[WITH_PARTY_AT..AT_PLACE_AT]);
         record.at_place.copy_from_slice(&bytes[AT_PLACE_AT..TURNED_AT]);
+        record.kinds.copy_from_slice(&bytes[KINDS_AT..RECORD]);
         record.clear_radios();
         record
     }
@@ -353,6 +360,7 @@ impl Record {
         bytes.extend(&self.store);
         bytes.resize(MARKS_AT, 0);
         bytes.extend(self.phases.iter().map(|party| u8::from(party.marked)));
+        bytes.extend(self.kinds);
         bytes
     }
 
@@ -406,6 +414,7 @@ impl Record {
             .chain(runs("radio with party", &self.with_party, &other.with_party))
             .chain(runs("radio at place", &self.at_place, &other.at_place))
             .chain((self.store != other.store).then_some(store))
+            .chain(runs("kind of party", &self.kinds, &other.kinds))
             .collect()
     }
 
@@ -426,7 +435,7 @@ impl Record {
 impl fmt::Display for Record {
     fn fmt(&self, f: &mut fmt::Formatter) -> fmt::Result {
         let figures = self.figures().map(|(name, value)| format!("{name} {value}"));
-        // places that are not empty, parties that are not free, and the radios
+        // places that are not empty, parties that are not free, radios, kinds not built in
         let bare = Record { has_radios: self.has_radios, ..Record::opened(0, 0) };
         let bare = Record {
             links: self.links,

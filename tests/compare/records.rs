@@ -6,6 +6,9 @@ mod clauses;
 // the comparisons of schedules use the rest of it
 #[allow(dead_code)]
 mod early;
+// so do they of this
+#[allow(dead_code)]
+mod kinds;
 mod made;
 mod process;
 mod record;
@@ -15,9 +18,10 @@ mod schedules;
 
 use clauses::{Decided, Judgement};
 use early::{Before, Early};
+use kinds::Kinds;
 use made::{sample, Case, Maker, FAMILIES};
 use record::{Phase, Record, RECORD, REPLY};
-use schedules::{hex, Random, Seen};
+use schedules::{hex, Random, Seen, GIVE_UP};
 use std::io::{self, Write};
 use std::process::ExitCode;
 use std::{env, thread};
@@ -37,6 +41,7 @@ struct Counts {
     answers: Seen,
     decided: Decided,
     early: Early,
+    kinds: Kinds,
     left: [u64; LEFT.len()],
 }
 
@@ -47,6 +52,7 @@ impl Counts {
             answers: Seen::nothing(),
             decided: Decided::nothing(),
             early: Early::nothing(),
+            kinds: Kinds::nothing(),
             left: [0; LEFT.len()],
         }
     }
@@ -55,33 +61,38 @@ impl Counts {
         self.families.iter().sum()
     }
 
-    fn count(&mut self, case: &Case, judgement: &Judgement, code: u8, left: &Record) {
+    /// False if the caller's kind says otherwise.
+    fn count(&mut self, case: &Case, judgement: &Judgement, code: u8, left: &Record) -> bool {
         self.families[case.family as usize] += 1;
         self.answers.count(code);
         self.decided.count(judgement);
-        self.count_early(case, code);
         if code >= 0x20 {
             for (count, (_, is_so)) in self.left.iter_mut().zip(LEFT) {
                 *count += u64::from(is_so(left));
             }
         }
+        self.count_call(case, code)
     }
 
-    fn count_early(&mut self, case: &Case, code: u8) {
+    fn count_call(&mut self, case: &Case, code: u8) -> bool {
         let record = Record::read(&case.bytes);
         let [call, party] = [case.bytes[RECORD], case.bytes[RECORD + 1]];
         // the call as the programs read it
         let call = if call % 5 == 0 { 0x14 } else { 0x0F + call % 5 };
         let Some(caller) = record.phases.get(usize::from(party)) else {
-            return;
+            return true;
         };
+        let kind = record.kinds[usize::from(party)];
         let phase = match caller.phase {
-            Phase::Asked => Before::Asked,
-            Phase::Unnumbered => Before::Unnumbered,
-            Phase::Numbered => Before::Numbered,
-            _ => return,
+            Phase::Asked => Some(Before::Asked),
+            Phase::Unnumbered => Some(Before::Unnumbered),
+            Phase::Numbered => Some(Before::Numbered),
+            _ => None,
         };
-        self.early.count(phase, caller.marked, [call, party], code, record.has_radios);
+        if let Some(phase) = phase {
+            self.early.count((phase, caller.marked, kind), call, code, record.has_radios);
+        }
+        call != GIVE_UP || self.kinds.gives_up(phase.is_some(), party, kind, code)
     }
 
     /// Prints the counts; false if something that must occur did not.
@@ -92,7 +103,7 @@ impl Counts {
         println!("  {}", families.join(", "));
         let expected = (4..=11).chain([1]).chain(0x20..=0x33).chain(0x36..=0x39);
         let answers = self.answers.shows(expected);
-        let early = self.early.shows(false);
+        let early = [self.early.shows(false), self.kinds.shows_decided(true)] == [true; 2];
         let decided = self.decided.shows();
         let left: Vec<String> =
             LEFT.iter().zip(self.left).map(|((name, _), n)| format!("{name} {n}")).collect();
@@ -141,18 +152,22 @@ fn show_difference(cases: &[Case], outputs: [&[u8]; 2]) {
 }
 
 /// Counts what was answered to each case, and gives the code and the record left. None if both
-/// programs take a record that breaks a clause, or refuse one that breaks none.
+/// programs take a record that breaks a clause, or refuse one that breaks none, or pass over the
+/// caller's kind, or change a kind.
 fn counted(counts: &mut Counts, cases: &[Case], output: &[u8]) -> Option<Vec<(u8, Record)>> {
     let mut left = Vec::new();
     for (case, reply) in cases.iter().zip(output.chunks(REPLY)) {
-        let judgement = Judgement::of(&Record::read(&case.bytes));
+        let before = Record::read(&case.bytes);
+        let judgement = Judgement::of(&before);
         let (code, record) = (reply[0], Record::read(&reply[7..]));
-        if (code == 1) == judgement.broken.is_empty() {
-            println!("the programs agree, but not with the clauses");
+        let clauses = (code == 1) != judgement.broken.is_empty();
+        let kinds = counts.count(case, &judgement, code, &record) && record.kinds == before.kinds;
+        if !clauses || !kinds {
+            let what = if clauses { "kinds" } else { "clauses" };
+            println!("the programs agree, but not with the {what}");
             show(case, [reply, reply]);
             return None;
         }
-        counts.count(case, &judgement, code, &record);
         left.push((code, record));
     }
     Some(left)

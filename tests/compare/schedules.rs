@@ -39,12 +39,26 @@ impl Random {
     }
 }
 
-/// An opening's K and n and its radios, if it is one with radios; and the calls after it, each a
-/// code and a party.
+/// The kind of each party where an opening gives none.
+pub const BUILT_IN: [u8; 32] = {
+    let mut kinds = [1; 32];
+    let mut desk = 0;
+    while desk < 8 {
+        kinds[desk] = 0;
+        desk += 1;
+    }
+    (kinds[28], kinds[29], kinds[30], kinds[31]) = (2, 2, 3, 3);
+    kinds
+};
+
+/// An opening's K and n, its radios, if it is one with radios, and its kinds, if it gives any; and
+/// the calls after it, each a code and a party.
+#[derive(Default)]
 pub struct Schedule {
     pub permits: u8,
     pub parties: u8,
     pub radios: Option<Vec<u8>>,
+    pub kinds: Option<Vec<u8>>,
     pub calls: Vec<[u8; 2]>,
 }
 
@@ -120,13 +134,15 @@ pub struct House {
     oldest: Number,
     /// How many radios are stored, on a hub with radios.
     stored: Option<usize>,
+    kinds: [u8; 32],
 }
 
 impl House {
-    /// A hub opened with radios, or one without.
-    pub fn with_radios(permits: u8, parties: u8, radios: bool) -> Self {
-        let stored = radios.then_some(usize::from(permits));
-        House { stored, ..House::new(permits, parties) }
+    /// The hub that a schedule's opening makes; for one that is refused, one near it.
+    pub fn of(schedule: &Schedule) -> Self {
+        let stored = schedule.radios.as_ref().map(|_| usize::from(schedule.permits));
+        let kinds = schedule.kinds();
+        House { stored, kinds, ..House::new(schedule.permits, schedule.parties.clamp(1, 32)) }
     }
 
     pub fn new(permits: u8, parties: u8) -> Self {
@@ -139,6 +155,7 @@ impl House {
             handed: 0,
             oldest: 0,
             stored: None,
+            kinds: BUILT_IN,
         }
     }
 
@@ -195,7 +212,7 @@ impl House {
     /// few, and lose nothing by trying.
     fn gives_up_early(&self, random: &mut Random, habits: &Habits, party: usize) -> bool {
         let odds = match self.marked[party] {
-            _ if party >= 30 => 12,
+            _ if self.kinds[party] == 3 => 12,
             true => 120,
             false => 40,
         };
@@ -205,8 +222,8 @@ impl House {
     fn follow(&mut self, code: u8, party: usize) {
         let phase = match (code, self.phases[party]) {
             (ASK, Phase::Free) if self.has_room() => Phase::Asked,
-            (GIVE_UP, Phase::Waiting(t)) if party < 30 => Phase::GivingUp(t),
-            (GIVE_UP, phase) if party < 30 && is_early(phase) => {
+            (GIVE_UP, Phase::Waiting(t)) if self.kinds[party] != 3 => Phase::GivingUp(t),
+            (GIVE_UP, phase) if self.kinds[party] != 3 && is_early(phase) => {
                 self.marked[party] = true;
                 phase
             }
@@ -309,7 +326,8 @@ impl House {
 /// So many radios, no two alike.
 pub fn radios(random: &mut Random, count: u8) -> Vec<u8> {
     // an odd step meets every byte before one comes again
-    let (first, step) = (random.byte(), random.byte() | 1);
+    let any = random.byte();
+    let (first, step) = (random.pick(&[any, 0]), random.byte() | 1);
     let mut radios: Vec<u8> =
         (0..count).map(|at| first.wrapping_add(at.wrapping_mul(step))).collect();
     for _ in 0..random.pick(&[0, 40]) {
@@ -321,9 +339,61 @@ pub fn radios(random: &mut Random, count: u8) -> Vec<u8> {
     radios
 }
 
+/// Kinds that an opening may give: of all sorts, nearly all of one, or the built-in table.
+pub fn kinds(random: &mut Random) -> Vec<u8> {
+    let most = random.pick(&[0, 1, 2, 3, 3]);
+    let odds = random.pick(&[1, 2, 20, 200]);
+    let mut kinds = BUILT_IN.to_vec();
+    if !random.one_in(8) {
+        let any = |random: &mut Random| random.below(4) as u8;
+        kinds.fill_with(|| if random.one_in(odds) { any(random) } else { most });
+    }
+    if !kinds.contains(&0) {
+        kinds[random.below(32) as usize] = 0;
+    }
+    kinds
+}
+
+/// Kinds that an opening of n parties must not give: too many, too few, unknown ones, no desk, or
+/// several of these.
+fn wrong_kinds(random: &mut Random, parties: u8) -> Vec<u8> {
+    let mut kinds = kinds(random);
+    let n = usize::from(parties.clamp(1, 31));
+    let party = random.pick(&[0, n - 1, n, 31]);
+    let [unknown, no_desk, miscounted] =
+        random.pick(&[[1, 0, 0], [0, 1, 0], [0, 0, 1], [1, 1, 0], [1, 0, 1], [0, 1, 1]]);
+    if no_desk == 1 {
+        let other = 1 + random.below(3) as u8;
+        let odds = random.pick(&[1, 2]);
+        let kept = kinds.iter_mut().filter(|kind| **kind == 0 || random.one_in(odds));
+        kept.for_each(|kind| *kind = other);
+    }
+    if unknown == 1 {
+        // a desk that was the only one is none any more
+        let any = random.byte().max(4);
+        kinds[party] = random.pick(&[4, 5, 0x80, 255, any]);
+    }
+    if miscounted == 1 {
+        // more than a line can carry, too
+        let [few, many] =
+            [1 + random.below(44), 78 + random.below(200)].map(|count| count as usize);
+        let count = random.pick(&[1, 1, 31, 31, 33, 33, 64, few, few, many]);
+        kinds = kinds.iter().copied().cycle().take(count).collect();
+    }
+    kinds
+}
+
 /// Any opening, near the bounds or far from them: of either code, with radios too many, too few
-/// or alike.
+/// or alike, with kinds or without, some of them wrong.
 pub fn opening(random: &mut Random) -> Schedule {
+    let mut schedule = opening_without_kinds(random);
+    let wrong = wrong_kinds(random, schedule.parties);
+    let right = kinds(random);
+    schedule.kinds = random.pick(&[None, Some(&right), Some(&wrong), Some(&wrong)]).cloned();
+    schedule
+}
+
+fn opening_without_kinds(random: &mut Random) -> Schedule {
     let bound = |random: &mut Random, more: &[u8]| {
         let any = random.byte();
         let far = random.pick(more);
@@ -332,7 +402,7 @@ pub fn opening(random: &mut Random) -> Schedule {
     let permits = bound(random, &[2, 77, 78]);
     let parties = bound(random, &[2, 3]);
     let few = 1 + random.below(32) as u8;
-    let (permits, parties, radios) = match random.below(10) {
+    let (permits, parties, radios) = match random.below(12) {
         0..=3 => (permits, parties, None),
         // right but for one thing
         4 => (few, 1 + parties % 32, Some(alike(random, few))),
@@ -342,9 +412,15 @@ pub fn opening(random: &mut Random) -> Schedule {
         }
         6 => (few, parties, Some(alike(random, few))),
         7 => (permits, parties, Some(alike(random, permits))),
-        _ => (permits, parties, Some(radios(random, permits))),
+        8 | 9 => (permits, parties, Some(radios(random, permits))),
+        // right but for its kinds
+        10 => (few, 1 + parties % 32, None),
+        _ => {
+            let few = random.pick(&[few, 32]);
+            (few, 1 + parties % 32, Some(radios(random, few)))
+        }
     };
-    Schedule { permits, parties, radios, calls: Vec::new() }
+    Schedule { permits, parties, radios, ..Schedule::default() }
 }
 
 /// So many radios, two of them alike if there are two.
@@ -361,15 +437,17 @@ fn alike(random: &mut Random, count: u8) -> Vec<u8> {
 pub fn schedule(random: &mut Random, most: u64) -> Schedule {
     if random.one_in(20) {
         let mut schedule = opening(random);
-        let parties = schedule.parties.clamp(1, 32);
-        let mut house = House::with_radios(schedule.permits, parties, schedule.radios.is_some());
+        let mut house = House::of(&schedule);
         schedule.live(random, &mut house, most / 8);
         return schedule;
+    }
+    if random.one_in(12) {
+        return all_give_up(random);
     }
     if random.one_in(15) && most >= 4000 {
         return long_wait(random);
     }
-    // few links and few parties meet most often; kind 3 needs a full house
+    // few links and few parties meet most often; kind 3 of the built-in table needs a full house
     let up_to = |random: &mut Random, most: &[u64]| {
         let most = random.pick(most);
         1 + random.below(most) as u8
@@ -377,11 +455,35 @@ pub fn schedule(random: &mut Random, most: u64) -> Schedule {
     let permits = up_to(random, &[1, 2, 4, 32]);
     let parties = if random.one_in(6) { 32 } else { up_to(random, &[4, 8, 32]) };
     let radios = random.one_in(2).then(|| radios(random, permits));
-    let mut house = House::with_radios(permits, parties, radios.is_some());
-    let mut schedule = Schedule { permits, parties, radios, calls: Vec::new() };
+    let kinds = random.one_in(2).then(|| kinds(random));
+    let mut schedule = Schedule { permits, parties, radios, kinds, ..Schedule::default() };
+    let mut house = House::of(&schedule);
     let total = if random.one_in(8) { most } else { 10 + random.below(most / 8) };
     schedule.live(random, &mut house, total);
     schedule
+}
+
+/// Kinds by which each party is of each kind in one of four.
+pub fn kinds_in_turn(random: &mut Random) -> Vec<u8> {
+    let first = random.below(4) as u8;
+    (0..32).map(|party| (first + party) % 4).collect()
+}
+
+/// One party has the only link; each of the others gives up before its wait, and in the next one.
+/// Those that may not do so stay.
+fn all_give_up(random: &mut Random) -> Schedule {
+    let radios = random.one_in(2).then(|| radios(random, 1));
+    let kinds = Some(kinds_in_turn(random));
+    let mut calls = vec![];
+    let holder = random.below(32) as u8;
+    for party in [holder].into_iter().chain((0..32).filter(|&party| party != holder)) {
+        let early = random.below(3) as usize;
+        let rest: [&[u8]; 5] =
+            [&[ASK], &[STEP; 3][..early], &[GIVE_UP], &[STEP; 6], &[ASK, STEP, STEP]];
+        let codes = rest.concat().into_iter().chain([STEP, GIVE_UP, STEP, STEP]);
+        calls.extend(codes.map(|code| [code, party]));
+    }
+    Schedule { permits: 1, parties: 32, radios, kinds, calls }
 }
 
 /// One party sleeps on the only link, one on the first wait; the others ask and give up until
@@ -389,11 +491,12 @@ pub fn schedule(random: &mut Random, most: u64) -> Schedule {
 fn long_wait(random: &mut Random) -> Schedule {
     let parties = 3 + random.below(30) as u8;
     let radios = random.one_in(2).then(|| radios(random, 1));
-    let mut house = House::with_radios(1, parties, radios.is_some());
     // with radios it takes one step more to sleep on it
     let first: &[[u8; 2]] =
         if radios.is_some() { &[[ASK, 0], [STEP, 0], [STEP, 0]] } else { &[[ASK, 0], [STEP, 0]] };
-    let mut schedule = Schedule { permits: 1, parties, radios, calls: Vec::new() };
+    let kinds = random.one_in(2).then(|| kinds(random));
+    let mut schedule = Schedule { permits: 1, parties, radios, kinds, ..Schedule::default() };
+    let mut house = House::of(&schedule);
     for call in first.iter().chain(&[[ASK, 1], [STEP, 1], [STEP, 1], [STEP, 1]]) {
         house.follow(call[0], usize::from(call[1]));
         schedule.calls.push(*call);
@@ -425,7 +528,14 @@ impl Schedule {
             frame[0] = 2;
             frame.extend(radios);
         }
+        frame.extend(self.kinds.iter().flatten());
         frame
+    }
+
+    /// The kinds that the hub has if it is opened.
+    pub fn kinds(&self) -> [u8; 32] {
+        let own = self.kinds.as_ref().and_then(|kinds| kinds[..].try_into().ok());
+        own.unwrap_or(BUILT_IN)
     }
 
     /// The schedule as the program reads it, without line feeds.

@@ -61,7 +61,7 @@ use Rattle.hub.proofs.moves.Op as O
 use Rattle.hub.proofs.moves.Op.Laws as O′
 use Rattle.hub.proofs.record.Hub as T
 use Rattle.hub.proofs.record.Hub.Laws as T′
-use Rattle.board.proofs.Shell.{hubVal}
+use Rattle.shellwalk.proofs.Shell.{hubVal}
 use Rattle.operations.specs.declared.Operated.{Operated}
 use Rattle.operations.specs.declared.Told.{Told}
 use Rattle.operations.specs.Operation.{toldOf}

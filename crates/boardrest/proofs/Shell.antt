@@ -148,7 +148,7 @@ use Rattle.hub.proofs.record.Hub.Laws as T′
 use Rattle.hub.proofs.record.PartySlot.Laws as PartySlot′
 use Rattle.hub.proofs.record.PlaceSlot.Laws as PlaceSlot′
 use Rattle.hub.proofs.record.Pool.Laws as Pool′
-use Rattle.board.proofs.Shell.{answerVal, behind, by-op, goes-core, held, hubVal, reads, ref, typed}
+use Rattle.shellwalk.proofs.Shell.{answerVal, behind, by-op, goes-core, held, hubVal, reads, ref, typed}
 use Rattle.operations.specs.declared.Operated.{Operated}
 use Rattle.operations.specs.declared.Told.{Told}
 use Rattle.operations.specs.Operation.{operated, toldOf}

@@ -10,7 +10,7 @@ use Rattle.line.specs.Program.{unopened, repliesIn, after, closing, outputOf}
 use Rattle.line.specs.Requests.{Request, requestOf}
 use Rattle.reader.specs.declared.Reader.{Reader}
 use Rattle.frame.specs.declared.session.Session.{Session}
-use Rattle.frame.specs.Opening.{SessionHub}
+use Rattle.beforeopen.specs.Opening.{SessionHub}
 use Rattle.reader.specs.Reading.{KEPT, lineIn, past, asked}
 
 -- Before the first piece.

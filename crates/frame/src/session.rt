@@ -1,9 +1,9 @@
 // A run over an input that comes in pieces.
 
 use crate::closing::put_closing;
-use crate::opening::is_open;
-use crate::opening::until_open;
 use batch::answer_requests;
+use beforeopen::opening::is_open;
+use beforeopen::opening::until_open;
 use hub::Hub;
 use hub::opening::sized;
 use line::values;
@@ -16,7 +16,7 @@ ghost use mathlib.Core.List.{_++_};
 ghost use Prim.Native.Nat.{suc, _*_, _≤_};
 ghost use lib.ListN.{length, drop};
 ghost use Rattle.batch.specs.Batch.{Reachable};
-ghost use Rattle.frame.specs.Opening.{askedOpen};
+ghost use Rattle.beforeopen.specs.Opening.{askedOpen};
 ghost use Rattle.reader.specs.Reading.{KEPT, asked, written};
 ghost use Rattle.frame.specs.Session.{Sound, atStart, fed, finished, rest, told};
 

@@ -1,10 +1,10 @@
 -- Calls as bytes, and the answers to them.
-use Prim.Native.Nat.{ℕ, zero, suc, _*_}
+use Prim.Native.Nat.{ℕ, zero, suc, _+_, _*_}
 use mathlib.Core.Path.{_≡_}
 use mathlib.Core.Bool.{true, cond}
 use mathlib.Core.List.{List, [], _∷_, _++_, map}
 use lib.Dec.{eqb}
-use lib.ListN.{getD, drop}
+use lib.ListN.{getD, take, drop}
 use Rattle.encoding.specs.Form.{asBytes}
 use Rattle.line.specs.Program.{Reply, rendered}
 use Rattle.latch.specs.declared.moves.LatchCall.{LatchCall}
@@ -22,10 +22,14 @@ opOf c =
 abbrev pub callFor : ℕ → ℕ → LatchCall
 callFor c p = record { op = opOf c; party = p }
 
+-- The call of the two bytes from a place on.
+abbrev pub callAt : List ℕ → ℕ → LatchCall
+callAt l from = callFor (getD l from 0) (getD l (from + 1) 0)
+
 -- The first n calls of some bytes, two each.
 unfoldable pub callsIn : ℕ → List ℕ → List LatchCall
 callsIn zero l = []
-callsIn (suc n) l = callFor (getD l 0 0) (getD l 1 0) ∷ callsIn n (drop 2 l)
+callsIn (suc n) l = callAt l 0 ∷ callsIn n (drop 2 l)
 
 -- What a bystander sees of a call, as it is replied: seven bytes.
 abbrev pub replyOf : Entry → Reply
@@ -34,6 +38,10 @@ replyOf e = record { party = e .call .party; answer = e .answer }
 -- The answers to a schedule.
 abbrev pub framesOf : Latch → List LatchCall → List ℕ
 framesOf h cs = rendered asBytes (map replyOf (entries h cs))
+
+-- A buffer in which the answer to call i is written.
+abbrev pub withReply : ℕ → List ℕ → List ℕ → List ℕ
+withReply i text out = (take (7 * i) out ++ text) ++ drop (7 * i + 7) out
 
 -- In front of what the buffer holds past them.
 abbrev pub answered : Latch → ℕ → List ℕ → List ℕ → List ℕ

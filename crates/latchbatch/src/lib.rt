@@ -2,47 +2,32 @@
 // figures are locals while they are, altered in place. A record that is reached from an opening fits:
 // so there is no check of the whole record here.
 
-use encoding::answer::plain;
-use encoding::answer::print_of;
-use encoding::answer::put;
+mod wire; // calls and answers as bytes
+
+use crate::wire::op_at;
+use crate::wire::party_at;
+use crate::wire::put_at;
+use hub::answers::Answer;
+use hub::answers::Refusal;
 use hub::kinds;
 use hub::record::Hub;
-use hub::record::Place;
 use hub::slots::empty_seat;
-use hub::slots::with_place;
-use latch::moves::LatchOp;
 use latch::moves::LatchSight;
 use latch::record::Latch;
 use latchdecide::calls::decide_by;
+use latchmove::ring::LatchRing;
+use latchmove::ring::reclaim;
 use latchmove::room::full_for;
 use latchmove::sight::by_ticket;
 use latchmove::sight::seat_index;
 use latchmove::sight::slot_within;
 use transition::sight::waiter_at;
-use transition::tidy::can_retire;
-use transition::tidy::can_skip;
 use transition::tidy::is_untidy;
 ghost use mathlib.Core.Path.{_≡_};
 ghost use Prim.Native.Nat.{_*_, _≤_};
 ghost use lib.ListN.{length};
 ghost use Rattle.latch.specs.Schedule.{run};
-ghost use Rattle.latchbatch.specs.Batch.{Lasting, answered, callsIn, opOf};
-
-// The operation of a code that is a call's.
-fn op_of(code: u8) -> LatchOp
-    ensures { λ r. ⌜ r ≡ opOf code ⌝ }
-{
-    if code == 0x10 {
-        return LatchOp::Await;
-    }
-    if code == 0x11 {
-        return LatchOp::Step;
-    }
-    if code == 0x12 {
-        return LatchOp::Cancel;
-    }
-    LatchOp::CountDown
-}
+ghost use Rattle.latchbatch.specs.Batch.{Lasting, answered, callsIn};
 
 // Answers the first `count` calls, of two bytes each, in seven bytes each.
 pub fn answer_calls(latch: Latch, calls: &[u8], count: usize, out: &mut [u8]) -> Latch
@@ -60,14 +45,10 @@ pub fn answer_calls(latch: Latch, calls: &[u8], count: usize, out: &mut [u8]) ->
     let kinds = kinds::built_in();
     let mut i: usize = 0;
     while i < count {
-        let from = 2 * i;
-        let code = calls[from];
-        let party = calls[from + 1];
-        let at = 7 * i;
-        let end = at + 7;
-        i += 1;
+        let party = party_at(calls, i);
         if parties <= party {
-            put(&mut out[at..end], party, plain(4));
+            put_at(out, i, party, Answer::Refused(Refusal::NoSuchParty));
+            i += 1;
             continue;
         }
         let own = party as usize;
@@ -79,7 +60,7 @@ pub fn answer_calls(latch: Latch, calls: &[u8], count: usize, out: &mut [u8]) ->
         let near = slots[(q % 32) as usize];
         let waiter = slot_within(q, near);
         let kind = kinds[own];
-        let op = op_of(code);
+        let op = op_at(calls, i);
         let full = full_for(op, oldest, figures.issued, slots);
         let s = LatchSight {
             party,
@@ -102,38 +83,24 @@ pub fn answer_calls(latch: Latch, calls: &[u8], count: usize, out: &mut [u8]) ->
         let left = e.seat;
         places[t] = by_ticket(slot, left, there);
         let answer = e.answer;
-        put(&mut out[at..end], party, print_of(answer));
+        put_at(out, i, party, answer);
+        i += 1;
         // mostly there is nothing to tidy
         let ahead = places[(figures.resumed % Hub::PLACES) as usize];
         let behind = places[(oldest % Hub::PLACES) as usize];
         if !is_untidy(ahead, behind) {
             continue;
         }
-        let turns = e.turns;
-        let limit = oldest + Hub::PLACES;
-        let mut n: u32 = 0;
-        while n < turns {
-            let r = figures.resumed;
-            let a = (r % Hub::PLACES) as usize;
-            let head = places[a];
-            if !can_skip(head, r, limit) {
-                break;
-            }
-            places[a] = with_place(Place::Done, head);
-            figures.resumed = r + 1;
-            n += 1;
-        }
-        let mut m: u32 = 0;
-        while m < turns {
-            let a = (oldest % Hub::PLACES) as usize;
-            let head = places[a];
-            if !can_retire(head) {
-                break;
-            }
-            places[a] = empty_seat();
-            oldest += 1;
-            m += 1;
-        }
+        let ring = LatchRing {
+            resumed: figures.resumed,
+            oldest,
+            places,
+        };
+        let tidied = reclaim(ring, e.turns);
+        figures.resumed = tidied.resumed;
+        oldest = tidied.oldest;
+        let after = tidied.places;
+        places = after;
     }
     Latch {
         parties,

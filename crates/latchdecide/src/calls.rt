@@ -6,11 +6,11 @@ use crate::others::decide_count_down;
 use crate::table::decide_step;
 use latch::moves::LatchOp;
 use latch::moves::LatchSight;
-use latchtable::effect::LatchEffect;
+use latcheffect::effect::LatchEffect;
 ghost use mathlib.Core.Path.{_≡_};
 ghost use Rattle.latch.specs.Table.{decide};
-ghost use Rattle.latchtable.specs.Effect.{effectOf};
-ghost use Rattle.latchtable.specs.Small.{Small};
+ghost use Rattle.latcheffect.specs.Effect.{effectOf};
+ghost use Rattle.latcheffect.specs.Small.{Small};
 
 // `full`: is there no place for one more ticket? Only an await looks at it.
 pub fn decide_by(op: LatchOp, full: bool, s: LatchSight) -> LatchEffect

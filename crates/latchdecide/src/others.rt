@@ -5,20 +5,20 @@ use hub::answers::Refusal;
 use hub::record::Hub;
 use hub::record::Phase;
 use latch::moves::LatchSight;
-use latchtable::changes::acted;
-use latchtable::changes::refused;
-use latchtable::changes::turned;
-use latchtable::effect::LatchEffect;
-use latchtable::figures::with_begun;
-use latchtable::slots::in_phase;
-use latchtable::slots::with_phase;
+use latcheffect::changes::acted;
+use latcheffect::changes::refused;
+use latcheffect::changes::turned;
+use latcheffect::effect::LatchEffect;
+use latcheffect::figures::with_begun;
+use latcheffect::slots::in_phase;
+use latcheffect::slots::with_phase;
 ghost use mathlib.Core.Path.{_≡_};
 ghost use mathlib.Core.Bool.{false};
 ghost use lib.Dec.{eqb};
 ghost use Rattle.hub.specs.Phases.{isWaiting};
 ghost use Rattle.latch.specs.declared.moves.LatchOp.{LatchOp};
 ghost use Rattle.latch.specs.Table.{cancel, decide};
-ghost use Rattle.latchtable.specs.Effect.{effectOf};
+ghost use Rattle.latcheffect.specs.Effect.{effectOf};
 
 // Is there no place for one more ticket? Asked only of a party that is free.
 pub(crate) fn decide_await(full: bool, s: LatchSight) -> LatchEffect

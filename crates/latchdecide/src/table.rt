@@ -3,8 +3,8 @@
 use hub::answers::Refusal;
 use hub::record::Phase;
 use latch::moves::LatchSight;
-use latchtable::changes::refused;
-use latchtable::effect::LatchEffect;
+use latcheffect::changes::refused;
+use latcheffect::effect::LatchEffect;
 use latchtable::rows::step_aborting;
 use latchtable::rows::step_acquiring;
 use latchtable::rows::step_cancelling;
@@ -17,8 +17,8 @@ use latchtable::rows::step_suspending_marked;
 use latchtable::rows::step_ticketed;
 ghost use mathlib.Core.Path.{_≡_};
 ghost use Rattle.latch.specs.Table;
-ghost use Rattle.latchtable.specs.Effect.{effectOf};
-ghost use Rattle.latchtable.specs.Small.{Small};
+ghost use Rattle.latcheffect.specs.Effect.{effectOf};
+ghost use Rattle.latcheffect.specs.Small.{Small};
 
 pub(crate) fn decide_step(s: LatchSight) -> LatchEffect
     requires { ⌜ Small s ⌝ }

@@ -25,8 +25,8 @@ use Rattle.latch.specs.declared.opening.Start.{Start}
 use Rattle.latch.specs.declared.record.Latch.{Latch}
 use Rattle.latch.specs.declared.record.LatchSlot.{LatchSlot}
 use Rattle.latch.specs.Calls.{answerOf, called, checked, moveOf}
-use Rattle.latch.specs.Claims.{Accounts, Busy, NobodyEarly, NobodyLeft, NoneEarly, NoStepRefused, ReachedFits}
-use Rattle.latch.specs.Claims.{letsGo, stepBy}
+use Rattle.latched.specs.Claims.{Accounts, Busy, NobodyEarly, NobodyLeft, NoneEarly, NoStepRefused, ReachedFits}
+use Rattle.latched.specs.Claims.{letsGo, stepBy}
 use Rattle.latch.specs.Ledger.{Ledger, countIn, enter, isDown, ledger, opened, slotIn, succeeded}
 use Rattle.latch.specs.Look.{look, seenBy}
 use Rattle.latch.specs.Moves.{Move}
@@ -35,7 +35,7 @@ use Rattle.latch.specs.Opening.{fresh, opening}
 use Rattle.latch.specs.Queue.{Queue}
 use Rattle.latch.specs.Queue as queue
 use Rattle.latch.specs.Record.{freeSlot}
-use Rattle.latch.specs.Refinement.{Shows, heard, Refines}
+use Rattle.latched.specs.Refinement.{Shows, heard, Refines}
 use Rattle.latch.specs.Schedule.{run, answers, entries}
 use Rattle.latch.specs.Table.{decide}
 use Rattle.latch.proofs.Laws.Opening.{InRange, in-range}

@@ -1,1 +1,1 @@
-// What holds of every schedule of a latch: its proofs alone. specs/Claims.antt of the crate latch says what.
+// What holds of every schedule of a latch: there is no code here, only what is claimed, and why it holds.

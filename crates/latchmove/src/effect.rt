@@ -5,13 +5,13 @@ use latch::moves::LatchOp;
 use latch::moves::LatchSight;
 use latch::record::LatchSlot;
 use latchdecide::calls::decide_by;
-use latchtable::effect::LatchEffect;
+use latcheffect::effect::LatchEffect;
 ghost use mathlib.Core.Path.{_≡_};
 ghost use Prim.Native.Nat.{_≤_};
 ghost use Rattle.latch.specs.Calls.{isFull};
 ghost use Rattle.latch.specs.Table;
-ghost use Rattle.latchtable.specs.Effect.{effectOf};
-ghost use Rattle.latchtable.specs.Small.{Small};
+ghost use Rattle.latcheffect.specs.Effect.{effectOf};
+ghost use Rattle.latcheffect.specs.Small.{Small};
 
 pub fn decide(op: LatchOp, oldest: u32, slots: [LatchSlot; 32], s: LatchSight) -> LatchEffect
     requires { ⌜ Small s × (oldest ≤ 1000000) ⌝ }

@@ -1,7 +1,6 @@
 // The calls by value: a record in, the answer and the record out, for every record and
 // every party byte. A refusal hands the record back as it came.
 
-use crate::reclaim::reclaim;
 use hub::answers::Answer;
 use hub::answers::Refusal;
 use hub::kinds::built_in;
@@ -14,6 +13,8 @@ use latch::record::Latch;
 use latch::record::LatchOutcome;
 use latchfit::fits;
 use latchmove::effect::decide;
+use latchmove::ring::LatchRing;
+use latchmove::ring::reclaim;
 use latchmove::sight::by_ticket;
 use latchmove::sight::seat_index;
 use latchmove::sight::slot_within;
@@ -82,11 +83,18 @@ pub fn call(mut latch: Latch, op: LatchOp, party: u8) -> LatchOutcome
     if !is_untidy(next, first) {
         return LatchOutcome { answer, latch };
     }
-    let tidied = reclaim(latch, e.turns);
-    LatchOutcome {
-        answer,
-        latch: tidied,
-    }
+    let places = latch.places;
+    let ring = LatchRing {
+        resumed: latch.figures.resumed,
+        oldest: latch.oldest,
+        places,
+    };
+    let tidied = reclaim(ring, e.turns);
+    latch.figures.resumed = tidied.resumed;
+    latch.oldest = tidied.oldest;
+    let left = tidied.places;
+    latch.places = left;
+    LatchOutcome { answer, latch }
 }
 
 // Await (10): a keyword, so it has a longer name.

@@ -1,4 +1,2 @@
--- Laws that several proofs cite.
-pub mod Slots
+-- Laws that the rows' proofs cite.
 pub mod Figures
-pub mod Changes

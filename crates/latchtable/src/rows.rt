@@ -1,20 +1,5 @@
 // The step table, a row a function.
 
-use crate::changes::acted;
-use crate::changes::placed;
-use crate::changes::refused;
-use crate::changes::turned;
-use crate::changes::woke;
-use crate::effect::LatchEffect;
-use crate::figures::with_count;
-use crate::figures::with_issued;
-use crate::figures::with_resumed;
-use crate::figures::with_waiters;
-use crate::slots::in_phase;
-use crate::slots::less_one;
-use crate::slots::to_raise;
-use crate::slots::used_one;
-use crate::slots::with_left;
 use hub::answers::Answer;
 use hub::answers::Refusal;
 use hub::record::Phase;
@@ -22,11 +7,26 @@ use hub::record::Place;
 use latch::moves::LatchSight;
 use latch::opening::free_slot;
 use latch::record::LatchFigures;
+use latcheffect::changes::acted;
+use latcheffect::changes::placed;
+use latcheffect::changes::refused;
+use latcheffect::changes::turned;
+use latcheffect::changes::woke;
+use latcheffect::effect::LatchEffect;
+use latcheffect::figures::with_count;
+use latcheffect::figures::with_issued;
+use latcheffect::figures::with_resumed;
+use latcheffect::figures::with_waiters;
+use latcheffect::slots::in_phase;
+use latcheffect::slots::less_one;
+use latcheffect::slots::to_raise;
+use latcheffect::slots::used_one;
+use latcheffect::slots::with_left;
 ghost use mathlib.Core.Path.{_≡_};
 ghost use Prim.Native.Nat.{_≤_};
 ghost use Rattle.hub.specs.Phases.{isWaiting};
 ghost use Rattle.latch.specs.Table.{bringsToZero, done, resumeWaiter, stepAcquiring, stepIn, stepTicketed};
-ghost use Rattle.latchtable.specs.Effect.{effectOf};
+ghost use Rattle.latcheffect.specs.Effect.{effectOf};
 
 // Asked, or raising; `phase` is its own, and `next` unnumbered, both with or without a mark.
 pub fn step_acquiring(phase: Phase, next: Phase, s: LatchSight) -> LatchEffect

@@ -4,7 +4,7 @@ use native.Mathlib.Omega.{arith}
 use Prim.Native.Nat.{_-_, _≤_}
 use mathlib.Core.Path.{_≡_, sym, subst}
 use lib.ListN.{length, take}
-use Rattle.frame.proofs.Laws.Sizes.{asked-few, take-few}
+use Rattle.beforeopen.proofs.Laws.Sizes.{asked-few, take-few}
 use Rattle.deskfeed.specs.declared.session.Fed.{Fed}
 use Rattle.deskfeed.specs.Session.{Sound}
 use Rattle.deskfeed.proofs.Laws.Sessions.{fed-sound}

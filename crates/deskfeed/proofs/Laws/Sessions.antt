@@ -9,7 +9,7 @@ use Rattle.reader.specs.Reading.{KEPT, asked, lineIn, past}
 use Rattle.frame.specs.Session.{joined, rest}
 use Rattle.frame.proofs.Laws.Lines.{lines-read}
 use Rattle.reader.proofs.Laws.Pieces.{past-kept}
-use Rattle.frame.proofs.Laws.Sessions.{asked-append, past-append}
+use Rattle.beforeopen.proofs.Laws.Appended.{asked-append, past-append}
 use Rattle.hub.specs.Opening.{nobody}
 use Rattle.line.specs.Requests.{Request, requestOf}
 use Rattle.screen.specs.declared.record.Line.{Line}

@@ -27,15 +27,16 @@ use Rattle.reader.specs.declared.Read.{Read}
 use Rattle.reader.specs.declared.Reader.{Reader}
 use Rattle.frame.specs.declared.session.Fed.{Fed}
 use Rattle.frame.specs.declared.session.Session.{Session}
-use Rattle.frame.specs.declared.opening.Begun.{Begun}
-use Rattle.frame.specs.Opening.{openAt, early, late, begunBy, askedOpen}
+use Rattle.beforeopen.specs.declared.opening.Begun.{Begun}
+use Rattle.beforeopen.specs.Opening.{openAt, early, late, begunBy, askedOpen}
 use Rattle.reader.specs.Reading.{KEPT, lineIn, past, asked}
 use Rattle.reader.specs.Reading.{requestBytes, written}
 use Rattle.frame.specs.Session.{atStart, fed, told, rest, finished, Sound}
-use Rattle.frame.proofs.Laws.Opening.{session-open, after-session, open-few, all-read}
+use Rattle.beforeopen.proofs.Laws.Opening.{session-open, after-session, open-few, all-read}
 use Rattle.reader.proofs.Laws.Pieces.{past-kept}
-use Rattle.frame.proofs.Laws.Sessions.{lines, asked-append, fed-append, told-append}
-use Rattle.frame.proofs.Laws.Sizes.{replies-size, asked-few}
+use Rattle.beforeopen.proofs.Laws.Appended.{lines, asked-append}
+use Rattle.frame.proofs.Laws.Sessions.{fed-append, told-append}
+use Rattle.beforeopen.proofs.Laws.Sizes.{replies-size, asked-few}
 
 -- A request as it is read back: an opening's bytes are not there any more.
 abbrev seen : Request → Request

@@ -5,23 +5,20 @@ use mathlib.Core.List.{List, _++_, append-assoc}
 use native.Mathlib.Nat.{add-zero}
 use native.Mathlib.Omega.{arith}
 use borrow.Rule.Slice.PartMut.{putMid}
-use lib.ListN.{length, getD, take, drop, take-append-drop, length-drop}
-use lib.Seq.{drop-drop, getD-drop, length-take-le}
+use lib.ListN.{length, getD, take, drop, take-append-drop}
+use lib.Seq.{drop-drop, getD-drop}
 use Rattle.hub.specs.Answers.{printed}
 use Rattle.encoding.specs.Frame.{frameOf}
 use Rattle.line.specs.Program.{rendered}
-use Rattle.encoding.proofs.Laws.Parts.{put-length, put-take, put-drop}
+use Rattle.encoding.proofs.Laws.Parts.{parts, put-length, put-take, put-drop}
 use Rattle.latch.specs.declared.moves.LatchCall.{LatchCall}
 use Rattle.latch.specs.declared.record.Latch.{Latch}
 use Rattle.latch.specs.declared.record.LatchOutcome.{LatchOutcome}
 use Rattle.latch.specs.Calls.{called}
 use Rattle.latch.specs.Schedule.{entries, run}
-use Rattle.latchbatch.specs.Batch.{Lasting, answered, callFor, callsIn, framesOf}
+use Rattle.latchbatch.specs.Batch.{Lasting, answered, callAt, callFor, callsIn, framesOf}
+use Rattle.latchbatch.specs.Batch.{withReply}
 use Rattle.latchbatch.proofs.Laws.Answered.{one-more}
-
--- The call of the two bytes from a place on.
-abbrev pub callAt : List ℕ → ℕ → LatchCall
-callAt l from = callFor (getD l from 0) (getD l (from + 1) 0)
 
 -- Its answer, in seven bytes.
 abbrev pub frame : LatchCall → LatchOutcome → List ℕ
@@ -88,11 +85,6 @@ module _ (h₀ : Latch) (n : ℕ) (l out₀ : List ℕ) (h : Latch) (out : List 
     abbrev at : ℕ
     at = 7 * i
 
-    pub reply-part : length (take (at + 7 - at) (drop at out)) ≡ 7
-    reply-part =
-        length-take-le (at + 7 - at) (drop at out) (simp length-drop (omega (arith, whole-reply)))
-        ∙ omega arith
-
     abbrev here : List ℕ
     here = drop (2 * i) l
 
@@ -105,16 +97,16 @@ module _ (h₀ : Latch) (n : ℕ) (l out₀ : List ℕ) (h : Latch) (out : List 
     fewer : n - i ≡ suc (n - (i + 1))
     fewer = omega arith
 
-    -- One more call c, answered and left as t, whose answer was written and whose record is h′.
-    pub replied : (text : List ℕ) (h′ : Latch) (t : LatchOutcome)
-        → called h (callAt l (2 * i)) ≡ t → text ≡ frame (callAt l (2 * i)) t → h′ ≡ t .latch
-        → Upto h₀ n l out₀ h′ (putMid at (at + 7 - at) out text) (i + 1)
-    replied text h′ t e f g =
-        let fits : length text ≡ 7 = ap length f in
-        let long = put-length out text at 7 whole-reply fits in
+    -- One more call c, answered and left as t, whose answer is written in out′ and whose record is h′.
+    pub replied : (c : LatchCall) (t : LatchOutcome) (out′ : List ℕ) (h′ : Latch) → c ≡ callAt l (2 * i)
+        → called h c ≡ t → out′ ≡ withReply i (frame c t) out → h′ ≡ t .latch
+        → Upto h₀ n l out₀ h′ out′ (i + 1)
+    replied c t out′ h′ b e f g =
+        let text = frame c t in
+        let put : out′ ≡ putMid at (at + 7 - at) out text = f ∙ sym (parts out text at 7 whole-reply refl) in
+        let long = ap length put ∙ put-length out text at 7 whole-reply refl in
         let m = n - (i + 1) in
-        let c : callAt l (2 * i) ≡ callAt here 0 = in-front in
-        let is : t ≡ called h (callAt here 0) = sym e ∙ ap (called h) c in
+        let is : t ≡ called h (callAt here 0) = sym e ∙ ap (called h) (b ∙ in-front) in
         let later : drop (2 * (i + 1)) l ≡ drop 2 here =
         ap (λ (k : ℕ). drop k l) (next i) ∙ sym (drop-drop 2 (2 * i) l) in
         record {
@@ -123,23 +115,19 @@ module _ (h₀ : Latch) (n : ℕ) (l out₀ : List ℕ) (h : Latch) (out : List 
           room = omega (arith, u .room, long);
           length = long ∙ u .length;
           lasting =
-              subst Lasting (sym (g ∙ ap (λ (t : LatchOutcome). t .latch) (sym e)))
-              (one-more h (callAt l (2 * i)) (u .lasting));
+              subst Lasting (sym (g ∙ ap (λ (t : LatchOutcome). t .latch) (sym e))) (one-more h c (u .lasting));
           left =
               (λ j. run ((g ∙ ap (λ (t : LatchOutcome). t .latch) is) j) (callsIn m (later j)))
               ∙ sym (one-record h m here)
               ∙ ap (λ (k : ℕ). run h (callsIn k here)) (sym fewer)
               ∙ u .left;
           same =
-              ap (λ (k : ℕ). let put = putMid at (at + 7 - at) out text in
-              take k put ++ answered h′ m (drop (2 * (i + 1)) l) (drop k put))
-              (by-7 i)
-              ∙ (λ j. put-take out text at 7 whole-reply fits j
-              ++ answered h′ m (later j) (put-drop out text at 7 whole-reply fits j))
+              (λ j. take (by-7 i j) (put j) ++ answered (g j) m (later j) (drop (by-7 i j) (put j)))
+              ∙ (λ j. put-take out text at 7 whole-reply refl j
+              ++ answered (t .latch) m (drop 2 here) (put-drop out text at 7 whole-reply refl j))
               ∙ append-assoc (take at out) text _
               ∙ ap (λ (r : List ℕ). take at out ++ r)
-              ((λ j. f j ++ answered (g j) m (drop 2 here) (drop 7 (drop at out)))
-              ∙ (λ j. frame (c j) (is j)
+              ((λ j. frame ((b ∙ in-front) j) (is j)
               ++ answered (is j .latch) m (drop 2 here) (drop 7 (drop at out)))
               ∙ sym (one-reply h m here (drop at out))
               ∙ ap (λ (k : ℕ). answered h k here (drop at out)) (sym fewer))

@@ -1,7 +1,7 @@
 -- `answer_calls` meets its contract: the record made of the locals is that of the calls so far, and what is
 -- written with what is still to come is the whole.
 use borrow.Author.Needs.{needs}
-use borrow.Author.Tests.{not-true, not-false}
+use borrow.Author.Tests.{not-true}
 use mathlib.Core.Path.{_≡_, refl, sym, ap, ap₂, _∙_}
 use mathlib.Core.Bool.{Bool}
 use mathlib.Core.List.{List, map}
@@ -9,15 +9,15 @@ use mathlib.Core.Logic.{⊎-elim}
 use native.Mathlib.Omega.{arith}
 use Prim.Native.Nat.{ℕ, _+_, _-_, _*_, _%_, _≤_, _<_}
 use lib.ListN.{length, getD, set, length-map}
+use Rattle.hub.specs.declared.answers.Answer.{Answer}
 use Rattle.hub.specs.declared.record.PlaceSlot.{PlaceSlot}
-use Rattle.hub.specs.Answers.{Printed, printed}
+use Rattle.hub.specs.Answers.{printed}
 use Rattle.hub.specs.Kinds.{kindIn}
 use Rattle.hub.specs.Phases.{ticketOf}
-use Rattle.hub.specs.Ring.{PLACES, Ring, readSeat, writeSeat, skip, retire}
-use Rattle.encoding.specs.Frame.{frameOf, paper}
-use Rattle.transition.proofs.Laws.Loops.{tidy, Skipping, skipping, can-skip, in-window, skipping-on}
-use Rattle.transition.proofs.Laws.Loops.{skipping-stop, skipping-end}
-use Rattle.transition.proofs.Laws.Loops.{Retiring, retiring, retiring-on, retiring-stop, retiring-end}
+use Rattle.hub.specs.Ring.{PLACES, readSeat}
+use Rattle.encoding.specs.Frame.{frameOf}
+use Rattle.transition.proofs.Laws.Loops.{tidy}
+use Rattle.latch.specs.declared.moves.LatchCall.{LatchCall}
 use Rattle.latch.specs.declared.moves.LatchOp.{LatchOp}
 use Rattle.latch.specs.declared.moves.LatchSight.{LatchSight}
 use Rattle.latch.specs.declared.record.Latch.{Latch}
@@ -27,24 +27,22 @@ use Rattle.latch.specs.Calls.{answerOf, apply, called, isFull, ringOf, withRing
 use Rattle.latch.specs.Look.{look}
 use Rattle.latch.specs.Moves.{Move}
 use Rattle.latch.specs.Record.{readSlot, writeSlot}
-use Rattle.latch.specs.Table.{decide, withResumed}
-use Rattle.latchtable.specs.declared.effect.LatchEffect.{LatchEffect}
-use Rattle.latchtable.specs.Effect.{effectOf}
-use Rattle.latchmove.specs.Room.{fullFor}
+use Rattle.latch.specs.Table.{decide}
+use Rattle.latcheffect.specs.declared.effect.LatchEffect.{LatchEffect}
+use Rattle.latcheffect.specs.Effect.{effectOf}
 use Rattle.latchmove.specs.Tidied.{tidiedBy}
-use Rattle.latchmove.proofs.Laws.Called.{Counted, said, left}
-use Rattle.latchmove.proofs.Laws.Indexed.{reads, stores, tidies}
+use Rattle.latchmove.proofs.Laws.Called.{Counted, asks, said, left}
+use Rattle.latchmove.proofs.Laws.Indexed.{reads, stores}
 use Rattle.latchmove.proofs.Laws.Ops.{as-asked}
 use Rattle.latchmove.proofs.Laws.Sight.{Reads, sightBy, sightOf}
 use Rattle.latchmove.proofs.Laws.Stored.{nobody, still, few-turns}
-use Rattle.latchbatch.specs.Batch.{opOf}
+use Rattle.latchbatch.specs.Batch.{callAt, withReply}
 use Rattle.latchbatch.proofs.Laws.Answered.{counts, has-slot, turned-away, let-in}
-use Rattle.latchbatch.proofs.Laws.Upto.{Upto, callAt, start, whole-call, whole-reply, reply-part}
-use Rattle.latchbatch.proofs.Laws.Upto.{replied, ended}
+use Rattle.latchbatch.proofs.Laws.Upto.{Upto, start, whole-call, whole-reply, replied, ended}
 use Rattle.latchbatch.proofs.answer_calls.Statement.{statement}
 use Rattle.latchbatch.proofs.answer_calls.Tie as tie
 
--- The record that the locals make, and the ring of the tidying.
+-- The record that the locals make.
 abbrev latchOf : ℕ → LatchFigures → ℕ → List PlaceSlot → List LatchSlot → Latch
 latchOf parties figures oldest places slots =
     record {
@@ -55,26 +53,6 @@ latchOf parties figures oldest places slots =
       slots = slots;
     }
 
-abbrev ring : LatchFigures → ℕ → List PlaceSlot → Ring
-ring f o l = record { resumed = f .resumed; oldest = o; places = l }
-
-abbrev Inv-loop2 : tie.InvT-loop2
-Inv-loop2 _ _ _ _ figures₀ oldest places₀ _ _ _ _ _ _ _ _ _ _ _ _ _ _ turns limit _ figures places n =
-    Skipping turns (ring figures₀ oldest places₀) (ring figures oldest places) n
-    × (figures ≡ withResumed (figures .resumed) figures₀) × (limit ≡ oldest + 256)
-    × (oldest ≤ 1000000)
-
-abbrev μ-loop2 : tie.MeasureT-loop2
-μ-loop2 _ _ _ _ _ _ _ _ _ _ _ _ _ _ _ _ _ _ _ _ _ turns _ _ _ _ n = turns - n
-
-abbrev Inv-loop3 : tie.InvT-loop3
-Inv-loop3 _ _ _ _ figures oldest₀ places₀ _ _ _ _ _ _ _ _ _ _ _ _ _ _ turns _ _ _ oldest places m =
-    Retiring turns (ring figures oldest₀ places₀) (ring figures oldest places) m
-    × (oldest₀ + turns ≤ 1000256)
-
-abbrev μ-loop3 : tie.MeasureT-loop3
-μ-loop3 _ _ _ _ _ _ _ _ _ _ _ _ _ _ _ _ _ _ _ _ _ turns _ _ _ _ _ m = turns - m
-
 abbrev Inv-loop : tie.InvT-loop
 Inv-loop calls count out₀ parties f₀ o₀ places₀ slots₀ _ _ out f o places slots i =
     Upto (latchOf parties f₀ o₀ places₀ slots₀) count calls out₀ (latchOf parties f o places slots) out i
@@ -83,19 +61,16 @@ Inv-loop calls count out₀ parties f₀ o₀ places₀ slots₀ _ _ out f o pla
 abbrev μ-loop : tie.MeasureT-loop
 μ-loop _ count _ _ _ _ _ _ _ _ _ _ _ _ _ i = count - i
 
--- A state or a need of the function, with these invariants and measures.
-abbrev At :
-    (tie.InvT-loop2 → tie.MeasureT-loop2 → tie.InvT-loop3 → tie.MeasureT-loop3 → tie.InvT-loop
-    → tie.MeasureT-loop → Type 0)
-    → Type 0
-At f = f Inv-loop2 μ-loop2 Inv-loop3 μ-loop3 Inv-loop μ-loop
+-- A state or a need of the function, with this invariant and this measure.
+abbrev At : (tie.InvT-loop → tie.MeasureT-loop → Type 0) → Type 0
+At f = f Inv-loop μ-loop
 
 -- The way back along the code. Only these know how many steps lie between.
 abbrev begun : At tie.At-loop → At tie.Start
 begun c = c .before .before .before .before .before .before .before
 
 abbrev turning : At tie.Else1 → At tie.In-loop
-turning c = c .before .before .before
+turning c = c .before .before
 
 abbrev entered : At tie.After-slot-within → At tie.Else1
 entered c = c .before .before .before .before .before .before .before .before
@@ -109,14 +84,14 @@ decided c = c .before .before
 abbrev woken : At tie.After-by-ticket2 → At tie.Joined2
 woken c = c .before .before .before
 
-abbrev filled : At tie.After-print-of → At tie.After-by-ticket2
+abbrev filled : At tie.After-put-at2 → At tie.After-by-ticket2
 filled c = c .before .before
 
-abbrev written : At tie.After-is-untidy → At tie.After-put2
+abbrev written : At tie.After-is-untidy → At tie.After-put-at2
 written c = c .before .before .before .before .before .before
 
-abbrev settled : At tie.At-loop2 → At tie.After-is-untidy
-settled c = c .before .before
+abbrev settled : At tie.After-after → At tie.After-is-untidy
+settled c = c .before .before .before
 
 -- The same from further on.
 abbrev head : At tie.Else1 → At tie.At-loop
@@ -126,13 +101,10 @@ abbrev entering : At tie.After-decide-by → At tie.Else1
 entering c = entered (seen c)
 
 abbrev placed : At tie.After-is-untidy → At tie.After-by-ticket2
-placed c = filled (written c .before)
+placed c = filled (written c)
 
 abbrev effected : At tie.After-is-untidy → At tie.After-decide-by
 effected c = decided (woken (placed c))
-
-abbrev within : At tie.After-is-untidy → At tie.Else1
-within c = entering (effected c)
 
 -- The record at the head of a turn, and the call.
 abbrev latch : At tie.At-loop → Latch
@@ -140,28 +112,41 @@ latch c =
     latchOf (begun c .args .latch .parties) (c .loop .figures) (c .loop .oldest) (c .loop .places)
     (c .loop .slots)
 
+abbrev latch₀ : At tie.At-loop → Latch
+latch₀ c =
+    let l = begun c .args .latch in
+    latchOf (l .parties) (l .figures) (l .oldest) (l .places) (l .slots)
+
 abbrev bytes : At tie.At-loop → List ℕ
 bytes c = begun c .args .calls .now
 
-abbrev code : At tie.At-loop → ℕ
-code c = getD (bytes c) (2 * c .loop .i) 0
+abbrev party : At tie.After-party-at → ℕ
+party c = c .party-at .result
 
-abbrev party : At tie.At-loop → ℕ
-party c = getD (bytes c) (2 * c .loop .i + 1) 0
+abbrev op : At tie.After-decide-by → LatchOp
+op c = c .before .before .op-at .result
+
+abbrev call : At tie.After-decide-by → LatchCall
+call c = asks (op c) (party (entering c .before))
+
+call-is : (c : At tie.After-decide-by)
+    → let h = head (entering c) in
+    call c ≡ callAt (bytes h) (2 * h .loop .i)
+call-is c = λ j. asks (c .before .before .op-at .ensures j) (entering c .before .party-at .ensures j)
 
 -- There is still a call to read, and room for its answer.
-asks : (c : At tie.In-loop) → 2 * c .before .loop .i + 2 ≤ length (bytes (c .before))
-asks c = whole-call _ _ _ _ _ _ _ (c .before .loop .inv .0) (c .loop-test .taken)
+readable : (c : At tie.In-loop) → 2 * c .before .loop .i + 2 ≤ length (bytes (c .before))
+readable c = whole-call _ _ _ _ _ _ _ (c .before .loop .inv .0) (c .loop-test .taken)
 
 room : (c : At tie.In-loop) → 7 * c .before .loop .i + 7 ≤ length (c .before .loop .out)
 room c = whole-reply _ _ _ _ _ _ _ (c .before .loop .inv .0) (c .loop-test .taken)
 
 -- The party is one of the latch's.
-own-slot : (c : At tie.Else1) → party (head c) < 32
+own-slot : (c : At tie.Else1) → party (c .before) < 32
 own-slot c = has-slot (latch (head c)) _ (head c .loop .inv .0 .lasting) (c .if1 .left)
 
 figures : (c : At tie.Else1) → Counted (latch (head c))
-figures c = counts (latch (head c)) (party (head c)) (head c .loop .inv .0 .lasting)
+figures c = counts (latch (head c)) (party (c .before)) (head c .loop .inv .0 .lasting)
 
 -- What the code read for it is what the party sees.
 abbrev seat : At tie.After-slot-within → PlaceSlot
@@ -174,58 +159,59 @@ abbrev ticketAt : At tie.After-slot-within → ℕ
 ticketAt c = c .before .before .before .before .before .before .seat-index .result
 
 index : (c : At tie.After-slot-within)
-    → let h = head (entered c) in
-    ticketAt c ≡ ticketOf (readSlot (h .loop .slots) (party h) .phase) % PLACES
+    → let e = entered c in
+    ticketAt c ≡ ticketOf (readSlot (head e .loop .slots) (party (e .before)) .phase) % PLACES
 unfolding readSlot
 index c = c .before .before .before .before .before .before .seat-index .ensures
 
 reading : (c : At tie.After-slot-within)
-    → Reads (latch (head (entered c))) (party (head (entered c))) (seat c)
-    (c .before .before .waiter-at .result) (waiter c)
+    → let e = entered c in
+    Reads (latch (head e)) (party (e .before)) (seat c) (c .before .before .waiter-at .result) (waiter c)
 unfolding readSlot
 reading c =
+    let e = entered c in
     let b = c .before .before .before in
-    reads (latch (head (entered c))) (party (head (entered c))) (ticketAt c) (index c) _ _ _ _
-    (head (entered c) .loop .inv .1)
+    reads (latch (head e)) (party (e .before)) (ticketAt c) (index c) _ _ _ _ (head e .loop .inv .1)
     (b .before .empty-seat .ensures) (b .by-ticket .ensures)
     (c .before .before .waiter-at .ensures) (c .slot-within .ensures)
 
 -- The effect is that of the call.
-abbrev op : At tie.At-loop → LatchOp
-op h = opOf (code h)
-
 abbrev full : At tie.At-loop → Bool
 full h = isFull (h .loop .oldest) (h .loop .figures .issued) (h .loop .slots)
 
 abbrev sight : At tie.After-slot-within → LatchSight
-sight c = sightOf (latch (head (entered c))) (party (head (entered c))) (seat c) (waiter c)
+sight c = sightOf (latch (head (entered c))) (party (entered c .before)) (seat c) (waiter c)
 
 effect-is : (c : At tie.After-decide-by)
     → let h = head (entering c) in
-    c .decide-by .result ≡ effectOf (decide (op h) (full h) (sight (seen c))) (sight (seen c))
+    c .decide-by .result ≡ effectOf (decide (op c) (full h) (sight (seen c))) (sight (seen c))
 unfolding readSlot kindIn
 effect-is c =
     let h = head (entering c) in
-    let s : ℕ → LatchSight = λ k. sightBy k (latch h) (party h) (seat (seen c)) (waiter (seen c)) in
-    let k = getD (h .before .table .result) (party h) 0 in
+    let p = party (entering c .before) in
+    let s : ℕ → LatchSight = λ k. sightBy k (latch h) p (seat (seen c)) (waiter (seen c)) in
+    let k = getD (h .before .built-in .result) p 0 in
     c .decide-by .ensures
-    ∙ ap₂ (λ (o : LatchOp) (b : Bool). effectOf (decide o b (s k)) (s k)) (c .before .before .op-of .ensures)
-    (c .before .full-for .ensures ∙ ap (λ (o : LatchOp). fullFor o (full h)) (c .before .before .op-of .ensures))
-    ∙ ap₂ (λ (m : LatchSight → Move) (k : ℕ). effectOf (m (s k)) (s k)) (λ i. λ z. as-asked (full h) z (op h) i)
-    (ap (λ (l : List ℕ). getD l (party h) 0) (h .before .table .ensures))
+    ∙ ap (λ (b : Bool). effectOf (decide (op c) b (s k)) (s k)) (c .before .full-for .ensures)
+    ∙ ap₂ (λ (m : LatchSight → Move) (k : ℕ). effectOf (m (s k)) (s k)) (λ i. λ z. as-asked (full h) z (op c) i)
+    (ap (λ (l : List ℕ). getD l p 0) (h .before .built-in .ensures))
 
-abbrev move : At tie.At-loop → Move
-move h = decide (op h) (full h) (look (latch h) (party h))
+abbrev move : At tie.After-decide-by → Move
+move c =
+    let e = entering c in
+    decide (op c) (full (head e)) (look (latch (head e)) (party (e .before)))
 
 -- What the call leaves.
-abbrev leaving : At tie.At-loop → Latch
-leaving h = apply (latch h) (look (latch h) (party h)) (move h)
+abbrev leaving : At tie.After-decide-by → Latch
+leaving c =
+    let e = entering c in
+    apply (latch (head e)) (look (latch (head e)) (party (e .before))) (move c)
 
-answered : (c : At tie.Else1)
-    → let h = head c in
-    called (latch h) (callAt (bytes h) (2 * h .loop .i))
-    ≡ record { answer = answerOf (move h); latch = leaving h }
-answered c = let-in (latch (head c)) _ (head c .loop .inv .0 .lasting) (op (head c)) (c .if1 .left)
+answered : (c : At tie.After-decide-by)
+    → called (latch (head (entering c))) (call c) ≡ record { answer = answerOf (move c); latch = leaving c }
+answered c =
+    let e = entering c in
+    let-in (latch (head e)) _ (head e .loop .inv .0 .lasting) (op c) (e .if1 .left)
 
 long-unmapped : (X Y : Type 0) (f : X → Y) (l : List X) (n : ℕ) → length (map f l) ≡ n
     → length l ≡ n
@@ -238,28 +224,25 @@ full-slots s = search (needs, long-unmapped)
 abbrev effect : At tie.After-is-untidy → LatchEffect
 effect s = effected s .decide-by .result
 
-low : (c : At tie.After-decide-by) → head (entering c) .loop .oldest ≤ 1000000
-low c = omega (arith, figures (entering c) .oldest)
-
 turns-most : (c : At tie.After-decide-by) → c .decide-by .result .turns ≤ 256
 turns-most c =
-    let h = head (entering c) in
     let s = sight (seen c) in
-    few-turns (decide (op h) (full h) s) s (c .decide-by .result) (effect-is c)
+    few-turns (decide (op c) (full (head (entering c))) s) s (c .decide-by .result) (effect-is c)
 
 abbrev untidied : At tie.After-is-untidy → Latch
 untidied s =
-    let h = head (within s) in
+    let e = entering (effected s) in
+    let h = head e in
     latchOf (latch h .parties) (effect s .figures) (h .loop .oldest)
     (set (h .loop .places) (ticketAt (seen (effected s))) (placed s .by-ticket2 .result))
-    (writeSlot (woken (placed s) .if2 .slots) (party h) (effect s .slot))
+    (writeSlot (woken (placed s) .if2 .slots) (party (e .before)) (effect s .slot))
 
 woken-slots : (s : At tie.After-is-untidy)
     → woken (placed s) .if2 .slots
-    ≡ writeSlot (head (within s) .loop .slots) (effect s .woken) (effect s .waiter)
+    ≡ writeSlot (head (entering (effected s)) .loop .slots) (effect s .woken) (effect s .waiter)
 unfolding writeSlot
 woken-slots s =
-    let h = head (within s) in
+    let h = head (entering (effected s)) in
     ⊎-elim (λ w. w .2)
     (λ w. w .1
     ∙ nobody (h .loop .slots) (effect s .woken) (effect s .waiter)
@@ -268,122 +251,69 @@ woken-slots s =
 
 -- What is left, once it is tidied, is what the call leaves.
 leaves : (s : At tie.After-is-untidy) (u : Latch) → u ≡ tidiedBy (effect s .turns) (untidied s)
-    → u ≡ leaving (head (within s))
+    → u ≡ leaving (effected s)
 unfolding readSlot
 leaves s u e =
     let d = effected s in
-    let h = head (within s) in
     e
     ∙ ap (tidiedBy (effect s .turns))
-    (stores (latch h) (party h) _ (index (seen d)) (effect s) _ _ (placed s .by-ticket2 .ensures)
-    (woken-slots s))
-    ∙ left _ _ _ _ _ (reading (seen d)) (op h) (effect s) (effect-is d)
+    (stores (latch (head (entering d))) (party (entering d .before)) _ (index (seen d)) (effect s) _ _
+    (placed s .by-ticket2 .ensures) (woken-slots s))
+    ∙ left _ _ _ _ _ (reading (seen d)) (op d) (effect s) (effect-is d)
 
--- The ring between the tidying's loops.
-abbrev between : At tie.At-loop2 → Ring
-between t = ring (t .loop2 .figures) (head (within (settled t)) .loop .oldest) (t .loop2 .places)
-
-skipped-all : (c : At tie.Left-loop2)
-    → let s = settled (c .before) in
-    between (c .before) ≡ skip (effect s .turns) (ringOf (untidied s))
-unfolding readSeat writeSeat
-skipped-all c =
-    let s = c .before .loop2 .inv in
-    ⊎-elim (λ w. skipping-end _ _ _ _ (s .0) (w .left))
-    (λ w. skipping-stop _ _ _ _ (s .0)
-    (can-skip _ _ _ _ (s .0) _ _ (s .2) (w .2 .ensures) ∙ not-true _ (w .3 .taken)))
-    (c .loop2-test .came)
-
-done : (c : At tie.Left-loop2) (o : ℕ) (l : List PlaceSlot)
-    → let t = c .before in
-    let s = settled t in
-    let h = head (within s) in
-    ring (t .loop2 .figures) o l ≡ retire (effect s .turns) (between t)
-    → latchOf (latch h .parties) (t .loop2 .figures) o l (untidied s .slots) ≡ leaving h
-done c o l e =
-    let t = c .before in
-    let s = settled t in
-    leaves s _
-    (tidies (untidied s) (effect s .turns) (t .loop2 .figures) (between t)
-    (ring (t .loop2 .figures) o l) (t .loop2 .inv .1) (skipped-all c) e)
+-- One more call is answered: its answer is written, and u is the record that is left.
+one-more : (s : At tie.After-is-untidy) (u : Latch) → u ≡ tidiedBy (effect s .turns) (untidied s)
+    → let h = head (entering (effected s)) in
+    Upto (latch₀ h) (begun h .args .count) (bytes h) (begun h .args .out .now) u (written s .put-at2 .last .0)
+    (h .loop .i + 1)
+one-more s u e =
+    let d = effected s in
+    let b = entering d in
+    replied _ _ _ _ _ _ _ (head b .loop .inv .0) (turning b .loop-test .taken) (call d) _ _ u (call-is d)
+    (answered d)
+    (written s .put-at2 .ensures
+    ∙ ap (λ (a : Answer). withReply (head b .loop .i) (frameOf (party (b .before)) (printed a)) (head b .loop .out))
+    (said _ _ _ _ _ (reading (seen d)) (op d) (effect s) (effect-is d)))
+    (leaves s u e)
 
 -- The slots stay as many.
 still-32 : (s : At tie.After-is-untidy) → length (untidied s .slots) ≡ 32
 still-32 s =
-    let h = head (within s) in
-    still (h .loop .slots) _ (effect s .woken) (party h) (effect s .waiter) (effect s .slot) (woken-slots s)
-    ∙ h .loop .inv .1
+    let b = entering (effected s) in
+    still (head b .loop .slots) _ (effect s .woken) (party (b .before)) (effect s .waiter) (effect s .slot)
+    (woken-slots s)
+    ∙ head b .loop .inv .1
 
--- What was written is what the call answers.
-replied-with : (s : At tie.After-is-untidy)
-    → let h = head (within s) in
-    written s .put2 .last .0 ≡ frameOf (party h) (printed (answerOf (move h)))
-replied-with s =
-    let d = effected s in
-    let h = head (within s) in
-    written s .put2 .ensures
-    ∙ ap (frameOf (party h))
-    (written s .before .print-of .ensures
-    ∙ ap printed (said _ _ _ _ _ (reading (seen d)) (op h) (effect s) (effect-is d)))
-
-table-requires : At tie.Need-table-requires
-table-requires c κs = search needs
+built-in-requires : At tie.Need-built-in-requires
+built-in-requires c κs = search needs
 
 loop-holds : At tie.Need-loop-holds
 loop-holds c =
     let a = c .before .before .before .before .before .before in
     (start _ _ _ _ (a .pre .0) (a .pre .1 .0) (a .pre .1 .1), full-slots a)
 
-mul-from : At tie.Need-mul-from
-mul-from c = omega (arith, asks c)
+party-at-requires : At tie.Need-party-at-requires
+party-at-requires c κs = readable c
 
-shared-slice-read-code : At tie.Need-shared-slice-read-code
-shared-slice-read-code c = omega (arith, asks (c .before))
-
-add-party : At tie.Need-add-party
-add-party c = omega (arith, asks (c .before))
-
-shared-slice-read-party : At tie.Need-shared-slice-read-party
-shared-slice-read-party c = omega (arith, asks (c .before .before))
-
-mul-at : At tie.Need-mul-at
-mul-at c = omega (arith, room (c .before .before))
-
-add-end : At tie.Need-add-end
-add-end c = omega (arith, room (c .before .before))
+put-at-requires : At tie.Need-put-at-requires
+put-at-requires c κs = room (c .before .before .before)
 
 add-i : At tie.Need-add-i
 add-i c = search needs
-
-sub-put : At tie.Need-sub-put
-sub-put c = search needs
-
-part-put-start : At tie.Need-part-put-start
-part-put-start c = search needs
-
-part-put-end : At tie.Need-part-put-end
-part-put-end c = omega (arith, room (c .before .before .before))
-
-plain-requires : At tie.Need-plain-requires
-plain-requires c κs = search needs
-
-put-requires : At tie.Need-put-requires
-put-requires c κs =
-    let e = c .before .before .before .before .before in
-    reply-part _ _ _ _ _ _ _ (e .before .loop .inv .0) (e .loop-test .taken)
 
 loop-less : At tie.Need-loop-less
 loop-less c = search needs
 
 loop-again : At tie.Need-loop-again
 loop-again c =
-    let p = c .before .before .before .before .before in
-    let d = p .before .before .before in
+    let p = c .before .before .before .before in
+    let d = p .before .before in
     let h = d .before in
-    let u = h .loop .inv .0 in (
-      replied _ _ _ _ _ _ _ u (d .loop-test .taken) _ _ _
-          (turned-away (latch h) _ (u .lasting) (op h) (p .if1 .taken))
-          (c .before .before .put .ensures ∙ ap (frameOf (party h)) (c .before .before .before .plain .ensures)) refl,
+    let u = h .loop .inv .0 in
+    let o = callAt (bytes h) (2 * h .loop .i) .op in (
+      replied _ _ _ _ _ _ _ u (d .loop-test .taken) (asks o (party (p .before))) _ _ _
+          (ap (asks o) (p .before .party-at .ensures)) (turned-away (latch h) _ (u .lasting) o (p .if1 .taken))
+          (c .before .before .put-at .ensures) refl,
       h .loop .inv .1,
     )
 
@@ -429,8 +359,8 @@ slot-within-requires c κs = search needs
 array-read-kind : At tie.Need-array-read-kind
 array-read-kind c = omega (arith, own-slot (entered c))
 
-op-of-requires : At tie.Need-op-of-requires
-op-of-requires c κs = search needs
+op-at-requires : At tie.Need-op-at-requires
+op-at-requires c κs = readable (turning (entered c))
 
 full-for-requires : At tie.Need-full-for-requires
 full-for-requires c κs = let n = figures (entered (c .before)) in (n .oldest, n .issued)
@@ -464,22 +394,13 @@ mul-places c = omega (arith, index (seen (decided (woken c))))
 array-set-from-places : At tie.Need-array-set-from-places
 array-set-from-places c = omega (arith, index (seen (decided (woken c))))
 
-sub-put-2 : At tie.Need-sub-put-2
-sub-put-2 c = search needs
+put-at-requires-2 : At tie.Need-put-at-requires-2
+put-at-requires-2 c κs = room (turning (entering (decided (woken (c .before)))))
 
-part-put-start-2 : At tie.Need-part-put-start-2
-part-put-start-2 c = search needs
-
-part-put-end-2 : At tie.Need-part-put-end-2
-part-put-end-2 c = omega (arith, room (turning (entering (decided (woken c)))))
-
-print-of-requires : At tie.Need-print-of-requires
-print-of-requires c κs = search needs
-
-put-requires-2 : At tie.Need-put-requires-2
-put-requires-2 c κs =
-    let e = turning (entering (decided (woken (filled c)))) in
-    reply-part _ _ _ _ _ _ _ (e .before .loop .inv .0) (e .loop-test .taken)
+add-i-2 : At tie.Need-add-i-2
+add-i-2 c =
+    let d = turning (entering (decided (woken (filled (c .before .before))))) in
+    omega (arith, d .loop-test .taken, begun (d .before) .fits .count)
 
 cast-ahead : At tie.Need-cast-ahead
 cast-ahead c = search needs
@@ -503,165 +424,30 @@ is-untidy-requires : At tie.Need-is-untidy-requires
 is-untidy-requires c κs = search needs
 
 loop-less-2 : At tie.Need-loop-less-2
-loop-less-2 c = omega (arith, turning (within (c .before)) .loop-test .taken)
+loop-less-2 c = omega (arith, turning (entering (effected (c .before))) .loop-test .taken)
 
 loop-again-2 : At tie.Need-loop-again-2
 unfolding readSeat writeSlot
 loop-again-2 c =
     let s = c .before in
-    let e = within s in
     let nothing =
     tidy (effect s .turns) (ringOf (untidied s))
-    (sym (s .is-untidy .ensures) ∙ not-true _ (c .if3 .taken)) in (
-      replied _ _ _ _ _ _ _ (head e .loop .inv .0) (turning e .loop-test .taken) _ _ _
-          (answered e) (replied-with s) (leaves s _ (ap (withRing (untidied s)) nothing)),
-      still-32 s,
-    )
+    (sym (s .is-untidy .ensures) ∙ not-true _ (c .if3 .taken)) in
+    (one-more s _ (ap (withRing (untidied s)) nothing), still-32 s)
 
-add-limit : At tie.Need-add-limit
-add-limit c = omega (arith, low (effected (c .before)))
-
-loop2-holds : At tie.Need-loop2-holds
-loop2-holds c = (skipping _ _, refl, refl, low (effected (c .before)))
-
-cast-a : At tie.Need-cast-a
-cast-a c = search needs
-
-mul-head : At tie.Need-mul-head
-mul-head c = search needs
-
-array-copy-out-head : At tie.Need-array-copy-out-head
-array-copy-out-head c = search needs
-
-can-skip-requires : At tie.Need-can-skip-requires
-can-skip-requires c κs = search needs
-
-with-place-requires : At tie.Need-with-place-requires
-with-place-requires c κs = search needs
-
-mul-places-2 : At tie.Need-mul-places-2
-mul-places-2 c = search needs
-
-array-set-from-places-2 : At tie.Need-array-set-from-places-2
-array-set-from-places-2 c = search needs
-
-add-figures : At tie.Need-add-figures
-unfolding readSeat
-add-figures c =
-    let s = c .before .before .before .before .before .loop2 .inv in
-    let e = can-skip _ _ _ _ (s .0) _ _ (s .2) (c .before .before .can-skip .ensures) in
-    omega (arith, in-window _ _ _ _ (s .0) (e ∙ not-false _ (c .before .if4 .left)), s .3)
-
-add-n : At tie.Need-add-n
-add-n c =
-    omega (
-      arith,
-      c .before .before .before .before .loop2-test .taken,
-      turns-most (effected (settled (c .before .before .before .before .before))),
-    )
-
-loop2-less : At tie.Need-loop2-less
-loop2-less c = omega (arith, c .before .before .before .before .loop2-test .taken)
-
-loop2-again : At tie.Need-loop2-again
-unfolding readSeat writeSeat
-loop2-again c =
-    let s = c .before .before .before .before .before .loop2 .inv in
-    let e = can-skip _ _ _ _ (s .0) _ _ (s .2) (c .before .before .can-skip .ensures) in
-    let l = c .before .before .before .before .before .loop2 in
-    let r = l .figures .resumed in
-    let on =
-    skipping-on _ _ _ _ (s .0) _ (c .with-place .ensures)
-    (c .before .before .before .before .loop2-test .taken) (e ∙ not-false _ (c .before .if4 .left)) in (
-      on,
-      ap (withResumed (r + 1)) (s .1),
-      s .2,
-      s .3,
-    )
-
-loop3-holds : At tie.Need-loop3-holds
-loop3-holds c =
-    (retiring _ _, omega (arith, c .before .loop2 .inv .3, turns-most (effected (settled (c .before)))))
+reclaim-requires : At tie.Need-reclaim-requires
+reclaim-requires c κs =
+    let d = effected (c .before) in
+    (figures (entering d) .oldest, turns-most d)
 
 loop-less-3 : At tie.Need-loop-less-3
-loop-less-3 c = omega (arith, turning (within (settled (c .before .before .before))) .loop-test .taken)
+loop-less-3 c = omega (arith, turning (entering (effected (settled c))) .loop-test .taken)
 
 loop-again-3 : At tie.Need-loop-again-3
-unfolding readSeat writeSlot
+unfolding writeSlot
 loop-again-3 c =
-    let s = settled (c .before .before .before) in
-    let e = within s in
-    let last = retiring-end _ _ _ _ (c .before .loop3 .inv .0) (c .loop3-test .left) in (
-      replied _ _ _ _ _ _ _ (head e .loop .inv .0) (turning e .loop-test .taken) _ _ _
-          (answered e) (replied-with s) (done (c .before .before) _ _ last),
-      still-32 s,
-    )
-
-cast-a-2 : At tie.Need-cast-a-2
-cast-a-2 c = search needs
-
-mul-head-2 : At tie.Need-mul-head-2
-mul-head-2 c = search needs
-
-array-copy-out-head-2 : At tie.Need-array-copy-out-head-2
-array-copy-out-head-2 c = search needs
-
-can-retire-requires : At tie.Need-can-retire-requires
-can-retire-requires c κs = search needs
-
-loop-less-4 : At tie.Need-loop-less-4
-loop-less-4 c =
-    omega (arith, turning (within (settled (c .before .before .before .before .before .before))) .loop-test .taken)
-
-loop-again-4 : At tie.Need-loop-again-4
-unfolding readSeat writeSlot
-loop-again-4 c =
-    let l = c .before .before .before .before in
-    let s = settled (l .before .before) in
-    let e = within s in
-    let last =
-    retiring-stop _ _ _ _ (l .loop3 .inv .0)
-    (sym (c .before .can-retire .ensures) ∙ not-true _ (c .if5 .taken)) in (
-      replied _ _ _ _ _ _ _ (head e .loop .inv .0) (turning e .loop-test .taken) _ _ _
-          (answered e) (replied-with s) (done (l .before) _ _ last),
-      still-32 s,
-    )
-
-empty-seat-requires-2 : At tie.Need-empty-seat-requires-2
-empty-seat-requires-2 c κs = search needs
-
-mul-places-3 : At tie.Need-mul-places-3
-mul-places-3 c = search needs
-
-array-set-from-places-3 : At tie.Need-array-set-from-places-3
-array-set-from-places-3 c = search needs
-
-add-oldest : At tie.Need-add-oldest
-add-oldest c =
-    let s = c .before .before .before .before .before .loop3 .inv in
-    omega (arith, s .0 .low, s .1, c .before .before .before .before .loop3-test .taken)
-
-add-m : At tie.Need-add-m
-add-m c =
-    omega (
-      arith,
-      c .before .before .before .before .before .loop3 .inv .1,
-      c .before .before .before .before .loop3-test .taken,
-    )
-
-loop3-less : At tie.Need-loop3-less
-loop3-less c = omega (arith, c .before .before .before .before .loop3-test .taken)
-
-loop3-again : At tie.Need-loop3-again
-unfolding readSeat writeSeat
-loop3-again c =
-    let l = c .before .before .before .before .before .loop3 in
-    let s = l .inv in (
-      retiring-on _ _ _ _ (s .0) _ (c .empty-seat2 .ensures)
-          (c .before .before .before .before .loop3-test .taken)
-          (sym (c .before .before .can-retire .ensures) ∙ not-false _ (c .before .if5 .left)),
-      s .1,
-    )
+    let s = settled c in
+    (one-more s _ (ap (withRing (untidied s)) (c .before .reclaim .ensures)), still-32 s)
 
 same-length : At tie.Need-same-length
 same-length c = search needs
@@ -675,26 +461,13 @@ pub answer-calls-spec : {M : Type 1} → statement M
 answer-calls-spec =
     tie.close
     (tie.spec
-    Inv-loop2
-    μ-loop2
-    Inv-loop3
-    μ-loop3
     Inv-loop
     μ-loop
-    table-requires
+    built-in-requires
     loop-holds
-    mul-from
-    shared-slice-read-code
-    add-party
-    shared-slice-read-party
-    mul-at
-    add-end
+    party-at-requires
+    put-at-requires
     add-i
-    sub-put
-    part-put-start
-    part-put-end
-    plain-requires
-    put-requires
     loop-less
     loop-again
     cast-own
@@ -711,7 +484,7 @@ answer-calls-spec =
     array-copy-out-near
     slot-within-requires
     array-read-kind
-    op-of-requires
+    op-at-requires
     full-for-requires
     decide-by-requires
     cast-slots
@@ -722,11 +495,8 @@ answer-calls-spec =
     by-ticket-requires-2
     mul-places
     array-set-from-places
-    sub-put-2
-    part-put-start-2
-    part-put-end-2
-    print-of-requires
-    put-requires-2
+    put-at-requires-2
+    add-i-2
     cast-ahead
     mul-ahead
     array-copy-out-ahead
@@ -736,34 +506,8 @@ answer-calls-spec =
     is-untidy-requires
     loop-less-2
     loop-again-2
-    add-limit
-    loop2-holds
-    cast-a
-    mul-head
-    array-copy-out-head
-    can-skip-requires
-    with-place-requires
-    mul-places-2
-    array-set-from-places-2
-    add-figures
-    add-n
-    loop2-less
-    loop2-again
-    loop3-holds
+    reclaim-requires
     loop-less-3
     loop-again-3
-    cast-a-2
-    mul-head-2
-    array-copy-out-head-2
-    can-retire-requires
-    loop-less-4
-    loop-again-4
-    empty-seat-requires-2
-    mul-places-3
-    array-set-from-places-3
-    add-oldest
-    add-m
-    loop3-less
-    loop3-again
     same-length
     returns)

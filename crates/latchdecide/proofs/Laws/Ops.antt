@@ -11,8 +11,8 @@ use Rattle.latch.specs.declared.moves.LatchOp.the-variants.{Await, Step, Cancel
 use Rattle.latch.specs.declared.moves.LatchSight.{LatchSight}
 use Rattle.latch.specs.Table.{decide}
 use Rattle.latch.proofs.moves.LatchOp as op
-use Rattle.latchtable.specs.declared.effect.LatchEffect.{LatchEffect}
-use Rattle.latchtable.specs.Effect.{effectOf}
+use Rattle.latcheffect.specs.declared.effect.LatchEffect.{LatchEffect}
+use Rattle.latcheffect.specs.Effect.{effectOf}
 
 abbrev opBy : ℕ → LatchOp
 opBy k = getD (Await ∷ Step ∷ Cancel ∷ CountDown ∷ []) k Await

@@ -11,8 +11,8 @@ use Rattle.latch.specs.declared.moves.LatchSight.{LatchSight}
 use Rattle.latch.specs.Moves.{Move, Refuse}
 use Rattle.latch.specs.Record.{withPhase}
 use Rattle.latch.specs.Table.{await, cancel, decide, turn}
-use Rattle.latchtable.specs.declared.effect.LatchEffect.{LatchEffect}
-use Rattle.latchtable.specs.Effect.{effectOf}
+use Rattle.latcheffect.specs.declared.effect.LatchEffect.{LatchEffect}
+use Rattle.latcheffect.specs.Effect.{effectOf}
 
 module _ (a b full : Bool) (s : LatchSight) where
   pub exhausted : a ≡ true → b ≡ true → await a b full s ≡ Refuse Refusal.Exhausted

@@ -11,7 +11,7 @@ use Rattle.hub.specs.Phases.{atRest, isOneOf}
 use Rattle.hub.proofs.Invariant.Rest.{Settled, idle, no-permits, rest-settled}
 use Rattle.hub.proofs.Invariant.Tickets.{one-in}
 use Rattle.hub.proofs.Invariant.Weights.{one, pick, live, resuming}
-use Rattle.latch.specs.Claims.{Calm}
+use Rattle.latched.specs.Claims.{Calm}
 use Rattle.latch.specs.Ledger.{slotIn}
 use Rattle.latch.specs.Queue.{Queue, phases}
 use Rattle.latch.specs.Record.{readSlot}

@@ -25,7 +25,7 @@ use Rattle.hub.proofs.Invariant.Tickets.{Shift, Names, inside}
 use Rattle.latch.specs.declared.moves.LatchOp.{LatchOp}
 use Rattle.latch.specs.declared.record.LatchFigures.{LatchFigures}
 use Rattle.latch.specs.declared.record.LatchSlot.{LatchSlot}
-use Rattle.latch.specs.Claims.{letsGo}
+use Rattle.latched.specs.Claims.{letsGo}
 use Rattle.latch.specs.Ledger.{isDown, slotAfter, slotIn, slotsAfter, waitersAfter}
 use Rattle.latch.specs.Moves.{Move}
 use Rattle.latch.specs.Moves.{Refuse, Act, Put, Wake}

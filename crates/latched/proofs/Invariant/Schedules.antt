@@ -33,7 +33,7 @@ use Rattle.latch.specs.declared.moves.LatchCall.{LatchCall}
 use Rattle.latch.specs.declared.moves.LatchOp.{LatchOp}
 use Rattle.latch.specs.declared.record.LatchSlot.{LatchSlot}
 use Rattle.latch.specs.Calls.{answerOf, checked}
-use Rattle.latch.specs.Claims.{letsGo}
+use Rattle.latched.specs.Claims.{letsGo}
 use Rattle.latch.specs.Ledger.{Ledger, countIn, enter, isDown, opened, slotIn, slotsAfter, succeeded, waitersAfter}
 use Rattle.latch.specs.Look.{seenBy}
 use Rattle.latch.specs.Moves.{Move}

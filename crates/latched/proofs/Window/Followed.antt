@@ -32,7 +32,7 @@ use Rattle.latch.specs.Moves.{Refuse, Act, Put, Wake}
 use Rattle.latch.specs.Queue.{Queue, phases}
 use Rattle.latch.specs.Queue as queue
 use Rattle.latch.specs.Record.{phasesOf, writeSlot}
-use Rattle.latch.specs.Refinement.{Shows}
+use Rattle.latched.specs.Refinement.{Shows}
 use Rattle.latch.specs.Table.{decide, await}
 use Rattle.latch.proofs.Laws.Slots.{read-phase}
 use Rattle.latched.proofs.Invariant.Weights.{sum}

@@ -25,7 +25,7 @@ use Rattle.latch.specs.Look.{look, seenBy}
 use Rattle.latch.specs.Queue.{Queue, phases, places}
 use Rattle.latch.specs.Queue as queue
 use Rattle.latch.specs.Record.{freeSlot, phasesOf, readSlot}
-use Rattle.latch.specs.Refinement.{Shows}
+use Rattle.latched.specs.Refinement.{Shows}
 use Rattle.latch.proofs.Laws.Slots.{read-phase}
 use Rattle.latched.proofs.Invariant.Weights.{sum}
 use Rattle.latched.proofs.Invariant.Keep.{Inv}

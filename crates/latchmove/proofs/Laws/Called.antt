@@ -24,9 +24,9 @@ use Rattle.latch.specs.Fits.{fits, figuresClauses, figuresFit, partyFits, place
 use Rattle.latch.specs.Look.{look}
 use Rattle.latch.specs.Moves.{Move, Refuse}
 use Rattle.latch.specs.Table.{decide}
-use Rattle.latchtable.specs.declared.effect.LatchEffect.{LatchEffect}
-use Rattle.latchtable.specs.Effect.{effectOf}
-use Rattle.latchtable.specs.Small.{Small}
+use Rattle.latcheffect.specs.declared.effect.LatchEffect.{LatchEffect}
+use Rattle.latcheffect.specs.Effect.{effectOf}
+use Rattle.latcheffect.specs.Small.{Small}
 use Rattle.latchmove.specs.Tidied.{tidiedBy}
 use Rattle.latchmove.proofs.Laws.Sight.{Reads, looked, sightOf}
 use Rattle.latchmove.proofs.Laws.Stored.{applied, stored, told}

@@ -9,15 +9,11 @@ use Rattle.hub.specs.declared.record.Phase.{Phase}
 use Rattle.hub.specs.declared.record.PlaceSlot.{PlaceSlot}
 use Rattle.hub.specs.Phases.{byTicket, byWaiter, ticketOf}
 use Rattle.hub.specs.Record.{PARTIES, emptySeat}
-use Rattle.hub.specs.Ring.{PLACES, Ring, readSeat, writeSeat, skip, retire}
+use Rattle.hub.specs.Ring.{PLACES, readSeat, writeSeat}
 use Rattle.latch.specs.declared.record.Latch.{Latch}
-use Rattle.latch.specs.declared.record.LatchFigures.{LatchFigures}
 use Rattle.latch.specs.declared.record.LatchSlot.{LatchSlot}
-use Rattle.latch.specs.Calls.{ringOf}
 use Rattle.latch.specs.Record.{freeSlot, readSlot, writeSlot}
-use Rattle.latch.specs.Table.{withResumed}
-use Rattle.latchtable.specs.declared.effect.LatchEffect.{LatchEffect}
-use Rattle.latchmove.specs.Tidied.{tidiedBy}
+use Rattle.latcheffect.specs.declared.effect.LatchEffect.{LatchEffect}
 use Rattle.latchmove.proofs.Laws.Sight.{Reads}
 use Rattle.latchmove.proofs.Laws.Stored.{made, stored}
 
@@ -57,29 +53,3 @@ module _ (h : Latch) (p i : ℕ) (at : i ≡ ticketOf (readSlot (h .slots) p .ph
       (ap₂ (λ (j : ℕ) (a : PlaceSlot). set (h .places) j a) at
       (eb ∙ ap (λ (a : PlaceSlot). byTicket a (λ t. e .seat) phase) there))
       (ap (λ (k : List LatchSlot). writeSlot k p (e .slot)) el)
-
--- The tidying in two loops: the first moves the next ticket to resume, the second the oldest.
-pub tidies : (u : Latch) (k : ℕ) (f : LatchFigures) (s t : Ring) → f ≡ withResumed (t .resumed) (u .figures)
-    → s ≡ skip k (ringOf u) → t ≡ retire k s
-    → record {
-      parties = u .parties;
-      figures = f;
-      oldest = t .oldest;
-      places = t .places;
-      slots = u .slots;
-    } ≡ tidiedBy k u
-tidies u k f s t ef es et =
-    ap (λ (f : LatchFigures). record {
-      parties = u .parties;
-      figures = f;
-      oldest = t .oldest;
-      places = t .places;
-      slots = u .slots;
-    }) ef
-    ∙ ap (λ (t : Ring). record {
-      parties = u .parties;
-      figures = withResumed (t .resumed) (u .figures);
-      oldest = t .oldest;
-      places = t .places;
-      slots = u .slots;
-    }) (et ∙ ap (retire k) es)

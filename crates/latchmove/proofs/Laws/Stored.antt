@@ -20,8 +20,8 @@ use Rattle.latch.specs.Calls.{answerOf, apply, ringOf, tidied, withRing}
 use Rattle.latch.specs.Look.{look, seenBy}
 use Rattle.latch.specs.Moves.{Move, Refuse, Act, Put, Wake}
 use Rattle.latch.specs.Record.{freeSlot, readSlot, writeSlot}
-use Rattle.latchtable.specs.declared.effect.LatchEffect.{LatchEffect}
-use Rattle.latchtable.specs.Effect.{effectOf}
+use Rattle.latcheffect.specs.declared.effect.LatchEffect.{LatchEffect}
+use Rattle.latcheffect.specs.Effect.{effectOf}
 use Rattle.transition.proofs.Laws.Loops.{reclaimed-none}
 use Rattle.latchmove.specs.Tidied.{tidiedBy}
 

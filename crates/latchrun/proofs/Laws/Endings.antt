@@ -13,7 +13,7 @@ use Rattle.latch.specs.declared.moves.LatchCall.{LatchCall}
 use Rattle.latch.specs.declared.opening.Opened.{Opened}
 use Rattle.latch.specs.declared.opening.Start.{Start}
 use Rattle.latch.specs.declared.record.Latch.{Latch}
-use Rattle.latch.specs.Claims.{ReachedFits}
+use Rattle.latched.specs.Claims.{ReachedFits}
 use Rattle.latch.specs.Opening.{fresh, openingIf, opening, upTo200}
 use Rattle.latch.proofs.opening.Start as start
 use Rattle.latched.proofs.Claims.{every-record-fits}

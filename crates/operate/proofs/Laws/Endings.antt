@@ -11,14 +11,15 @@ use Rattle.hub.specs.declared.opening.Opening.{Opening}
 use Rattle.hub.specs.declared.record.Outcome.{Outcome}
 use Rattle.hub.specs.declared.record.PartySlot.{PartySlot}
 use Rattle.hub.specs.Answers.{printed}
-use Rattle.hub.specs.Basics.{upTo32}
 use Rattle.hub.specs.Calm.{rests}
-use Rattle.hub.specs.Opening.{fresh, opening, openingIf, radiosDiffer}
+use Rattle.hub.specs.Opening.{fresh, opening, tests}
 use Rattle.hub.specs.Phases.{atRest, isOneOf}
 use Rattle.hub.specs.Record.{PARTIES, freeSlot, readSlot}
+use Rattle.hub.proofs.Laws.Opening.{Ends as OpeningEnds, ends as opening-ends, opened, refused}
 use Rattle.line.specs.Requests.{Request, malformed, toOpen, toCall, isOpening}
 use Rattle.batch.proofs.Laws.Reachable.{opening-reachable}
 use Rattle.run.specs.Bytes.{wellFormed}
+use Rattle.run.proofs.Laws.Endings.{few-refusals}
 use Rattle.perform.specs.Bytes.{isOperationCode, written}
 use Rattle.operate.specs.Ending.{Ended, framedRun, operatedFrom, operatedIf}
 use Rattle.perform.specs.Rested.{Rested}
@@ -75,17 +76,14 @@ calm-fresh : (k : Opening) (p : ℕ) → rests (fresh k) p ≡ true
 unfolding fresh readSlot isOneOf
 calm-fresh k p = ap (λ (s : PartySlot). atRest (s .phase)) (all-free PARTIES p)
 
-accepted : (k : Opening) (a b d : Bool) → printed (openingIf a b d k .answer) .code ≡ 0x1F
-    → (openingIf a b d k .answer ≡ Answer.Opened) × (openingIf a b d k .hub ≡ fresh k)
-unfolding openingIf
-accepted k false b d e = absurd (omega (arith, e))
-accepted k true false d e = absurd (omega (arith, e))
-accepted k true true false e = absurd (omega (arith, e))
-accepted k true true true e = (refl, refl)
+accepted : (k : Opening) (b : Bool) (x : Outcome) → OpeningEnds k b x → codeOf x ≡ 0x1F
+    → (x .answer ≡ Answer.Opened) × (x .hub ≡ fresh k)
+accepted k false x (refused r) e = absurd (omega (arith, e, few-refusals r))
+accepted k true x opened e = (refl, refl)
 
 pub opened-rests : (k : Opening) (o : Outcome) → o ≡ opening k → codeOf o ≡ 0x1F → Rested (o .hub)
 opened-rests k o f e =
-    let z = accepted k (upTo32 (k .permits)) (upTo32 (k .parties)) (radiosDiffer k) (ap codeOf (sym f) ∙ e) in
+    let z = accepted k _ _ (opening-ends k (tests k)) (ap codeOf (sym f) ∙ e) in
     subst (λ (p : Outcome). Rested (p .hub)) (sym f)
     (record {
       reachable = opening-reachable k (z .0);

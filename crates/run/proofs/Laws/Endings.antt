@@ -28,7 +28,7 @@ abbrev pub Ends : Ended → Ran → List ℕ → Type 0
 Ends e r l = (ranCode r ≡ e .result) × (l ≡ e .out)
 
 -- No refusal has the code of an opening that is made.
-few-refusals : (r : Refusal) → refusalCode r ≤ 17
+pub few-refusals : (r : Refusal) → refusalCode r ≤ 17
 few-refusals Refusal.Unfit = omega arith
 few-refusals Refusal.BadPermits = omega arith
 few-refusals Refusal.BadParties = omega arith

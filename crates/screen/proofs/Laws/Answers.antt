@@ -1,7 +1,7 @@
 -- Each answer of an operation, by the tests that lead to it.
 use Prim.Native.Nat.{ℕ, suc, _+_, _≤_, _<_}
-use mathlib.Core.Path.{_≡_, refl, sym, ap, subst, _∙_}
-use mathlib.Core.Bool.{true, false}
+use mathlib.Core.Path.{_≡_, refl, sym, ap, ap₂, subst, _∙_}
+use mathlib.Core.Bool.{Bool, true, false}
 use mathlib.Core.List.{List, [], _∷_, _++_}
 use native.Mathlib.Omega.{arith}
 use borrow.Author.Tests.{eq-eqb, le-leb, leb-true, lt-leb, lt-ltb, le-ltb, ne-eqb}
@@ -66,12 +66,12 @@ module _ (l : Line) (p : ℕ) where
   pub may-not : among (waiters l) p ≡ true → kindIn (l .kinds) p ≡ 3
       → ownMove l Operation.Cancel p ≡ refused Refusal.NotCancellable l
   unfolding ownMove cancel waitsIn
-  may-not e k = rw (e, eq-eqb (kindIn (l .kinds) p) 3 k)
+  may-not e k = ap₂ (λ (w t : Bool). cancel w t l p) e (eq-eqb (kindIn (l .kinds) p) 3 k)
 
   pub cancels : among (waiters l) p ≡ true → (kindIn (l .kinds) p ≡ 3 → ⊥)
       → ownMove l Operation.Cancel p ≡ accepted (withWaiters (without p (waiters l)) l)
   unfolding ownMove cancel waitsIn
-  cancels e k = rw (e, ne-eqb (kindIn (l .kinds) p) 3 k)
+  cancels e k = ap₂ (λ (w t : Bool). cancel w t l p) e (ne-eqb (kindIn (l .kinds) p) 3 k)
 
   -- Give back.
   pub holds-not : getD (l .holding) p false ≡ false → ownMove l Operation.Release p ≡ refused Refusal.NotHolding l

@@ -3,8 +3,8 @@ use borrow.Author.Needs.{needs}
 use borrow.Author.Tests.{eq-eqb, ne-eqb, not-true, not-false}
 use mathlib.Core.Path.{refl, sym, ap, _∙_}
 use Rattle.latch.specs.Moves.{Move}
-use Rattle.latchtable.specs.Effect.{effectOf}
-use Rattle.latchtable.proofs.Laws.Changes.{acts}
+use Rattle.latcheffect.specs.Effect.{effectOf}
+use Rattle.latcheffect.proofs.Laws.Changes.{acts}
 use Rattle.latchdecide.proofs.Laws.Others.{cannot, may-not, may}
 use Rattle.latchdecide.proofs.others.cancel_to.Statement.{statement}
 use Rattle.latchdecide.proofs.others.cancel_to.Tie as tie

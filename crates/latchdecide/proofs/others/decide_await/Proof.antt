@@ -9,9 +9,9 @@ use Rattle.hub.specs.Phases.{isFree, isOneOf}
 use Rattle.hub.specs.Record.{MAX-BEGUN}
 use Rattle.latch.specs.Moves.{Move}
 use Rattle.latch.specs.Table.{await, decide}
-use Rattle.latchtable.specs.Effect.{effectOf}
+use Rattle.latcheffect.specs.Effect.{effectOf}
 use Rattle.latchdecide.proofs.Laws.Others.{exhausted, full-up}
-use Rattle.latchtable.proofs.Laws.Changes.{acts}
+use Rattle.latcheffect.proofs.Laws.Changes.{acts}
 use Rattle.latchdecide.proofs.others.decide_await.Statement.{statement}
 use Rattle.latchdecide.proofs.others.decide_await.Tie as tie
 

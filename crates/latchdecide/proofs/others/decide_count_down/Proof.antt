@@ -5,7 +5,7 @@ use mathlib.Core.List.{[], _∷_}
 use Rattle.hub.proofs.Laws.Phases.{allBut, phase-arm}
 use Rattle.hub.specs.Phases.{isFree, isOneOf}
 use Rattle.latch.specs.Table.{countDown, decide}
-use Rattle.latchtable.proofs.Laws.Changes.{acts}
+use Rattle.latcheffect.proofs.Laws.Changes.{acts}
 use Rattle.latchdecide.proofs.others.decide_count_down.Statement.{statement}
 use Rattle.latchdecide.proofs.others.decide_count_down.Tie as tie
 

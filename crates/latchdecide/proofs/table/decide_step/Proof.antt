@@ -7,8 +7,8 @@ use Rattle.hub.specs.declared.record.Phase.{Phase}
 use Rattle.latch.specs.declared.moves.LatchSight.{LatchSight}
 use Rattle.latch.specs.Moves.{Move}
 use Rattle.latch.specs.Table.{step, stepIn}
-use Rattle.latchtable.specs.declared.effect.LatchEffect.{LatchEffect}
-use Rattle.latchtable.specs.Effect.{effectOf}
+use Rattle.latcheffect.specs.declared.effect.LatchEffect.{LatchEffect}
+use Rattle.latcheffect.specs.Effect.{effectOf}
 use Rattle.latchdecide.proofs.table.decide_step.Statement.{statement}
 use Rattle.latchdecide.proofs.table.decide_step.Tie as tie
 

@@ -4,7 +4,7 @@ use mathlib.Core.Bool.{Bool}
 use borrow.Author.Needs.{needs}
 use Rattle.latch.specs.Moves.{Move}
 use Rattle.latch.specs.Table as table
-use Rattle.latchtable.specs.Effect.{effectOf}
+use Rattle.latcheffect.specs.Effect.{effectOf}
 use Rattle.latchmove.proofs.Laws.Ops.{as-asked}
 use Rattle.latchmove.proofs.effect.decide.Statement.{statement}
 use Rattle.latchmove.proofs.effect.decide.Tie as tie

@@ -3,11 +3,13 @@ use borrow.Author.Needs.{needs}
 use borrow.Author.Tests.{not-true, not-false, lt-ltb, le-ltb}
 use mathlib.Core.Path.{_≡_, refl, sym, ap, _∙_}
 use mathlib.Core.Bool.{Bool, true, false}
+use mathlib.Core.List.{List}
 use mathlib.Core.Logic.{⊎-elim}
 use native.Mathlib.Omega.{arith}
 use Prim.Native.Nat.{ℕ, _<_, _%_, _≤_}
 use lib.ListN.{length, set}
 use Rattle.hub.specs.declared.record.PlaceSlot.{PlaceSlot}
+use Rattle.hub.specs.Kinds.{kindIn}
 use Rattle.hub.specs.Phases.{ticketOf}
 use Rattle.hub.specs.Ring.{PLACES, readSeat}
 use Rattle.fit.proofs.Laws.Clauses.{mapped-size}
@@ -19,7 +21,7 @@ use Rattle.latch.specs.Calls.{called, isFull, ringOf, withRing}
 use Rattle.latch.specs.Fits.{fits}
 use Rattle.latch.specs.Record.{readSlot, writeSlot}
 use Rattle.latch.specs.Table.{decide}
-use Rattle.latchtable.specs.Effect.{effectOf}
+use Rattle.latcheffect.specs.Effect.{effectOf}
 use Rattle.latchmove.specs.Tidied.{tidiedBy}
 use Rattle.latchmove.proofs.Laws.Called.{asks, unfit, no-such-party, Counted, counted}
 use Rattle.latchmove.proofs.Laws.Called.{outcome-is, with-printed}
@@ -43,10 +45,10 @@ size c = search mapped-size
 abbrev tested : tie.After-slot-within → tie.Else2
 tested c = c .before .before .before .before .before .before .before .before
 
-abbrev seen : tie.After-kind → tie.After-slot-within
-seen c = c .before .before
+abbrev seen : tie.After-kind-in → tie.After-slot-within
+seen c = c .before .before .before
 
-abbrev kinded : tie.After-decide → tie.After-kind
+abbrev kinded : tie.After-decide → tie.After-kind-in
 kinded c = c .before .before
 
 abbrev decided : tie.After-by-ticket2 → tie.After-decide
@@ -56,7 +58,7 @@ abbrev placed : tie.After-first → tie.After-by-ticket2
 placed c = c .before .before .before
 
 -- The same from further on.
-abbrev start : tie.After-kind → tie.Start
+abbrev start : tie.After-kind-in → tie.Start
 start c = tested (seen c) .before .before .before
 
 abbrev begin : tie.After-decide → tie.Start
@@ -73,21 +75,21 @@ within-slots : (c : tie.Else2) → party (c .before .before .before) < 32
 within-slots c = omega (arith, c .if2 .left, counts (c .before) .parties)
 
 -- What the code has read is what the party sees.
-abbrev seat : tie.After-kind → PlaceSlot
+abbrev seat : tie.After-kind-in → PlaceSlot
 seat c = seen c .before .before .before .by-ticket .result
 
-abbrev waiter : tie.After-kind → LatchSlot
+abbrev waiter : tie.After-kind-in → LatchSlot
 waiter c = seen c .slot-within .result
 
-abbrev at : tie.After-kind → ℕ
+abbrev at : tie.After-kind-in → ℕ
 at c = seen c .before .before .before .before .before .before .seat-index .result
 
-index : (c : tie.After-kind)
+index : (c : tie.After-kind-in)
     → at c ≡ ticketOf (readSlot (latch (start c) .slots) (party (start c)) .phase) % PLACES
 unfolding readSlot
 index c = seen c .before .before .before .before .before .before .seat-index .ensures
 
-reading : (c : tie.After-kind)
+reading : (c : tie.After-kind-in)
     → Reads (latch (start c)) (party (start c)) (seat c) (seen c .before .before .waiter-at .result)
     (waiter c)
 unfolding readSlot
@@ -98,7 +100,7 @@ reading c =
     (seen c .before .before .waiter-at .ensures) (seen c .slot-within .ensures)
 
 -- The effect is that of the call.
-abbrev sight : tie.After-kind → LatchSight
+abbrev sight : tie.After-kind-in → LatchSight
 sight c = sightOf (latch (start c)) (party (start c)) (seat c) (waiter c)
 
 abbrev full : tie.After-decide → Bool
@@ -113,7 +115,8 @@ effect-is c =
     let k = kinded c in
     let s : ℕ → LatchSight = λ n. sightBy n (latch (start k)) (party (start k)) (seat k) (waiter k) in
     c .decide .ensures
-    ∙ ap (λ (n : ℕ). effectOf (decide (begin c .args .op) (full c) (s n)) (s n)) (k .kind .ensures)
+    ∙ ap (λ (n : ℕ). effectOf (decide (begin c .args .op) (full c) (s n)) (s n))
+    (k .kind-in .ensures ∙ ap (λ (l : List ℕ). kindIn l (party (start k))) (k .before .built-in .ensures))
 
 turns-most : (c : tie.After-decide) → c .decide .result .turns ≤ 256
 turns-most c =
@@ -214,8 +217,11 @@ element-copy-out-near c = search needs
 slot-within-requires : tie.Need-slot-within-requires
 slot-within-requires c κs = search needs
 
-kind-requires : tie.Need-kind-requires
-kind-requires c κs = search needs
+built-in-requires : tie.Need-built-in-requires
+built-in-requires c κs = search needs
+
+kind-in-requires : tie.Need-kind-in-requires
+kind-in-requires c κs = search needs
 
 decide-requires : tie.Need-decide-requires
 decide-requires c κs =
@@ -279,7 +285,7 @@ returns-3 c =
 
 reclaim-requires : tie.Need-reclaim-requires
 reclaim-requires c κs =
-    let b = placed (c .before .before) in
+    let b = placed (c .before .before .before) in
     let d = decided b in (
       omega (
         arith,
@@ -291,7 +297,10 @@ reclaim-requires c κs =
 
 returns-4 : tie.Need-returns-4
 unfolding writeSlot
-returns-4 c = with-printed (leaves (placed (c .before .before .before)) _ (c .reclaim .ensures))
+returns-4 c =
+    let r = c .before .before in
+    let b = placed (r .before .before .before .before) in
+    with-printed (leaves b _ (ap (withRing (after b)) (r .reclaim .ensures)))
 
 pub call-spec : {M : Type 1} → statement M
 call-spec =
@@ -312,7 +321,8 @@ call-spec =
     mul-near
     element-copy-out-near
     slot-within-requires
-    kind-requires
+    built-in-requires
+    kind-in-requires
     decide-requires
     cast-v
     mul-woke

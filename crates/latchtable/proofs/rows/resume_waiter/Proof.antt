@@ -5,7 +5,7 @@ use mathlib.Core.List.{[], _∷_}
 use Rattle.hub.proofs.Laws.Phases.{allBut, phase-arm}
 use Rattle.hub.specs.Phases.{isOneOf, isWaiting}
 use Rattle.latch.specs.Table.{resumeWaiter}
-use Rattle.latchtable.proofs.Laws.Changes.{puts, wakes}
+use Rattle.latcheffect.proofs.Laws.Changes.{puts, wakes}
 use Rattle.latchtable.proofs.rows.resume_waiter.Statement.{statement}
 use Rattle.latchtable.proofs.rows.resume_waiter.Tie as tie
 

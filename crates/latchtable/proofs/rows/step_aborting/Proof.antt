@@ -4,7 +4,7 @@ use borrow.Author.Tests.{eq-eqb, ne-eqb}
 use mathlib.Core.Path.{ap, _∙_}
 use Rattle.latch.specs.Table.{stepAborting, stepIn, withWaiters}
 use Prim.Native.Nat.{ℕ}
-use Rattle.latchtable.proofs.Laws.Changes.{acts}
+use Rattle.latcheffect.proofs.Laws.Changes.{acts}
 use Rattle.latchtable.proofs.rows.step_aborting.Statement.{statement}
 use Rattle.latchtable.proofs.rows.step_aborting.Tie as tie
 

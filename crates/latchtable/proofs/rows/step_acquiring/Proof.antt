@@ -3,7 +3,7 @@ use borrow.Author.Needs.{needs}
 use borrow.Author.Tests.{eq-eqb, ne-eqb, not-true, not-false}
 use mathlib.Core.Path.{refl}
 use Rattle.latch.specs.Table.{stepAcquiring}
-use Rattle.latchtable.proofs.Laws.Changes.{acts}
+use Rattle.latcheffect.proofs.Laws.Changes.{acts}
 use Rattle.latchtable.proofs.rows.step_acquiring.Statement.{statement}
 use Rattle.latchtable.proofs.rows.step_acquiring.Tie as tie
 
@@ -47,8 +47,9 @@ acted-requires c κs = search needs
 returns-3 : tie.Need-returns-3
 unfolding stepAcquiring
 returns-3 c =
-    let s = c .before .before .before .before .before .before .before .before .args .s in
-    rw (ne-eqb _ _ (c .before .before .before .before .before .if1 .left), not-false (s .slot .raising) (c .before .before .before .before .if2 .left))
+    let b = c .before .before .before .before in
+    let s = b .before .before .before .before .args .s in
+    rw (ne-eqb _ _ (b .before .if1 .left), not-false (s .slot .raising) (b .if2 .left))
     (acts s _ (c .acted .ensures) (c .before .in-phase .ensures) (c .before .before .with-waiters .ensures))
 
 pub step-acquiring-spec : {M : Type 1} → statement M

@@ -5,8 +5,8 @@ use mathlib.Core.List.{[], _∷_}
 use Rattle.hub.proofs.Laws.Phases.{place-arm}
 use Rattle.latch.specs.Moves.{Move}
 use Rattle.latch.specs.Table.{stepIn, stepRefusing}
-use Rattle.latchtable.specs.Effect.{effectOf}
-use Rattle.latchtable.proofs.Laws.Changes.{puts}
+use Rattle.latcheffect.specs.Effect.{effectOf}
+use Rattle.latcheffect.proofs.Laws.Changes.{puts}
 use Rattle.latchtable.proofs.rows.step_refusing.Statement.{statement}
 use Rattle.latchtable.proofs.rows.step_refusing.Tie as tie
 
@@ -34,14 +34,16 @@ refused-requires c κs = search needs
 returns : tie.Need-returns
 unfolding stepIn stepRefusing
 returns c =
-    let e = c .before .before .enum-told .given .1 in
-    rw e (puts (c .before .before .before .before .before .args .s) _ (c .placed .ensures) refl (c .before .free-slot .ensures))
+    let b = c .before .before in
+    rw (b .enum-told .given .1)
+    (puts (b .before .before .before .args .s) _ (c .placed .ensures) refl (c .before .free-slot .ensures))
 
 returns-2 : tie.Need-returns-2
 unfolding stepIn stepRefusing
 returns-2 c =
-    let e = c .before .before .enum-told2 .given .1 in
-    rw e (puts (c .before .before .before .before .before .args .s) _ (c .placed2 .ensures) refl (c .before .free-slot2 .ensures))
+    let b = c .before .before in
+    rw (b .enum-told2 .given .1)
+    (puts (b .before .before .before .args .s) _ (c .placed2 .ensures) refl (c .before .free-slot2 .ensures))
 
 returns-3 : tie.Need-returns-3
 unfolding stepIn stepRefusing

@@ -3,7 +3,7 @@ use borrow.Author.Needs.{needs}
 use mathlib.Core.Path.{sym, ap, _∙_}
 use Rattle.latch.specs.Table.{stepIn, stepReleasing, withCount}
 use Prim.Native.Nat.{ℕ}
-use Rattle.latchtable.proofs.Laws.Changes.{acts}
+use Rattle.latcheffect.proofs.Laws.Changes.{acts}
 use Rattle.latchtable.proofs.rows.step_releasing.Statement.{statement}
 use Rattle.latchtable.proofs.rows.step_releasing.Tie as tie
 
@@ -41,9 +41,9 @@ acted-requires-2 c κs = search needs
 returns-2 : tie.Need-returns-2
 unfolding stepIn stepReleasing
 returns-2 c =
-    let s = c .before .before .before .before .before .before .before .args .s in
-    let e = sym (c .before .before .before .before .before .brings-to-zero .ensures) ∙ c .before .before .before .before .if1 .left in
-    rw e
+    let b = c .before .before .before .before in
+    let s = b .before .before .before .args .s in
+    rw (sym (b .before .brings-to-zero .ensures) ∙ b .if1 .left)
     (acts s _ (c .acted2 .ensures) (c .before .free-slot .ensures)
     (c .before .before .with-count2 .ensures
     ∙ ap (λ (n : ℕ). withCount n (s .figures)) (c .before .before .before .less-one .ensures)))

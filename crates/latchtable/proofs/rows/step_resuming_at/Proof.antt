@@ -6,8 +6,8 @@ use Rattle.hub.proofs.Laws.Phases.{place-arm}
 use Rattle.hub.specs.declared.record.Place.{Place}
 use Rattle.latch.specs.Moves.{Move}
 use Rattle.latch.specs.Table.{stepIn, stepResumingAt}
-use Rattle.latchtable.specs.Effect.{effectOf}
-use Rattle.latchtable.proofs.Laws.Changes.{puts}
+use Rattle.latcheffect.specs.Effect.{effectOf}
+use Rattle.latcheffect.proofs.Laws.Changes.{puts}
 use Rattle.latchtable.proofs.rows.step_resuming_at.Statement.{statement}
 use Rattle.latchtable.proofs.rows.step_resuming_at.Tie as tie
 
@@ -53,8 +53,9 @@ refused-requires c κs = search needs
 returns : tie.Need-returns
 unfolding stepIn stepResumingAt
 returns c =
-    let e = c .before .before .enum-told .given .1 in
-    rw e (puts (c .before .before .before .before .before .args .s) _ (c .placed .ensures) refl (c .before .used-one .ensures))
+    let b = c .before .before in
+    rw (b .enum-told .given .1)
+    (puts (b .before .before .before .args .s) _ (c .placed .ensures) refl (c .before .used-one .ensures))
 
 returns-2 : tie.Need-returns-2
 unfolding stepIn stepResumingAt
@@ -67,14 +68,16 @@ returns-2 c =
 returns-3 : tie.Need-returns-3
 unfolding stepIn stepResumingAt
 returns-3 c =
-    let e = c .before .before .enum-told2 .given .1 in
-    rw e (puts (c .before .before .before .before .before .args .s) _ (c .placed2 .ensures) refl (c .before .with-left .ensures))
+    let b = c .before .before in
+    rw (b .enum-told2 .given .1)
+    (puts (b .before .before .before .args .s) _ (c .placed2 .ensures) refl (c .before .with-left .ensures))
 
 returns-4 : tie.Need-returns-4
 unfolding stepIn stepResumingAt
 returns-4 c =
-    let e = c .before .before .enum-told3 .given .1 in
-    rw e (puts (c .before .before .before .before .before .args .s) _ (c .placed3 .ensures) refl (c .before .used-one2 .ensures))
+    let b = c .before .before in
+    rw (b .enum-told3 .given .1)
+    (puts (b .before .before .before .args .s) _ (c .placed3 .ensures) refl (c .before .used-one2 .ensures))
 
 returns-5 : tie.Need-returns-5
 unfolding stepIn stepResumingAt

@@ -5,8 +5,8 @@ use mathlib.Core.List.{[], _∷_}
 use Rattle.hub.proofs.Laws.Phases.{place-arm}
 use Rattle.latch.specs.Moves.{Move}
 use Rattle.latch.specs.Table.{stepTicketed}
-use Rattle.latchtable.specs.Effect.{effectOf}
-use Rattle.latchtable.proofs.Laws.Changes.{puts}
+use Rattle.latcheffect.specs.Effect.{effectOf}
+use Rattle.latcheffect.proofs.Laws.Changes.{puts}
 use Rattle.latchtable.proofs.rows.step_ticketed.Statement.{statement}
 use Rattle.latchtable.proofs.rows.step_ticketed.Tie as tie
 
@@ -37,15 +37,17 @@ refused-requires c κs = search needs
 returns : tie.Need-returns
 unfolding stepTicketed
 returns c =
-    let e = c .before .before .before .enum-told .given .1 in
-    rw e
-    (puts (c .before .before .before .before .before .before .args .s) _ (c .placed .ensures) (c .before .before .waited-by .ensures) (c .before .in-phase .ensures))
+    let b = c .before .before in
+    rw (b .before .enum-told .given .1)
+    (puts (b .before .before .before .before .args .s) _ (c .placed .ensures) (b .waited-by .ensures)
+    (c .before .in-phase .ensures))
 
 returns-2 : tie.Need-returns-2
 unfolding stepTicketed
 returns-2 c =
-    let e = c .before .before .enum-told2 .given .1 in
-    rw e (puts (c .before .before .before .before .before .args .s) _ (c .placed2 .ensures) refl (c .before .free-slot .ensures))
+    let b = c .before .before in
+    rw (b .enum-told2 .given .1)
+    (puts (b .before .before .before .args .s) _ (c .placed2 .ensures) refl (c .before .free-slot .ensures))
 
 returns-3 : tie.Need-returns-3
 unfolding stepTicketed
@@ -54,7 +56,8 @@ returns-3 c =
     let s = a .s in
     c .refused .ensures
     ∙ ap (λ (m : Move). effectOf m s)
-    (place-arm (1 ∷ 3 ∷ 4 ∷ 5 ∷ []) (λ x. stepTicketed (a .next) (a .t) x s) (s .seat .place) refl (c .before .match .keys3))
+    (place-arm (1 ∷ 3 ∷ 4 ∷ 5 ∷ []) (λ x. stepTicketed (a .next) (a .t) x s) (s .seat .place) refl
+    (c .before .match .keys3))
 
 pub step-ticketed-spec : {M : Type 1} → statement M
 step-ticketed-spec =

@@ -1,6 +1,7 @@
 -- `release_on` meets its contract: its tests, in order, are those of the definition.
 use borrow.Author.Needs.{needs}
 use borrow.Author.Tests.{not-false, not-true}
+use Prim.Native.Nat.{ℕ}
 use mathlib.Core.Path.{_≡_, sym, _∙_}
 use lib.ListN.{getD, length}
 use mir.Syntax.{w64}
@@ -15,8 +16,8 @@ use Rattle.screen.proofs.calls.release_on.Tie as tie
 size : (s : tie.Start) → length (s .args .line .queue) ≡ 32
 size s = search needs
 
-byte : (s : tie.Start) → Fits w64 (getD (s .args .line .queue) 0 0)
-byte s = search needs
+byte : (s : tie.Start) (i : ℕ) → Fits w64 (getD (s .args .line .queue) i 0)
+byte s i = search needs
 
 array-read-if1 : tie.Need-array-read-if1
 array-read-if1 c =
@@ -49,7 +50,7 @@ array-read-first : tie.Need-array-read-first
 array-read-first c = search needs
 
 cast-first : tie.Need-cast-first
-cast-first c = byte (c .before .before .before .before .before)
+cast-first c = byte (c .before .before .before .before .before) _
 
 leave-requires : tie.Need-leave-requires
 leave-requires c κs = search needs

@@ -1,0 +1,2 @@
+-- A whole input into a buffer.
+pub mod Whole

@@ -1,0 +1,3 @@
+// A whole input to a whole output, in the caller's buffers.
+
+pub mod whole;
