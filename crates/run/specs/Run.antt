@@ -1,5 +1,6 @@
 -- How a run ends, and what it leaves in the buffer.
 use Prim.Native.Nat.{ℕ, _*_, _/_}
+use mathlib.Core.Path.{_≡_}
 use mathlib.Core.Bool.{Bool, true, false}
 use mathlib.Core.List.{List, _++_}
 use lib.Dec.{eqb, leb}
@@ -20,6 +21,10 @@ ranCode (Ran.NotOpened why) = refusalCode why
 ranCode Ran.Malformed = 254
 ranCode Ran.NoRoom = 255
 ranCode Ran.Done = 0
+
+-- Each end has its own number, so that a promise of the number is one of the end.
+unfoldable pub OwnNumbers : Type 0
+OwnNumbers = (r q : Ran) → ranCode r ≡ ranCode q → r ≡ q
 
 pub record Ended : Type 0 where
   pub result : ℕ
