@@ -43,6 +43,7 @@ pub fn call(mut latch: Latch, op: LatchOp, party: u8) -> LatchOutcome
         };
     }
     let p = party as usize;
+    let kinds = built_in();
     let slot = latch.slots[p];
     let t = seat_index(slot);
     let there = latch.places[t];
@@ -54,7 +55,7 @@ pub fn call(mut latch: Latch, op: LatchOp, party: u8) -> LatchOutcome
     let figures = latch.figures;
     let s = LatchSight {
         party,
-        kind: kind_in(built_in(), party),
+        kind: kind_in(kinds, party),
         slot,
         seat,
         waiter,

@@ -42,11 +42,14 @@ size : (c : tie.Start) → length (latch c .slots) ≡ 32
 size c = search mapped-size
 
 -- The way back along the code; only these know how many steps lie between.
+abbrev tabled : tie.After-slot-within → tie.After-built-in
+tabled c = c .before .before .before .before .before .before .before .before
+
 abbrev tested : tie.After-slot-within → tie.Else2
-tested c = c .before .before .before .before .before .before .before .before
+tested c = tabled c .before
 
 abbrev seen : tie.After-kind-in → tie.After-slot-within
-seen c = c .before .before .before
+seen c = c .before .before
 
 abbrev kinded : tie.After-decide → tie.After-kind-in
 kinded c = c .before .before
@@ -116,7 +119,7 @@ effect-is c =
     let s : ℕ → LatchSight = λ n. sightBy n (latch (start k)) (party (start k)) (seat k) (waiter k) in
     c .decide .ensures
     ∙ ap (λ (n : ℕ). effectOf (decide (begin c .args .op) (full c) (s n)) (s n))
-    (k .kind-in .ensures ∙ ap (λ (l : List ℕ). kindIn l (party (start k))) (k .before .built-in .ensures))
+    (k .kind-in .ensures ∙ ap (λ (l : List ℕ). kindIn l (party (start k))) (tabled (seen k) .built-in .ensures))
 
 turns-most : (c : tie.After-decide) → c .decide .result .turns ≤ 256
 turns-most c =
@@ -181,11 +184,14 @@ returns-2 : tie.Need-returns-2
 returns-2 c =
     with-printed (no-such-party _ _ _ (fitting (c .before)) (le-ltb _ _ (c .if2 .taken)))
 
+built-in-requires : tie.Need-built-in-requires
+built-in-requires c κs = search needs
+
 mul-slot : tie.Need-mul-slot
 mul-slot c = search needs
 
 element-copy-out-slot : tie.Need-element-copy-out-slot
-element-copy-out-slot c = within-slots c
+element-copy-out-slot c = within-slots (c .before)
 
 seat-index-requires : tie.Need-seat-index-requires
 seat-index-requires c κs = search needs
@@ -216,9 +222,6 @@ element-copy-out-near c = search needs
 
 slot-within-requires : tie.Need-slot-within-requires
 slot-within-requires c κs = search needs
-
-built-in-requires : tie.Need-built-in-requires
-built-in-requires c κs = search needs
 
 kind-in-requires : tie.Need-kind-in-requires
 kind-in-requires c κs = search needs
@@ -309,6 +312,7 @@ call-spec =
     fits-requires
     returns
     returns-2
+    built-in-requires
     mul-slot
     element-copy-out-slot
     seat-index-requires
@@ -321,7 +325,6 @@ call-spec =
     mul-near
     element-copy-out-near
     slot-within-requires
-    built-in-requires
     kind-in-requires
     decide-requires
     cast-v
