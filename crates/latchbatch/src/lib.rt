@@ -15,6 +15,11 @@ use hub::slots::empty_seat;
 use latch::moves::LatchSight;
 use latch::record::Latch;
 use latchdecide::calls::decide_by;
+use latcheffect::effect::answer_after;
+use latcheffect::effect::figures_after;
+use latcheffect::effect::seat_after;
+use latcheffect::effect::slot_after;
+use latcheffect::effect::waiter_after;
 use latchmove::ring::LatchRing;
 use latchmove::ring::reclaim;
 use latchmove::room::full_for;
@@ -71,19 +76,14 @@ pub fn answer_calls(latch: Latch, calls: &[u8], count: usize, out: &mut [u8]) ->
             figures,
         };
         let e = decide_by(op, full, s);
-        let next = e.figures;
-        figures = next;
         let woken = e.woken;
         if woken < 32 {
-            let woke = e.waiter;
-            slots[woken as usize] = woke;
+            slots[woken as usize] = waiter_after(e);
         }
-        let becomes = e.slot;
-        slots[own] = becomes;
-        let left = e.seat;
-        places[t] = by_ticket(slot, left, there);
-        let answer = e.answer;
-        put_at(out, i, party, answer);
+        slots[own] = slot_after(e);
+        figures = figures_after(e);
+        places[t] = by_ticket(slot, seat_after(e), there);
+        put_at(out, i, party, answer_after(e));
         i += 1;
         // mostly there is nothing to tidy
         let ahead = places[(figures.resumed % Hub::PLACES) as usize];

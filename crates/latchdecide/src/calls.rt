@@ -8,14 +8,13 @@ use latch::moves::LatchOp;
 use latch::moves::LatchSight;
 use latcheffect::effect::LatchEffect;
 ghost use mathlib.Core.Path.{_≡_};
-ghost use Rattle.latch.specs.Table.{decide};
-ghost use Rattle.latcheffect.specs.Effect.{effectOf};
+ghost use Rattle.latcheffect.specs.Effect.{effectBy};
 ghost use Rattle.latcheffect.specs.Small.{Small};
 
 // `full`: is there no place for one more ticket? Only an await looks at it.
 pub fn decide_by(op: LatchOp, full: bool, s: LatchSight) -> LatchEffect
     requires { ⌜ Small s ⌝ }
-    ensures { λ r. ⌜ r ≡ effectOf (decide op full s) s ⌝ }
+    ensures { λ r. ⌜ r ≡ effectBy op full s ⌝ }
 {
     match op {
         LatchOp::Step => decide_step(s),

@@ -4,6 +4,7 @@ use hub::answers::Answer;
 use hub::record::PlaceSlot;
 use latch::record::LatchFigures;
 use latch::record::LatchSlot;
+ghost use mathlib.Core.Path.{_≡_};
 
 // What was seen and does not change is in it, too; a call that is refused changes nothing.
 pub struct LatchEffect {
@@ -14,4 +15,36 @@ pub struct LatchEffect {
     pub seat: PlaceSlot, // the place of its ticket, if it has one
     pub figures: LatchFigures,
     pub answer: Answer,
+}
+
+// Its parts. Handed on by a function, a part is stored from where it lies; bound to a name, it is copied
+// there first.
+pub fn waiter_after(e: LatchEffect) -> LatchSlot
+    ensures { λ r. ⌜ r ≡ e .waiter ⌝ }
+{
+    e.waiter
+}
+
+pub fn slot_after(e: LatchEffect) -> LatchSlot
+    ensures { λ r. ⌜ r ≡ e .slot ⌝ }
+{
+    e.slot
+}
+
+pub fn seat_after(e: LatchEffect) -> PlaceSlot
+    ensures { λ r. ⌜ r ≡ e .seat ⌝ }
+{
+    e.seat
+}
+
+pub fn figures_after(e: LatchEffect) -> LatchFigures
+    ensures { λ r. ⌜ r ≡ e .figures ⌝ }
+{
+    e.figures
+}
+
+pub fn answer_after(e: LatchEffect) -> Answer
+    ensures { λ r. ⌜ r ≡ e .answer ⌝ }
+{
+    e.answer
 }

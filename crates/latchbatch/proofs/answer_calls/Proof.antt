@@ -2,7 +2,7 @@
 -- written with what is still to come is the whole.
 use borrow.Author.Needs.{needs}
 use borrow.Author.Tests.{not-true}
-use mathlib.Core.Path.{_≡_, refl, sym, ap, ap₂, _∙_}
+use mathlib.Core.Path.{_≡_, refl, sym, ap, _∙_}
 use mathlib.Core.Bool.{Bool}
 use mathlib.Core.List.{List, map}
 use mathlib.Core.Logic.{⊎-elim}
@@ -29,7 +29,7 @@ use Rattle.latch.specs.Moves.{Move}
 use Rattle.latch.specs.Record.{readSlot, writeSlot}
 use Rattle.latch.specs.Table.{decide}
 use Rattle.latcheffect.specs.declared.effect.LatchEffect.{LatchEffect}
-use Rattle.latcheffect.specs.Effect.{effectOf}
+use Rattle.latcheffect.specs.Effect.{effectBy}
 use Rattle.latchmove.specs.Tidied.{tidiedBy}
 use Rattle.latchmove.proofs.Laws.Called.{Counted, asks, said, left}
 use Rattle.latchmove.proofs.Laws.Indexed.{reads, stores}
@@ -79,13 +79,13 @@ abbrev seen : At tie.After-decide-by → At tie.After-slot-within
 seen c = c .before .before .before
 
 abbrev decided : At tie.Joined2 → At tie.After-decide-by
-decided c = c .before .before
+decided c = c .before
 
 abbrev woken : At tie.After-by-ticket2 → At tie.Joined2
-woken c = c .before .before .before
+woken c = c .before .before .before .before
 
 abbrev filled : At tie.After-put-at2 → At tie.After-by-ticket2
-filled c = c .before .before
+filled c = c .before .before .before
 
 abbrev written : At tie.After-is-untidy → At tie.After-put-at2
 written c = c .before .before .before .before .before .before
@@ -184,7 +184,7 @@ sight c = sightOf (latch (head (entered c))) (party (entered c .before)) (seat c
 
 effect-is : (c : At tie.After-decide-by)
     → let h = head (entering c) in
-    c .decide-by .result ≡ effectOf (decide (op c) (full h) (sight (seen c))) (sight (seen c))
+    c .decide-by .result ≡ effectBy (op c) (full h) (sight (seen c))
 unfolding readSlot kindIn
 effect-is c =
     let h = head (entering c) in
@@ -192,9 +192,9 @@ effect-is c =
     let s : ℕ → LatchSight = λ k. sightBy k (latch h) p (seat (seen c)) (waiter (seen c)) in
     let k = getD (h .before .built-in .result) p 0 in
     c .decide-by .ensures
-    ∙ ap (λ (b : Bool). effectOf (decide (op c) b (s k)) (s k)) (c .before .full-for .ensures)
-    ∙ ap₂ (λ (m : LatchSight → Move) (k : ℕ). effectOf (m (s k)) (s k)) (λ i. λ z. as-asked (full h) z (op c) i)
-    (ap (λ (l : List ℕ). getD l p 0) (h .before .built-in .ensures))
+    ∙ ap (λ (b : Bool). effectBy (op c) b (s k)) (c .before .full-for .ensures)
+    ∙ as-asked (full h) (s k) (op c)
+    ∙ ap (λ (l : List ℕ). effectBy (op c) (full h) (s (getD l p 0))) (h .before .built-in .ensures)
 
 abbrev move : At tie.After-decide-by → Move
 move c =
@@ -226,16 +226,16 @@ effect s = effected s .decide-by .result
 
 turns-most : (c : At tie.After-decide-by) → c .decide-by .result .turns ≤ 256
 turns-most c =
-    let s = sight (seen c) in
-    few-turns (decide (op c) (full (head (entering c))) s) s (c .decide-by .result) (effect-is c)
+    few-turns (op c) (full (head (entering c))) (sight (seen c)) (c .decide-by .result) (effect-is c)
 
 abbrev untidied : At tie.After-is-untidy → Latch
 untidied s =
     let e = entering (effected s) in
     let h = head e in
-    latchOf (latch h .parties) (effect s .figures) (h .loop .oldest)
+    let f = placed s .before .before in
+    latchOf (latch h .parties) (f .figures-after .result) (h .loop .oldest)
     (set (h .loop .places) (ticketAt (seen (effected s))) (placed s .by-ticket2 .result))
-    (writeSlot (woken (placed s) .if2 .slots) (party (e .before)) (effect s .slot))
+    (writeSlot (woken (placed s) .if2 .slots) (party (e .before)) (f .before .slot-after .result))
 
 woken-slots : (s : At tie.After-is-untidy)
     → woken (placed s) .if2 .slots
@@ -243,7 +243,8 @@ woken-slots : (s : At tie.After-is-untidy)
 unfolding writeSlot
 woken-slots s =
     let h = head (entering (effected s)) in
-    ⊎-elim (λ w. w .2)
+    ⊎-elim
+    (λ w. w .2 ∙ ap (writeSlot (h .loop .slots) (effect s .woken)) (w .1 .ensures))
     (λ w. w .1
     ∙ nobody (h .loop .slots) (effect s .woken) (effect s .waiter)
     (omega (arith, h .loop .inv .1, w .0 .left)))
@@ -255,10 +256,12 @@ leaves : (s : At tie.After-is-untidy) (u : Latch) → u ≡ tidiedBy (effect s .
 unfolding readSlot
 leaves s u e =
     let d = effected s in
+    let f = placed s .before .before in
     e
     ∙ ap (tidiedBy (effect s .turns))
-    (stores (latch (head (entering d))) (party (entering d .before)) _ (index (seen d)) (effect s) _ _
-    (placed s .by-ticket2 .ensures) (woken-slots s))
+    (stores (latch (head (entering d))) (party (entering d .before)) _ (index (seen d)) (effect s) _ _ _ _ _
+    (f .figures-after .ensures) (placed s .before .seat-after .ensures) (placed s .by-ticket2 .ensures)
+    (f .before .slot-after .ensures) (woken-slots s))
     ∙ left _ _ _ _ _ (reading (seen d)) (op d) (effect s) (effect-is d)
 
 -- One more call is answered: its answer is written, and u is the record that is left.
@@ -273,14 +276,15 @@ one-more s u e =
     (answered d)
     (written s .put-at2 .ensures
     ∙ ap (λ (a : Answer). withReply (head b .loop .i) (frameOf (party (b .before)) (printed a)) (head b .loop .out))
-    (said _ _ _ _ _ (reading (seen d)) (op d) (effect s) (effect-is d)))
+    (written s .before .answer-after .ensures
+    ∙ said _ _ _ _ _ (reading (seen d)) (op d) (effect s) (effect-is d)))
     (leaves s u e)
 
 -- The slots stay as many.
 still-32 : (s : At tie.After-is-untidy) → length (untidied s .slots) ≡ 32
 still-32 s =
     let b = entering (effected s) in
-    still (head b .loop .slots) _ (effect s .woken) (party (b .before)) (effect s .waiter) (effect s .slot)
+    still (head b .loop .slots) _ (effect s .woken) (party (b .before)) (effect s .waiter) _
     (woken-slots s)
     ∙ head b .loop .inv .1
 
@@ -370,6 +374,9 @@ decide-by-requires c κs =
     let n = figures (entered (c .before .before)) in
     record { waiters = n .waiters; issued = n .issued; resumed = n .resumed }
 
+waiter-after-requires : At tie.Need-waiter-after-requires
+waiter-after-requires c κs = search needs
+
 cast-slots : At tie.Need-cast-slots
 cast-slots c = search needs
 
@@ -379,11 +386,20 @@ mul-slots c = search needs
 array-set-from-slots : At tie.Need-array-set-from-slots
 array-set-from-slots c = search needs
 
+slot-after-requires : At tie.Need-slot-after-requires
+slot-after-requires c κs = search needs
+
 mul-slots-2 : At tie.Need-mul-slots-2
 mul-slots-2 c = omega (arith, own-slot (entering (decided (c .before))))
 
 array-set-from-slots-2 : At tie.Need-array-set-from-slots-2
 array-set-from-slots-2 c = omega (arith, own-slot (entering (decided (c .before))))
+
+figures-after-requires : At tie.Need-figures-after-requires
+figures-after-requires c κs = search needs
+
+seat-after-requires : At tie.Need-seat-after-requires
+seat-after-requires c κs = search needs
 
 by-ticket-requires-2 : At tie.Need-by-ticket-requires-2
 by-ticket-requires-2 c κs = search needs
@@ -394,8 +410,11 @@ mul-places c = omega (arith, index (seen (decided (woken c))))
 array-set-from-places : At tie.Need-array-set-from-places
 array-set-from-places c = omega (arith, index (seen (decided (woken c))))
 
+answer-after-requires : At tie.Need-answer-after-requires
+answer-after-requires c κs = search needs
+
 put-at-requires-2 : At tie.Need-put-at-requires-2
-put-at-requires-2 c κs = room (turning (entering (decided (woken (c .before)))))
+put-at-requires-2 c κs = room (turning (entering (decided (woken (c .before .before)))))
 
 add-i-2 : At tie.Need-add-i-2
 add-i-2 c =
@@ -487,14 +506,19 @@ answer-calls-spec =
     op-at-requires
     full-for-requires
     decide-by-requires
+    waiter-after-requires
     cast-slots
     mul-slots
     array-set-from-slots
+    slot-after-requires
     mul-slots-2
     array-set-from-slots-2
+    figures-after-requires
+    seat-after-requires
     by-ticket-requires-2
     mul-places
     array-set-from-places
+    answer-after-requires
     put-at-requires-2
     add-i-2
     cast-ahead

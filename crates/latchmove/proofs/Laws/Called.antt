@@ -15,7 +15,6 @@ use Rattle.hub.specs.Ring.{PLACES}
 use Rattle.hub.proofs.Laws.Bools.{clause, first, second}
 use Rattle.latch.specs.declared.moves.LatchCall.{LatchCall}
 use Rattle.latch.specs.declared.moves.LatchOp.{LatchOp}
-use Rattle.latch.specs.declared.moves.LatchSight.{LatchSight}
 use Rattle.latch.specs.declared.record.Latch.{Latch}
 use Rattle.latch.specs.declared.record.LatchOutcome.{LatchOutcome}
 use Rattle.latch.specs.declared.record.LatchSlot.{LatchSlot}
@@ -25,7 +24,7 @@ use Rattle.latch.specs.Look.{look}
 use Rattle.latch.specs.Moves.{Move, Refuse}
 use Rattle.latch.specs.Table.{decide}
 use Rattle.latcheffect.specs.declared.effect.LatchEffect.{LatchEffect}
-use Rattle.latcheffect.specs.Effect.{effectOf}
+use Rattle.latcheffect.specs.Effect.{effectBy, effectOf}
 use Rattle.latcheffect.specs.Small.{Small}
 use Rattle.latchmove.specs.Tidied.{tidiedBy}
 use Rattle.latchmove.proofs.Laws.Sight.{Reads, looked, sightOf}
@@ -98,14 +97,13 @@ module _ (h : Latch) (p : ℕ) (seat : PlaceSlot) (q : ℕ) (waiter : LatchSlot)
     (r : Reads h p seat q waiter) where
   -- The effect e that was decided from what is seen.
   module _ (o : LatchOp) (e : LatchEffect)
-      (is : e ≡ effectOf (decide o (full h) (sightOf h p seat waiter)) (sightOf h p seat waiter)) where
+      (is : e ≡ effectBy o (full h) (sightOf h p seat waiter)) where
     abbrev pub move : Move
     move = decide o (full h) (look h p)
 
     effect : e ≡ effectOf move (look h p)
-    effect =
-        is
-        ∙ ap (λ (s : LatchSight). effectOf (decide o (full h) s) s) (looked h p seat q waiter r)
+    unfolding effectBy
+    effect = is ∙ ap (effectBy o (full h)) (looked h p seat q waiter r)
 
     pub said : e .answer ≡ answerOf move
     said = ap (λ (e : LatchEffect). e .answer) effect ∙ told move (look h p)

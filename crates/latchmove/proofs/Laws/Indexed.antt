@@ -11,6 +11,7 @@ use Rattle.hub.specs.Phases.{byTicket, byWaiter, ticketOf}
 use Rattle.hub.specs.Record.{PARTIES, emptySeat}
 use Rattle.hub.specs.Ring.{PLACES, readSeat, writeSeat}
 use Rattle.latch.specs.declared.record.Latch.{Latch}
+use Rattle.latch.specs.declared.record.LatchFigures.{LatchFigures}
 use Rattle.latch.specs.declared.record.LatchSlot.{LatchSlot}
 use Rattle.latch.specs.Record.{freeSlot, readSlot, writeSlot}
 use Rattle.latcheffect.specs.declared.effect.LatchEffect.{LatchEffect}
@@ -42,14 +43,13 @@ module _ (h : Latch) (p i : ℕ) (at : i ≡ ticketOf (readSlot (h .slots) p .ph
         near = ew;
       }
 
-  -- The place b and the slots l are stored, the waiter's among them.
-  pub stores : (e : LatchEffect) (b : PlaceSlot) (l : List LatchSlot)
-      → b ≡ byTicket (getD (h .places) i emptySeat) (λ t. e .seat) phase
-      → l ≡ writeSlot (h .slots) (e .woken) (e .waiter)
-      → made h (e .figures) (set (h .places) i b) (writeSlot l p (e .slot)) ≡ stored h p e
+  -- The parts f, a and x of an effect are stored, in the slots l with the waiter's among them.
+  pub stores : (e : LatchEffect) (f : LatchFigures) (a b : PlaceSlot) (x : LatchSlot) (l : List LatchSlot)
+      → f ≡ e .figures → a ≡ e .seat → b ≡ byTicket (getD (h .places) i emptySeat) (λ t. a) phase
+      → x ≡ e .slot → l ≡ writeSlot (h .slots) (e .woken) (e .waiter)
+      → made h f (set (h .places) i b) (writeSlot l p x) ≡ stored h p e
   unfolding writeSeat
-  stores e b l eb el =
-      ap₂ (made h (e .figures))
-      (ap₂ (λ (j : ℕ) (a : PlaceSlot). set (h .places) j a) at
-      (eb ∙ ap (λ (a : PlaceSlot). byTicket a (λ t. e .seat) phase) there))
-      (ap (λ (k : List LatchSlot). writeSlot k p (e .slot)) el)
+  stores e f a b x l ef ea eb ex el = λ j.
+      made h (ef j)
+      (set (h .places) (at j) ((eb ∙ ap₂ (λ (o a : PlaceSlot). byTicket o (λ t. a) phase) there ea) j))
+      (writeSlot (el j) p (ex j))

@@ -9,6 +9,7 @@ use Rattle.latch.specs.declared.moves.LatchOp.the-variants.{Await, Step, Cancel
 use Rattle.latch.specs.declared.moves.LatchSight.{LatchSight}
 use Rattle.latch.specs.Table.{decide}
 use Rattle.latch.proofs.moves.LatchOp as op
+use Rattle.latcheffect.specs.Effect.{effectBy}
 use Rattle.latchmove.specs.Room.{fullFor}
 
 pub unasked : (b : Bool) (o : LatchOp) → OneOf (1 ∷ 2 ∷ 3 ∷ []) (tagOf op.the-type o) → false ≡ fullFor o b
@@ -17,8 +18,8 @@ unasked b Step t = refl
 unasked b Cancel t = refl
 unasked b CountDown t = refl
 
-pub as-asked : (b : Bool) (s : LatchSight) (o : LatchOp) → decide o (fullFor o b) s ≡ decide o b s
-unfolding decide
+pub as-asked : (b : Bool) (s : LatchSight) (o : LatchOp) → effectBy o (fullFor o b) s ≡ effectBy o b s
+unfolding effectBy decide
 as-asked b s Await = refl
 as-asked b s Step = refl
 as-asked b s Cancel = refl

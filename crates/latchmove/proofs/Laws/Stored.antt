@@ -12,6 +12,7 @@ use Rattle.hub.specs.Phases.{byTicket, ticketOf}
 use Rattle.hub.specs.Record.{PARTIES, emptySeat}
 use Rattle.hub.specs.Ring.{PLACES, readSeat, writeSeat}
 use Rattle.hub.proofs.Laws.Phases.{by-ticket, ticketed}
+use Rattle.latch.specs.declared.moves.LatchOp.{LatchOp}
 use Rattle.latch.specs.declared.moves.LatchSight.{LatchSight}
 use Rattle.latch.specs.declared.record.Latch.{Latch}
 use Rattle.latch.specs.declared.record.LatchFigures.{LatchFigures}
@@ -20,8 +21,9 @@ use Rattle.latch.specs.Calls.{answerOf, apply, ringOf, tidied, withRing}
 use Rattle.latch.specs.Look.{look, seenBy}
 use Rattle.latch.specs.Moves.{Move, Refuse, Act, Put, Wake}
 use Rattle.latch.specs.Record.{freeSlot, readSlot, writeSlot}
+use Rattle.latch.specs.Table.{decide}
 use Rattle.latcheffect.specs.declared.effect.LatchEffect.{LatchEffect}
-use Rattle.latcheffect.specs.Effect.{effectOf}
+use Rattle.latcheffect.specs.Effect.{effectBy, effectOf}
 use Rattle.transition.proofs.Laws.Loops.{reclaimed-none}
 use Rattle.latchmove.specs.Tidied.{tidiedBy}
 
@@ -84,8 +86,11 @@ turns-few (Act c) s = omega arith
 turns-few (Put a c) s = omega arith
 turns-few (Wake q x a c) s = omega arith
 
-pub few-turns : (m : Move) (s : LatchSight) (e : LatchEffect) → e ≡ effectOf m s → e .turns ≤ 256
-few-turns m s e is = omega (arith, ap (λ (e : LatchEffect). e .turns) is, turns-few m s)
+pub few-turns : (o : LatchOp) (b : Bool) (s : LatchSight) (e : LatchEffect) → e ≡ effectBy o b s
+    → e .turns ≤ 256
+unfolding effectBy
+few-turns o b s e is =
+    omega (arith, ap (λ (e : LatchEffect). e .turns) is, turns-few (decide o b s) s)
 
 pub told : (m : Move) (s : LatchSight) → effectOf m s .answer ≡ answerOf m
 told (Refuse r) s = refl

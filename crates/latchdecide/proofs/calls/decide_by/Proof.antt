@@ -1,6 +1,7 @@
 -- `decide_by` meets its contract: each arm is that of its call.
 use borrow.Author.Needs.{needs}
 use Rattle.latch.specs.Table.{decide}
+use Rattle.latcheffect.specs.Effect.{effectBy}
 use Rattle.latchdecide.proofs.Laws.Ops.{by-op}
 use Rattle.latchdecide.proofs.calls.decide_by.Statement.{statement}
 use Rattle.latchdecide.proofs.calls.decide_by.Tie as tie
@@ -30,24 +31,25 @@ decide-count-down-requires : tie.Need-decide-count-down-requires
 decide-count-down-requires c κs = search needs
 
 returns : tie.Need-returns
-unfolding decide
+unfolding effectBy decide
 returns c =
     let a = c .before .before .before .args in
     by-op 1 _ (a .s) (a .op) (c .before .before .match .keys1) (c .decide-step .ensures)
 
 returns-2 : tie.Need-returns-2
+unfolding effectBy
 returns-2 c =
     let a = c .before .before .before .args in
     by-op 0 _ (a .s) (a .op) (c .before .before .match .keys2) (c .decide-await .ensures)
 
 returns-3 : tie.Need-returns-3
-unfolding decide
+unfolding effectBy decide
 returns-3 c =
     let a = c .before .before .before .args in
     by-op 2 _ (a .s) (a .op) (c .before .before .match .keys3) (c .decide-cancel .ensures)
 
 returns-4 : tie.Need-returns-4
-unfolding decide
+unfolding effectBy decide
 returns-4 c =
     let a = c .before .before .before .args in
     by-op 3 _ (a .s) (a .op) (c .before .before .match .keys4) (c .decide-count-down .ensures)

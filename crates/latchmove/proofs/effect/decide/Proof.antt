@@ -2,9 +2,7 @@
 use mathlib.Core.Path.{ap, _∙_}
 use mathlib.Core.Bool.{Bool}
 use borrow.Author.Needs.{needs}
-use Rattle.latch.specs.Moves.{Move}
-use Rattle.latch.specs.Table as table
-use Rattle.latcheffect.specs.Effect.{effectOf}
+use Rattle.latcheffect.specs.Effect.{effectBy}
 use Rattle.latchmove.proofs.Laws.Ops.{as-asked}
 use Rattle.latchmove.proofs.effect.decide.Statement.{statement}
 use Rattle.latchmove.proofs.effect.decide.Tie as tie
@@ -19,9 +17,8 @@ returns : tie.Need-returns
 returns c =
     let a = c .before .before .args in
     c .decide-by .ensures
-    ∙ ap (λ (m : Move). effectOf m (a .s))
-    (ap (λ (b : Bool). table.decide (a .op) b (a .s)) (c .before .full-for .ensures)
-    ∙ as-asked _ (a .s) (a .op))
+    ∙ ap (λ (b : Bool). effectBy (a .op) b (a .s)) (c .before .full-for .ensures)
+    ∙ as-asked _ (a .s) (a .op)
 
 pub decide-spec : {M : Type 1} → statement M
 decide-spec = tie.close (tie.spec full-for-requires decide-by-requires returns)

@@ -20,8 +20,7 @@ use Rattle.latch.specs.declared.record.LatchSlot.{LatchSlot}
 use Rattle.latch.specs.Calls.{called, isFull, ringOf, withRing}
 use Rattle.latch.specs.Fits.{fits}
 use Rattle.latch.specs.Record.{readSlot, writeSlot}
-use Rattle.latch.specs.Table.{decide}
-use Rattle.latcheffect.specs.Effect.{effectOf}
+use Rattle.latcheffect.specs.Effect.{effectBy}
 use Rattle.latchmove.specs.Tidied.{tidiedBy}
 use Rattle.latchmove.proofs.Laws.Called.{asks, unfit, no-such-party, Counted, counted}
 use Rattle.latchmove.proofs.Laws.Called.{outcome-is, with-printed}
@@ -112,19 +111,18 @@ full c =
 
 effect-is : (c : tie.After-decide)
     → let s = sight (kinded c) in
-    c .decide .result ≡ effectOf (decide (begin c .args .op) (full c) s) s
+    c .decide .result ≡ effectBy (begin c .args .op) (full c) s
 unfolding readSlot
 effect-is c =
     let k = kinded c in
     let s : ℕ → LatchSight = λ n. sightBy n (latch (start k)) (party (start k)) (seat k) (waiter k) in
     c .decide .ensures
-    ∙ ap (λ (n : ℕ). effectOf (decide (begin c .args .op) (full c) (s n)) (s n))
+    ∙ ap (λ (n : ℕ). effectBy (begin c .args .op) (full c) (s n))
     (k .kind-in .ensures ∙ ap (λ (l : List ℕ). kindIn l (party (start k))) (tabled (seen k) .built-in .ensures))
 
 turns-most : (c : tie.After-decide) → c .decide .result .turns ≤ 256
 turns-most c =
-    let s = sight (kinded c) in
-    few-turns (decide (begin c .args .op) (full c) s) s (c .decide .result) (effect-is c)
+    few-turns (begin c .args .op) (full c) (sight (kinded c)) (c .decide .result) (effect-is c)
 
 -- Any woken party's slot is set.
 slots-set : (c : tie.Joined3)
@@ -158,7 +156,7 @@ is-stored c =
     let e = d .decide .result in
     ap (λ (g : Latch). made g (e .figures) (set (g .places) (at k) (c .by-ticket2 .result))
     (writeSlot (g .slots) (party (begin d)) (e .slot))) (slots-set (c .before .before .before))
-    ∙ stores (latch (begin d)) (party (begin d)) (at k) (index k) e _ _ (c .by-ticket2 .ensures) refl
+    ∙ stores (latch (begin d)) (party (begin d)) (at k) (index k) e _ _ _ _ _ refl refl (c .by-ticket2 .ensures) refl refl
 
 -- Tidied, it is what the call leaves.
 leaves : (c : tie.After-by-ticket2) (g : Latch)
