@@ -1,70 +1,14 @@
-// Every answer and every refusal, on records that an opening reaches and on some that none does.
+// Every answer and every refusal, in runs of a list of calls from its opening, and the opening's frame as C sees it.
 // Each run prints a line for its opening and one for each call: code, party, woken party, number.
 // The expected output, beside this program, was written by hand from the paper.
 
-use board::call_on_board;
-use boardrest::operate_on_board;
-use encoding::answer::print_of;
-use encoding::answer::put;
+use caselines::print_answer;
+use caselines::print_lines;
 use hub::answers::Answer;
-use hub::moves::Op;
 use hub::opening::sized;
-use hub::record::Figures;
-use hub::record::Hub;
-use hub::record::Outcome;
-use hub::record::Phase;
-use hub::record::Place;
-use hub::record::PlaceSlot;
-use hub::slots::empty_seat;
-use hub::slots::free_slot;
-use hub::slots::with_phase;
-use hub::slots::with_place;
 use run::Ran;
 use run::hub_run;
 use run::run_calls;
-use step::calls::acquire;
-use step::calls::cancel;
-use step::calls::release;
-use step::calls::step;
-use transition::counts::counts;
-
-// A hexadecimal digit, in capitals.
-fn digit(n: u8) -> u8 {
-    let d = n % 16;
-    if d < 10 {
-        return 48 + d;
-    }
-    55 + d
-}
-
-// The first answers of a buffer, seven bytes each, one to a line.
-fn print_lines(answers: &[u8], count: usize) {
-    let mut i: usize = 0;
-    while i < answers.len() {
-        if count <= i / 7 {
-            return;
-        }
-        let b = answers[i];
-        io::write_all(1, &[digit(b / 16), digit(b)]);
-        if i % 7 == 6 {
-            io::write_all(1, b"\n");
-        }
-        i += 1;
-    }
-}
-
-fn print_answer(party: u8, answer: Answer) {
-    let mut line = [0u8; 7];
-    put(&mut line, party, print_of(answer));
-    print_lines(&line, 1);
-}
-
-// Prints the answer to a call, and hands on the record that it left.
-fn told(party: u8, o: Outcome) -> Hub {
-    let answer = o.answer;
-    print_answer(party, answer);
-    o.hub
-}
 
 fn print_run(permits: u8, parties: u8, calls: &[u8]) {
     let mut out = [0u8; 224];
@@ -103,175 +47,8 @@ fn print_framed(opening: &[u8], calls: &[u8]) {
     }
     io::write_all(1, b"\n");
 }
-
-// A hub just opened.
-fn opened(permits: u8, parties: u8) -> Hub {
-    Hub::open(sized(permits, parties))
-}
-
-// A hub of 32 permits with this counter.
-fn counting(counter: i32) -> Hub {
-    let mut h = opened(32, 3);
-    let figures = Figures {
-        counter,
-        issued: 0,
-        resumed: 0,
-        begun: 0,
-    };
-    h.figures = figures;
-    h
-}
-
-// A place where a party waits.
-fn waiting(party: u8) -> PlaceSlot {
-    with_place(Place::Waiting(party), empty_seat())
-}
-
-// Calls on records that no opening reaches.
-fn made_by_hand() {
-    // 1,000,000 asks begun, and one fewer
-    let mut h = opened(1, 3);
-    h.figures.begun = 1000000;
-    told(0, acquire(h, 0));
-    h.figures.begun = 999999;
-    told(0, acquire(h, 0));
-    // all 256 tickets issued, and all but one
-    let mut h = opened(1, 3);
-    h.figures.issued = 256;
-    told(0, acquire(h, 0));
-    h.figures.issued = 255;
-    told(0, acquire(h, 0));
-    // a counter of 33 does not fit, and one of 32 does
-    told(0, release(counting(33), 0));
-    told(0, release(counting(32), 0));
-    // a waiting place of a party that is free does not fit
-    let mut h = opened(1, 3);
-    h.places[200] = waiting(2);
-    told(2, cancel(h, 2));
-    // nor does one of a party that there is not
-    h.places[200] = waiting(255);
-    told(2, cancel(h, 2));
-    // a party gives back at counter 32: the answer is the table's, and the next call is refused
-    let mut h = opened(32, 3);
-    h.slots[0] = with_phase(Phase::Releasing, free_slot());
-    let next = told(0, step(h, 0));
-    told(1, acquire(next, 1));
-}
-
-// A call in place.
-fn on_board(hub: Hub, op: Op, party: u8) -> Hub {
-    let o = call_on_board(hub, op, party);
-    told(party, o)
-}
-
-// What a record shows: held, at the counter, on the way, waiting.
-fn print_counts(hub: Hub) {
-    let c = counts(hub);
-    io::print_decimal(1, c.held as u64);
-    io::write_all(1, b" held, ");
-    io::print_decimal(1, c.available as u64);
-    io::write_all(1, b" at the counter, ");
-    io::print_decimal(1, c.onway as u64);
-    io::write_all(1, b" on the way, ");
-    io::print_decimal(1, c.waiting as u64);
-    io::write_all(1, b" waiting\n");
-}
-
-// The calls in place, and what the record shows between them.
-fn in_place() {
-    let h = opened(2, 3);
-    print_counts(h);
-    let h = on_board(h, Op::Acquire, 0);
-    let h = on_board(h, Op::Step, 0);
-    let h = on_board(h, Op::Acquire, 1);
-    let h = on_board(h, Op::Step, 1);
-    let h = on_board(h, Op::Acquire, 2);
-    let h = on_board(h, Op::Step, 2);
-    let h = on_board(h, Op::Step, 2);
-    let h = on_board(h, Op::Step, 2);
-    print_counts(h);
-    let h = on_board(h, Op::Release, 0);
-    let h = on_board(h, Op::Step, 0);
-    print_counts(h);
-    let h = on_board(h, Op::Cancel, 2);
-    let h = on_board(h, Op::Cancel, 2);
-    let h = on_board(h, Op::Step, 2);
-    print_counts(h);
-    let h = on_board(h, Op::Step, 2);
-    print_counts(h);
-    let h = on_board(h, Op::Step, 0);
-    let h = on_board(h, Op::Step, 0);
-    let h = on_board(h, Op::Radio, 0);
-    print_counts(h);
-}
-
-fn print_byte(b: u8) {
-    io::write_all(1, &[digit(b / 16), digit(b)]);
-}
-
-// A whole operation in place: code, party, woken party, steps.
-fn whole(hub: Hub, op: Op, party: u8) -> Hub {
-    let o = operate_on_board(hub, op, party);
-    let answer = o.answer;
-    print_byte(print_of(answer).code);
-    print_byte(party);
-    print_byte((o.woken % 256) as u8);
-    print_byte((o.steps % 256) as u8);
-    io::write_all(1, b"\n");
-    o.hub
-}
-
-// Whole operations on a hub at rest: two wait, one of them gives up and waits again, both are served in turn.
-fn to_rest() {
-    let h = opened(1, 3);
-    let h = whole(h, Op::Acquire, 0);
-    let h = whole(h, Op::Acquire, 1);
-    let h = whole(h, Op::Acquire, 2);
-    print_counts(h);
-    let h = whole(h, Op::Cancel, 1);
-    let h = whole(h, Op::Acquire, 1);
-    let h = whole(h, Op::Release, 0);
-    print_counts(h);
-    let h = whole(h, Op::Acquire, 2);
-    let h = whole(h, Op::Release, 2);
-    let h = whole(h, Op::Release, 1);
-    let h = whole(h, Op::Release, 1);
-    let h = whole(h, Op::Cancel, 1);
-    let h = whole(h, Op::Acquire, 3);
-    let h = whole(h, Op::Acquire, 255);
-    print_counts(h);
-    // the waits of party 30 stay
-    let h = whole(opened(1, 31), Op::Acquire, 0);
-    let h = whole(h, Op::Acquire, 30);
-    let h = whole(h, Op::Cancel, 30);
-    print_counts(h);
-}
-
-// Whole operations on other records.
-fn not_at_rest() {
-    // one that does not fit, a million asks begun, 256 tickets issued
-    whole(counting(33), Op::Acquire, 0);
-    let mut h = opened(1, 3);
-    h.figures.begun = 1000000;
-    whole(h, Op::Acquire, 0);
-    let mut h = opened(1, 3);
-    h.figures.issued = 256;
-    whole(h, Op::Acquire, 0);
-    // party 0 has asked: one more ask is refused and makes no step of the first; a give-up is remembered, and
-    // forgotten with the permit that the next step gets
-    let o = acquire(opened(1, 3), 0);
-    let h = whole(o.hub, Op::Acquire, 0);
-    print_counts(h);
-    let h = whole(h, Op::Cancel, 0);
-    print_counts(h);
-    // where there is none an early give-up takes five steps; three are made, and a second is refused
-    let o = acquire(h, 1);
-    let h = whole(o.hub, Op::Cancel, 1);
-    let h = whole(h, Op::Cancel, 1);
-    print_counts(h);
-}
-
-fn main() {
+// Permits given back: to nobody, to a party that waits, to one that will.
+fn handed_on() {
     // the run of the paper
     print_run(
         1,
@@ -292,6 +69,10 @@ fn main() {
         3,
         b"\x10\x00\x11\x00\x10\x01\x11\x01\x11\x01\x13\x00\x11\x00\x11\x00\x11\x00\x11\x01",
     );
+}
+
+// Waits given up: in time, and with a permit on its way.
+fn given_up() {
     // given up in time: 2E, 30
     print_run(
         1,
@@ -302,13 +83,17 @@ fn main() {
     print_run(
         1,
         3,
-        b"\x10\x00\x11\x00\x10\x01\x11\x01\x11\x01\x11\x01\x10\x02\x11\x02\x11\x02\x11\x02\x12\x01\x11\x01\x13\x00\x11\x00\x11\x00\x11\x00\x11\x01\x11\x01\x11\x01",
+        b"\x10\x00\x11\x00\x10\x01\x11\x01\x11\x01\x11\x01\x10\x02\x11\x02\
+          \x11\x02\x11\x02\x12\x01\x11\x01\x13\x00\x11\x00\x11\x00\x11\x00\
+          \x11\x01\x11\x01\x11\x01",
     );
     // a hand-over meets a cancelled place: 2C
     print_run(
         1,
         3,
-        b"\x10\x00\x11\x00\x10\x01\x11\x01\x11\x01\x11\x01\x10\x02\x11\x02\x11\x02\x11\x02\x13\x00\x11\x00\x11\x00\x12\x01\x11\x01\x11\x01\x11\x00\x11\x00\x11\x00",
+        b"\x10\x00\x11\x00\x10\x01\x11\x01\x11\x01\x11\x01\x10\x02\x11\x02\
+          \x11\x02\x11\x02\x13\x00\x11\x00\x11\x00\x12\x01\x11\x01\x11\x01\
+          \x11\x00\x11\x00\x11\x00",
     );
     // a hand-over meets a refused place: 32, 2D
     print_run(
@@ -316,6 +101,10 @@ fn main() {
         3,
         b"\x10\x00\x11\x00\x10\x01\x11\x01\x11\x01\x11\x01\x13\x00\x11\x00\x12\x01\x11\x01\x11\x01\x11\x00\x11\x00",
     );
+}
+
+// Refusals of openings and of calls, and what is no list of calls.
+fn refused() {
     // refusals 2 and 3, 2 first
     print_run(33, 0, b"");
     print_run(32, 33, b"");
@@ -334,10 +123,15 @@ fn main() {
     // what is no list of calls
     print_run(1, 3, b"\x10");
     print_run(1, 3, b"\x15\x00");
+}
+
+// Openings with radios, and without.
+fn radios() {
     // radios 0A and 0B, the first one first: 36, 39, 38; party 3 is refused by 4
     print_framed(
         b"\x02\x02\x03\x0A\x0B",
-        b"\x10\x00\x11\x00\x14\x00\x11\x00\x14\x00\x13\x00\x11\x00\x14\x00\x10\x01\x11\x01\x11\x01\x14\x01\x11\x00\x14\x00\x14\x03",
+        b"\x10\x00\x11\x00\x14\x00\x11\x00\x14\x00\x13\x00\x11\x00\x14\x00\
+          \x10\x01\x11\x01\x11\x01\x14\x01\x11\x00\x14\x00\x14\x03",
     );
     // the permit is back and its radio is not: 37
     print_framed(
@@ -346,6 +140,10 @@ fn main() {
     );
     // no radios: 39 without a number
     print_framed(b"\x01\x01\x03", b"\x14\x00\x10\x00\x11\x00\x14\x00");
+}
+
+// Frames of openings that are refused, or none.
+fn refused_frames() {
     // refusals 14, 3 before it, 2; frames that are no opening
     print_framed(b"\x02\x02\x03\x0A\x0A", b"");
     print_framed(b"\x02\x02\x00\x0A\x0A", b"");
@@ -354,11 +152,85 @@ fn main() {
     print_framed(b"\x10\x00", b"");
     // malformed calls
     print_framed(b"\x01\x01\x03", b"\x15\x00");
-    made_by_hand();
-    io::write_all(1, b"\n");
-    in_place();
-    io::write_all(1, b"\n");
-    to_rest();
-    io::write_all(1, b"\n");
-    not_at_rest();
+}
+
+// Openings with a house's own kinds.
+fn own_kinds() {
+    // party 0 of kind 3 may not give up, early or waiting: 0A; party 30 of kind 1 may
+    print_framed(
+        b"\x01\x01\x1F\
+          \x03\x00\x00\x00\x00\x00\x00\x00\x00\x00\x00\x00\x00\x00\x00\x00\
+          \x00\x00\x00\x00\x00\x00\x00\x00\x00\x00\x00\x00\x00\x00\x01\x00",
+        b"\x10\x01\x11\x01\x10\x00\x12\x00\x11\x00\x11\x00\x11\x00\x12\x00\
+          \x10\x1E\x11\x1E\x11\x1E\x11\x1E\x12\x1E\x11\x1E\x11\x1E",
+    );
+    // after the radio 03: party 0 is of kind 1 and may, party 1 of kind 3 may not
+    print_framed(
+        b"\x02\x01\x03\x03\
+          \x01\x03\x00\x00\x00\x00\x00\x00\x00\x00\x00\x00\x00\x00\x00\x00\
+          \x00\x00\x00\x00\x00\x00\x00\x00\x00\x00\x00\x00\x00\x00\x00\x00",
+        b"\x10\x02\x11\x02\x11\x02\x14\x02\x10\x00\x11\x00\x11\x00\x11\x00\
+          \x10\x01\x11\x01\x11\x01\x11\x01\x12\x01\x12\x00\x11\x00\x11\x00",
+    );
+    // 32 radios and 32 kinds
+    print_framed(
+        b"\x02\x20\x01\
+          \x20\x21\x22\x23\x24\x25\x26\x27\x28\x29\x2A\x2B\x2C\x2D\x2E\x2F\
+          \x30\x31\x32\x33\x34\x35\x36\x37\x38\x39\x3A\x3B\x3C\x3D\x3E\x3F\
+          \x01\x01\x01\x01\x01\x01\x01\x01\x01\x01\x01\x01\x01\x01\x01\x01\
+          \x01\x01\x01\x01\x01\x01\x01\x01\x01\x01\x01\x01\x01\x01\x01\x00",
+        b"\x10\x00\x11\x00\x11\x00\x14\x00",
+    );
+}
+
+// Refusals 15, 16 and 17, and those before them.
+fn refused_kinds() {
+    // 15: 1, 31 and 33 more bytes, and 1 more than the radios; 01 01 01 is K 1 and n 1
+    print_framed(b"\x01\x01\x03\x00", b"");
+    print_framed(&[1; 34], b"");
+    print_framed(&[1; 36], b"");
+    print_framed(b"\x02\x02\x03\x0A\x0B\x00", b"");
+    // 31 with an unknown kind and no desk: 15
+    let mut few = [1u8; 34];
+    few[33] = 4;
+    print_framed(&few, b"");
+    // 32 doors: 17; the last of an unknown kind: 16; the last a desk, from n up: opened
+    let mut doors = [1u8; 35];
+    print_framed(&doors, b"");
+    doors[34] = 4;
+    print_framed(&doors, b"");
+    doors[34] = 0;
+    print_framed(&doors, b"");
+    // 2, 3 and 14 before 15
+    print_framed(b"\x01\x21\x21\x04", b"");
+    print_framed(b"\x01\x20\x21\x04", b"");
+    print_framed(b"\x02\x02\x03\x0A\x0A\x04", b"");
+    // 2, 3 and 14 before 16
+    doors[34] = 4;
+    doors[1] = 33;
+    print_framed(&doors, b"");
+    doors[1] = 32;
+    doors[2] = 0;
+    print_framed(&doors, b"");
+    let mut unknown = [4u8; 37];
+    unknown[0] = 0x02;
+    unknown[1] = 2;
+    unknown[2] = 3;
+    print_framed(&unknown, b"");
+    unknown[4] = 5;
+    print_framed(&unknown, b"");
+    // 31 bytes are too few for 32 radios: 12
+    few[0] = 0x02;
+    few[1] = 32;
+    print_framed(&few, b"");
+}
+
+fn main() {
+    handed_on();
+    given_up();
+    refused();
+    radios();
+    refused_frames();
+    own_kinds();
+    refused_kinds();
 }
