@@ -3,7 +3,7 @@
 use crate::others::decide_await;
 use crate::others::decide_cancel;
 use crate::others::decide_count_down;
-use crate::table::decide_step;
+use crate::steps::decide_step;
 use latch::moves::LatchOp;
 use latch::moves::LatchSight;
 use latcheffect::effect::LatchEffect;

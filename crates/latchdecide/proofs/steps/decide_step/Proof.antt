@@ -9,8 +9,8 @@ use Rattle.latch.specs.Moves.{Move}
 use Rattle.latch.specs.Table.{step, stepIn}
 use Rattle.latcheffect.specs.declared.effect.LatchEffect.{LatchEffect}
 use Rattle.latcheffect.specs.Effect.{effectOf}
-use Rattle.latchdecide.proofs.table.decide_step.Statement.{statement}
-use Rattle.latchdecide.proofs.table.decide_step.Tie as tie
+use Rattle.latchdecide.proofs.steps.decide_step.Statement.{statement}
+use Rattle.latchdecide.proofs.steps.decide_step.Tie as tie
 
 in-phase : (s : LatchSight) {f : Phase} {e : LatchEffect} → s .slot .phase ≡ f
     → e ≡ effectOf (stepIn f s) s → e ≡ effectOf (step s) s
