@@ -15,7 +15,7 @@ use Rattle.hub.specs.Fits.{fits, kindsFit, stateFits}
 use Rattle.hub.specs.Kinds.{hasDesk, kindIn, kindsKnown}
 use Rattle.hub.specs.Look.{look, seenBy}
 use Rattle.hub.specs.Opening.{Test, fresh, kindTests, linkTests, notOpened, opening, openingIf, tests}
-use Rattle.hub.specs.OwnKinds.{AsBefore, KindsKept, LikeBefore, OldTableFits, WithoutKinds}
+use Rattle.hub.specs.OwnKinds.{AsBefore, CallsAsBefore, KindsKept, LikeBefore, OldTableFits, WithoutKinds}
 use Rattle.hub.specs.OwnKinds.{answersBefore, calledBefore, calledBy, lookBefore, openingBefore, runBefore}
 use Rattle.hub.specs.Schedule.{answers, run}
 use Rattle.hub.proofs.Laws.Kinds.{built-in-desk, built-in-known}
@@ -75,6 +75,10 @@ module _ (h : Hub) (w : WithoutKinds (h .opening)) where
 
   pub still-without : (c : Call) → WithoutKinds (called h c .hub .opening)
   still-without c = subst WithoutKinds (sym (kept-opening h _ _)) w
+
+pub calls-as-before : CallsAsBefore
+unfolding CallsAsBefore
+calls-as-before h w c = called-before h w c
 
 pub answers-before : (h : Hub) → WithoutKinds (h .opening) → (cs : List Call) → answers h cs ≡ answersBefore h cs
 unfolding answers answersBefore

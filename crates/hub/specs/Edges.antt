@@ -189,6 +189,8 @@ edges =
     ∷ opens (withKinds (replicate 32 0) (sized 1 3)) 0x1F
     ∷ opens (withKinds (replicate 31 0) (sized 1 3)) 0x0F
     ∷ opens (withKinds (replicate 33 0) (sized 1 3)) 0x0F
+    ∷ opens (withKinds (replicate 31 4) (sized 1 3)) 0x0F
+    ∷ opens (withKinds (4 ∷ []) (sized 0 3)) 0x02
     ∷ opens (withKinds (0 ∷ []) (sized 1 0)) 0x03
     ∷ opens (withKinds (4 ∷ []) (withRadios 2 3 (0x0A ∷ 0x0A ∷ []))) 0x0E
     ∷ opens (withKinds (replicate 31 0 ++ (4 ∷ [])) (sized 1 3)) 0x10

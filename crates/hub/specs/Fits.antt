@@ -100,7 +100,7 @@ radiosFit h =
 unfoldable pub kindsFit : Opening → Bool
 kindsFit o = allPassed (kindTests o)
 
--- All but the kinds: all 32 parties, the places of all 256 tickets, and the radios.
+-- All but the kinds: K, n and the figures, all 32 parties, the places of all 256 tickets, and the radios.
 unfoldable pub stateFits : Hub → Bool
 stateFits h =
     figuresFit (h .opening) (h .figures) (h .oldest) && allFrom (partyFits h) 0 PARTIES

@@ -18,7 +18,7 @@ use Rattle.hub.specs.Radios.{STORE, differ, radiosOf, padded}
 use Rattle.hub.specs.Record.{PARTIES, emptySeat, freeSlot}
 use Rattle.hub.specs.Ring.{PLACES}
 
--- Opening 01: K and n. Without kinds, here and in 02, it is the built-in table.
+-- Opening 01: K and n. Without kinds the parties have those of the built-in table, here and in 02.
 abbrev pub sized : ℕ → ℕ → Opening
 sized k n =
     record {

@@ -12,7 +12,7 @@ use Rattle.hub.specs.declared.opening.Opening.{Opening}
 use Rattle.hub.specs.declared.record.Hub.{Hub}
 use Rattle.hub.specs.declared.record.Outcome.{Outcome}
 use Rattle.hub.specs.Answers.{printed}
-use Rattle.hub.specs.Calls.{answerOf, apply, checked, isFull, withPool}
+use Rattle.hub.specs.Calls.{answerOf, apply, called, checked, isFull, withPool}
 use Rattle.hub.specs.Fits.{stateFits}
 use Rattle.hub.specs.Kinds.{builtIn, hasDesk, kindIn, kindsKnown}
 use Rattle.hub.specs.Look.{look}
@@ -29,7 +29,7 @@ KindsKept = (h : Hub) (cs : List Call) → run h cs .opening .kinds ≡ h .openi
 unfoldable pub OldTableFits : Type 0
 OldTableFits = (kindsKnown builtIn ≡ true) × (hasDesk builtIn ≡ true)
 
--- An opening that gives no kinds.
+-- An opening with the built-in table, given or not.
 pub record WithoutKinds (o : Opening) : Type 0 where
   pub kinds : o .kinds ≡ builtIn
   pub counted : o .counted ≡ true
@@ -66,6 +66,10 @@ calledBy fit s h c =
 
 unfoldable pub calledBefore : Hub → Call → Outcome
 calledBefore h c = calledBy (stateFits h) (lookBefore h (c .party)) h c
+
+-- On every record with the built-in table, reached or not, a call is what it was.
+unfoldable pub CallsAsBefore : Type 0
+CallsAsBefore = (h : Hub) → WithoutKinds (h .opening) → (c : Call) → called h c ≡ calledBefore h c
 
 unfoldable pub answersBefore : Hub → List Call → List Answer
 answersBefore h [] = []

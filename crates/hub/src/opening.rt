@@ -27,7 +27,7 @@ pub struct Opening {
     pub parties: u8, // n
     pub named: bool, // opening 02: each permit is a radio
     pub radios: [u8; 32], // the first K of them, of such an opening
-    pub kinds: [u8; 32], // of the parties; the built-in table if it gave none
+    pub kinds: [u8; 32], // of the parties; the built-in table if it did not give 32
     pub counted: bool, // it gave 32 kinds, or none
 }
 

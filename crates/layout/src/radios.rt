@@ -1,5 +1,5 @@
-// What a record was opened with, and its radios, as bytes: the kinds; whether there are radios, those of the opening, those with parties, at
-// places and stored. A reply shows a radio only where one is, and the store in order.
+// What a record was opened with, and its radios, as bytes: whether there are radios, those of the opening, those
+// with parties, at places and stored; at the record's end the kinds. A reply shows a radio only where one is, and the store in order.
 
 use crate::wide;
 use hub::opening::Opening;

@@ -1,4 +1,4 @@
--- A whole operation: a call (ask, give up, give back), then the party's own steps until it is at rest, three at
+-- A whole operation: a call (of an operation ask, give up or give back), then the party's own steps until it is at rest, three at
 -- most; a refused one has none, so that it leaves the record alone. On a hub at rest that is until nobody is busy:
 -- AtRest.antt claims it.
 use Prim.Native.Nat.{ℕ, zero, suc}

@@ -60,7 +60,7 @@ outputBefore input =
 abbrev pub givesKinds : List ℕ → Bool
 givesKinds l = isOpening (requested l) && ltb (frameSize (getD l 0 0) (getD l 1 0)) (length l)
 
--- No line is.
+-- No line of an input gives kinds.
 unfoldable pub OldFormat : List (List ℕ) → Type 0
 OldFormat [] = Unit {0}
 OldFormat (l ∷ ls) = (givesKinds (spelledBy l) ≡ false) × OldFormat ls

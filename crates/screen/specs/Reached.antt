@@ -27,7 +27,7 @@ lineAfter l [] = l
 lineAfter l (r ∷ rs) = lineAfter (moved l (r .operation) (r .party) .line) rs
 
 -- Values of the types: their arrays have 32 elements.
-pub record IsOpening (o : Opening) : Type 0 where
+pub record OpeningArrays (o : Opening) : Type 0 where
   pub radios : length (o .radios) ≡ STORE
   pub kinds : length (o .kinds) ≡ PARTIES
 
@@ -39,7 +39,7 @@ pub record IsLine (l : Line) : Type 0 where
 -- From an opening that is accepted.
 pub record LineReached (l : Line) : Type 0 where
   pub start : Opening
-  pub arrays : IsOpening start
+  pub arrays : OpeningArrays start
   pub accepted : opening start .answer ≡ Answer.Opened
   pub requests : List Request
   pub leads : lineAfter (openedLine start) requests ≡ l
