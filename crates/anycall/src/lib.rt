@@ -1,9 +1,6 @@
 // Any call of the hub by value: a record in, the answer and the record out, for every record and
 // every party byte. A refusal hands the record back as it came.
 
-mod reclaim; // the tidying
-
-use crate::reclaim::reclaim;
 use fit::fits;
 use hub::answers::Answer;
 use hub::answers::Refusal;
@@ -12,6 +9,8 @@ use hub::moves::Sight;
 use hub::record::Hub;
 use hub::record::Outcome;
 use pool::moving::move_radio;
+use ring::PlaceRing;
+use ring::reclaim;
 use transition::effect::decide;
 use transition::sight::seat_index;
 use transition::sight::slot_within;
@@ -91,9 +90,16 @@ pub fn call(mut hub: Hub, op: Op, party: u8) -> Outcome
     if !is_untidy(next, first) {
         return Outcome { answer, hub };
     }
-    let tidied = reclaim(hub, e.turns);
-    Outcome {
-        answer,
-        hub: tidied,
-    }
+    let places = hub.places;
+    let ring = PlaceRing {
+        resumed: hub.figures.resumed,
+        oldest: hub.oldest,
+        places,
+    };
+    let tidied = reclaim(ring, e.turns);
+    hub.figures.resumed = tidied.resumed;
+    hub.oldest = tidied.oldest;
+    let left = tidied.places;
+    hub.places = left;
+    Outcome { answer, hub }
 }

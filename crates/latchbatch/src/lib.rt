@@ -20,12 +20,12 @@ use latcheffect::effect::figures_after;
 use latcheffect::effect::seat_after;
 use latcheffect::effect::slot_after;
 use latcheffect::effect::waiter_after;
-use latchmove::ring::LatchRing;
-use latchmove::ring::reclaim;
 use latchmove::room::full_for;
 use latchmove::sight::by_ticket;
 use latchmove::sight::seat_index;
 use latchmove::sight::slot_within;
+use ring::PlaceRing;
+use ring::reclaim;
 use transition::sight::waiter_at;
 use transition::tidy::is_untidy;
 ghost use mathlib.Core.Path.{_≡_};
@@ -91,7 +91,7 @@ pub fn answer_calls(latch: Latch, calls: &[u8], count: usize, out: &mut [u8]) ->
         if !is_untidy(ahead, behind) {
             continue;
         }
-        let ring = LatchRing {
+        let ring = PlaceRing {
             resumed: figures.resumed,
             oldest,
             places,

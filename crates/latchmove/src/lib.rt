@@ -4,4 +4,3 @@
 pub mod sight; // what a call looks at
 pub mod room; // refusal 7
 pub mod effect; // what the table decides
-pub mod ring; // the tidying

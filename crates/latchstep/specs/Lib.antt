@@ -1,1 +1,1 @@
--- The contracts of this crate cite the definitions of the crates latch and latchmove.
+-- The contracts of this crate cite the definitions of the crates hub and latch.

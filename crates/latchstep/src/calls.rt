@@ -13,11 +13,11 @@ use latch::record::Latch;
 use latch::record::LatchOutcome;
 use latchfit::fits;
 use latchmove::effect::decide;
-use latchmove::ring::LatchRing;
-use latchmove::ring::reclaim;
 use latchmove::sight::by_ticket;
 use latchmove::sight::seat_index;
 use latchmove::sight::slot_within;
+use ring::PlaceRing;
+use ring::reclaim;
 use transition::sight::waiter_at;
 use transition::tidy::is_untidy;
 ghost use mathlib.Core.Path.{_≡_};
@@ -85,7 +85,7 @@ pub fn call(mut latch: Latch, op: LatchOp, party: u8) -> LatchOutcome
         return LatchOutcome { answer, latch };
     }
     let places = latch.places;
-    let ring = LatchRing {
+    let ring = PlaceRing {
         resumed: latch.figures.resumed,
         oldest: latch.oldest,
         places,

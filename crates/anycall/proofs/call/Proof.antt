@@ -318,7 +318,7 @@ returns-3 c =
 
 reclaim-requires : tie.Need-reclaim-requires
 reclaim-requires c κs =
-    let j = pooled (c .before .before) in
+    let j = pooled (c .before .before .before) in
     let d = decided (placed j) in (
       omega (
         arith,
@@ -330,7 +330,10 @@ reclaim-requires c κs =
 
 returns-4 : tie.Need-returns-4
 unfolding writeSlot
-returns-4 c = with-printed (leaves (pooled (c .before .before .before)) _ (c .reclaim .ensures))
+returns-4 c =
+    let r = c .before .before in
+    let j = pooled (r .before .before .before .before) in
+    with-printed (leaves j _ (ap (withRing (j .if4 .hub)) (r .reclaim .ensures)))
 
 pub call-spec : {M : Type 1} → statement M
 call-spec =
