@@ -21,12 +21,13 @@ use Rattle.hub.specs.Calm.{rests}
 use Rattle.hub.specs.Look.{look, seenBy}
 use Rattle.hub.specs.Moves.{Act, Move, Refuse}
 use Rattle.hub.specs.Phases.{drawsTicket, isHolding, isOneOf, ticketOf}
-use Rattle.hub.specs.Radios.{moved}
 use Rattle.hub.specs.Record.{phasesOf, readSlot}
 use Rattle.hub.specs.Ring.{PLACES}
 use Rattle.hub.specs.Table.{aboveZero, acquire, belowZero, canCancel, cancel, decide, givenUp, release}
 use Rattle.hub.proofs.Invariant.Schedules.{refusal-code}
 use Rattle.hub.proofs.Laws.Phases.{one-of}
+use Rattle.hub.proofs.Laws.Printed.{few-refusals}
+use Rattle.hub.proofs.Laws.Radios.{unmoved}
 use Rattle.operations.specs.declared.Operated.{Operated}
 use Rattle.operations.specs.AtRest.{ComesTo, EndsAtRest, RefusalLeaves, acquired, byMove, isOperation}
 use Rattle.operations.specs.AtRest.{operatedAtRest, released}
@@ -38,26 +39,7 @@ use Rattle.operations.proofs.Shapes.{Comes, ask-permit, ask-wait, give-
 use Rattle.operations.proofs.Waits.{next-waits}
 use Rattle.operations.proofs.Walk.{operated-alone}
 
--- A refusal moves no radio.
-refusal-still : (r : Refusal) (p : ℕ) (q : Pool) → moved (printed (Answer.Refused r)) p q ≡ q
-unfolding moved
-refusal-still Refusal.Unfit p q = refl
-refusal-still Refusal.BadPermits p q = refl
-refusal-still Refusal.BadParties p q = refl
-refusal-still Refusal.NoSuchParty p q = refl
-refusal-still Refusal.NotFree p q = refl
-refusal-still Refusal.Exhausted p q = refl
-refusal-still Refusal.Full p q = refl
-refusal-still Refusal.AtRest p q = refl
-refusal-still Refusal.NotWaiting p q = refl
-refusal-still Refusal.NotCancellable p q = refl
-refusal-still Refusal.NotHolding p q = refl
-refusal-still Refusal.SameRadios p q = refl
-refusal-still Refusal.MiscountedKinds p q = refl
-refusal-still Refusal.UnknownKind p q = refl
-refusal-still Refusal.NoDesk p q = refl
-
--- So a call that is refused leaves the record as it was, whoever is busy, and has no steps.
+-- A refusal moves no radio: so a call that is refused leaves the record as it was, whoever is busy, and has no steps.
 refused-by : (h : Hub) (c : Call) (r : Refusal) → moveOf h c ≡ Refuse r
     → operated h c ≡ record { answer = Answer.Refused r; woken = 0xFF; steps = 0; hub = h }
 unfolding apply
@@ -66,7 +48,7 @@ refused-by h c r e =
     (called-by h c (Refuse r) e
     ∙ ap (λ (q : Pool). record { answer = Answer.Refused r; hub = withPool q h })
     (still (h .opening .named) (printed (Answer.Refused r)) (c .party) (h .pool)
-    (refusal-still r (c .party) (h .pool))))
+    (unmoved (printed (Answer.Refused r)) (c .party) (h .pool) (few-refusals r))))
     refl (refusal-code r)
 
 -- An operation is refused or accepted.

@@ -4,7 +4,7 @@ use mathlib.Core.Path.{_≡_, refl, sym, ap, ap₂, subst, _∙_}
 use mathlib.Core.Bool.{Bool, true, false, cond}
 use mathlib.Core.List.{List, [], _∷_}
 use native.Mathlib.Omega.{arith}
-use borrow.Author.Tests.{ltb-true, ltb-false}
+use borrow.Author.Tests.{ltb-true, ltb-false, lt-ltb}
 use lib.Dec.{ltb}
 use lib.ListN.{replicate}
 use Rattle.hub.specs.declared.answers.Answer.{Answer}
@@ -35,6 +35,7 @@ use Rattle.hub.specs.Table.{decide}
 use Rattle.hub.proofs.Laws.Bools.{if-true, if-false}
 use Rattle.hub.proofs.Laws.Lists.{weight-replicate}
 use Rattle.hub.proofs.Laws.Phases.{place-of}
+use Rattle.hub.proofs.Laws.Printed.{few-refusals}
 use Rattle.hub.proofs.Laws.Ranges.{sumFrom, sum-set, sum-zero}
 use Rattle.hub.proofs.Laws.Slots.{read-phase}
 use Rattle.hub.proofs.Invariant.Weights.{same-self, lt-no, lt-suc, pick, most}
@@ -216,21 +217,7 @@ quiet-agrees m m′ e q a =
 
 -- A refusal's code is below 20.
 pub refusal-code : (r : Refusal) → ltb (refusalCode r) 0x20 ≡ true
-refusal-code Refusal.Unfit = refl
-refusal-code Refusal.BadPermits = refl
-refusal-code Refusal.BadParties = refl
-refusal-code Refusal.NoSuchParty = refl
-refusal-code Refusal.NotFree = refl
-refusal-code Refusal.Exhausted = refl
-refusal-code Refusal.Full = refl
-refusal-code Refusal.AtRest = refl
-refusal-code Refusal.NotWaiting = refl
-refusal-code Refusal.NotCancellable = refl
-refusal-code Refusal.NotHolding = refl
-refusal-code Refusal.SameRadios = refl
-refusal-code Refusal.MiscountedKinds = refl
-refusal-code Refusal.UnknownKind = refl
-refusal-code Refusal.NoDesk = refl
+refusal-code r = lt-ltb (refusalCode r) 0x20 (omega (arith, few-refusals r))
 
 abbrev pub entered : Ledger → Call → Answer → Ledger
 entered e c r = enter e (record { call = c; answer = printed r })

@@ -1,4 +1,5 @@
--- Radios that are all different, as they are met one after the other; and an opening's 32 bytes.
+-- Radios that are all different, as they are met one after the other; an opening's 32 bytes; and the answers that move
+-- none.
 use Prim.Native.Nat.{ℕ, zero, suc, _+_, _≤_, _<_}
 use mathlib.Core.Path.{_≡_, refl, sym, ap, subst, _∙_}
 use mathlib.Core.Bool.{Bool, true, false, not, _&&_, _||_}
@@ -12,8 +13,29 @@ use lib.ListN.{length, getD, set, take, drop, replicate, length-append}
 use lib.ListN.{length-replicate, length-set, take-append-drop}
 use lib.Seq.{length-take-le, take-append-le, take-all, take-suc, take-take, getD-set-same, getD-set-other}
 use Rattle.hub.specs.declared.opening.Opening.{Opening}
+use Rattle.hub.specs.declared.record.Pool.{Pool}
+use Rattle.hub.specs.Answers.{Printed}
 use Rattle.hub.specs.Basics.{among, bit}
-use Rattle.hub.specs.Radios.{STORE, differ, radiosOf, ringFrom, padded}
+use Rattle.hub.specs.Radios.{STORE, differ, moved, radiosOf, ringFrom, padded}
+
+-- An answer with a refusal's code moves no radio.
+pub unmoved : (y : Printed) (p : ℕ) (q : Pool) → y .code ≤ 17 → moved y p q ≡ q
+unfolding moved
+unmoved y p q l =
+    rw (
+      above 0x36 (omega arith),
+      above 0x38 (omega arith),
+      above 0x2D (omega arith),
+      above 0x29 (omega arith),
+      above 0x2B (omega arith),
+      above 0x25 (omega arith),
+      above 0x31 (omega arith),
+      above 0x2A (omega arith),
+      above 0x33 (omega arith),
+    ) refl
+  where
+    above : (k : ℕ) → 17 < k → eqb (y .code) k ≡ false
+    above k h = ne-eqb (y .code) k (λ e. omega arith)
 
 -- 32 bytes are the whole of it.
 pub padded-same : (l : List ℕ) → length l ≡ STORE → padded l ≡ l

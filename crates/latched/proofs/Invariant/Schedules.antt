@@ -21,6 +21,7 @@ use Rattle.hub.specs.Queue.{write}
 use Rattle.hub.specs.Record.{PARTIES, withPlace}
 use Rattle.hub.proofs.Laws.Bools.{if-true, if-false}
 use Rattle.hub.proofs.Laws.Lists.{weight-replicate}
+use Rattle.hub.proofs.Laws.Printed.{no-refusal}
 use Rattle.hub.proofs.Laws.Ranges.{sumFrom, sum-set, sum-zero}
 use Rattle.hub.proofs.Invariant.Rows.{write-same, write-other}
 use Rattle.hub.proofs.Invariant.Schedules.{is-cancelled, refusal-code}
@@ -155,21 +156,7 @@ refused-same e c r = if-true _ e _ (refusal-code r)
 
 -- A refusal lets nobody go.
 refused-keeps : (r : Refusal) → bit (letsGo (refusalCode r)) ≡ 0
-refused-keeps Refusal.Unfit = refl
-refused-keeps Refusal.BadPermits = refl
-refused-keeps Refusal.BadParties = refl
-refused-keeps Refusal.NoSuchParty = refl
-refused-keeps Refusal.NotFree = refl
-refused-keeps Refusal.Exhausted = refl
-refused-keeps Refusal.Full = refl
-refused-keeps Refusal.AtRest = refl
-refused-keeps Refusal.NotWaiting = refl
-refused-keeps Refusal.NotCancellable = refl
-refused-keeps Refusal.NotHolding = refl
-refused-keeps Refusal.SameRadios = refl
-refused-keeps Refusal.MiscountedKinds = refl
-refused-keeps Refusal.UnknownKind = refl
-refused-keeps Refusal.NoDesk = refl
+refused-keeps r = rw (no-refusal r 0x21 (omega arith), no-refusal r 0x25 (omega arith), no-refusal r 0x2A (omega arith)) refl
 
 -- What one call leads to: the invariant, the ledger's agreement, and nobody let go before the mark.
 pub record Kept (n : ℕ) (e : Ledger) (c : LatchCall) (r : Answer) (m m′ : Queue) : Type 0 where

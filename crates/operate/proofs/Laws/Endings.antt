@@ -16,10 +16,10 @@ use Rattle.hub.specs.Opening.{fresh, opening, tests}
 use Rattle.hub.specs.Phases.{atRest, isOneOf}
 use Rattle.hub.specs.Record.{PARTIES, freeSlot, readSlot}
 use Rattle.hub.proofs.Laws.Opening.{Ends as OpeningEnds, ends as opening-ends, opened, refused}
+use Rattle.hub.proofs.Laws.Printed.{few-refusals}
 use Rattle.line.specs.Requests.{Request, malformed, toOpen, toCall, isOpening}
 use Rattle.batch.proofs.Laws.Reachable.{opening-reachable}
 use Rattle.run.specs.Bytes.{wellFormed}
-use Rattle.run.proofs.Laws.Endings.{few-refusals}
 use Rattle.perform.specs.Bytes.{isOperationCode, written}
 use Rattle.operate.specs.Ending.{Ended, framedRun, operatedFrom, operatedIf}
 use Rattle.perform.specs.Rested.{Rested}

@@ -19,6 +19,8 @@ use Rattle.hub.specs.declared.answers.Refusal.{Refusal}
 use Rattle.hub.specs.declared.record.Pool.{Pool}
 use Rattle.hub.specs.Answers.{plain, printed, refusalCode}
 use Rattle.hub.specs.Radios.{handOf, moved, putBack}
+use Rattle.hub.proofs.Laws.Printed.{few-refusals}
+use Rattle.hub.proofs.Laws.Radios.{unmoved}
 
 -- The answers with one refusal, one woken party and one number.
 abbrev answersWith : Refusal → ℕ → ℕ → List Answer
@@ -77,25 +79,6 @@ arm ks f {y} a e h = go ks (e (holding a .0) (holding a .1) (holding a .2)) h
     go (k ∷ k′ ∷ ks) e (inr h) = go (k′ ∷ ks) (cc) h
 
 module _ (p : ℕ) (q : Pool) where
-  -- A refusal's code is none of the codes by which a radio moves.
-  refused : (r : Refusal) → moved (plain (refusalCode r)) p q ≡ q
-  unfolding moved
-  refused Refusal.Unfit = refl
-  refused Refusal.BadPermits = refl
-  refused Refusal.BadParties = refl
-  refused Refusal.NoSuchParty = refl
-  refused Refusal.NotFree = refl
-  refused Refusal.Exhausted = refl
-  refused Refusal.Full = refl
-  refused Refusal.AtRest = refl
-  refused Refusal.NotWaiting = refl
-  refused Refusal.NotCancellable = refl
-  refused Refusal.NotHolding = refl
-  refused Refusal.SameRadios = refl
-  refused Refusal.MiscountedKinds = refl
-  refused Refusal.UnknownKind = refl
-  refused Refusal.NoDesk = refl
-
   -- The radio of a party goes back to the store.
   pub stored : (a : Answer) → OneOf (24 ∷ 15 ∷ []) (tagOf answer.the-type a)
       → putBack (handOf q p) q ≡ moved (printed a) p q
@@ -110,4 +93,4 @@ module _ (p : ℕ) (q : Pool) where
   unfolding moved
   still a =
       arm (0 ∷ 1 ∷ 2 ∷ 3 ∷ 4 ∷ 5 ∷ 6 ∷ 8 ∷ 9 ∷ 10 ∷ 14 ∷ 16 ∷ 17 ∷ 18 ∷ 20 ∷ 23 ∷ 25 ∷ 26 ∷ [])
-      (λ a. moved (printed a) p q) a (λ r w t. ap (λ (x : Pool). x ∷ replicate 17 q) (refused r))
+      (λ a. moved (printed a) p q) a (λ r w t. ap (λ (x : Pool). x ∷ replicate 17 q) (unmoved (plain (refusalCode r)) p q (few-refusals r)))

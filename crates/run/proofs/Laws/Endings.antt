@@ -13,6 +13,7 @@ use Rattle.hub.specs.declared.record.Outcome.{Outcome}
 use Rattle.hub.specs.Answers.{printed, refusalCode}
 use Rattle.hub.specs.Opening.{allPassed, opening, tests}
 use Rattle.hub.proofs.Laws.Opening.{NotRefused, ends, not-refused}
+use Rattle.hub.proofs.Laws.Printed.{few-refusals}
 use Rattle.encoding.specs.Form.{asBytes}
 use Rattle.encoding.specs.Frame.{isCall}
 use Rattle.line.specs.Requests.{Request, toOpen, toCall, isOpening}
@@ -26,24 +27,6 @@ use Rattle.run.proofs.Laws.Answers.{all-answered}
 -- A run ended so, and left l in the buffer.
 abbrev pub Ends : Ended → Ran → List ℕ → Type 0
 Ends e r l = (ranCode r ≡ e .result) × (l ≡ e .out)
-
--- No refusal has the code of an opening that is made.
-pub few-refusals : (r : Refusal) → refusalCode r ≤ 17
-few-refusals Refusal.Unfit = omega arith
-few-refusals Refusal.BadPermits = omega arith
-few-refusals Refusal.BadParties = omega arith
-few-refusals Refusal.NoSuchParty = omega arith
-few-refusals Refusal.NotFree = omega arith
-few-refusals Refusal.Exhausted = omega arith
-few-refusals Refusal.Full = omega arith
-few-refusals Refusal.AtRest = omega arith
-few-refusals Refusal.NotWaiting = omega arith
-few-refusals Refusal.NotCancellable = omega arith
-few-refusals Refusal.NotHolding = omega arith
-few-refusals Refusal.SameRadios = omega arith
-few-refusals Refusal.MiscountedKinds = omega arith
-few-refusals Refusal.UnknownKind = omega arith
-few-refusals Refusal.NoDesk = omega arith
 
 module _ (k : Opening) (calls out : List ℕ) (o : Outcome) (e : o ≡ opening k) where
   abbrev Ending : Ran → List ℕ → Type 0

@@ -4,18 +4,18 @@ use mathlib.Core.Path.{_≡_, ap}
 use mathlib.Core.Bool.{Bool, true, false, cond}
 use mathlib.Core.List.{List, [], _∷_}
 use native.Mathlib.Omega.{arith}
-use borrow.Author.Tests.{le-leb, le-ltb, lt-leb, lt-ltb, ltb-true, ne-eqb}
+use borrow.Author.Tests.{le-leb, le-ltb, lt-leb, lt-ltb}
 use types.Run.{OneOf, miss}
 use denote.Enum.Declared.{tagOf}
 use Rattle.hub.specs.declared.answers.Answer.{Answer}
 use Rattle.hub.specs.declared.answers.Refusal.{Refusal}
 use Rattle.hub.specs.declared.opening.Opening.{Opening}
 use Rattle.hub.specs.declared.record.Outcome.{Outcome}
-use Rattle.hub.specs.Answers.{printed, refusalCode}
+use Rattle.hub.specs.Answers.{printed}
 use Rattle.hub.specs.Opening.{opening, tests}
 use Rattle.hub.proofs.answers.Answer as answer
-use Rattle.hub.proofs.Invariant.Schedules.{refusal-code}
 use Rattle.hub.proofs.Laws.Opening.{Ends, NotRefused, ends, not-refused}
+use Rattle.hub.proofs.Laws.Printed.{no-refusal}
 use Rattle.screen.specs.declared.record.Line.{Line}
 use Rattle.screen.specs.declared.record.Moved.{Moved}
 use Rattle.screen.specs.declared.record.Operation.{Operation}
@@ -75,9 +75,7 @@ OTHERS =
 
 pub not-taken : {y : Answer} → Told y → OneOf OTHERS (tagOf answer.the-type y) → isAccepted y ≡ false
 not-taken taken t = absurd (miss OTHERS 2 tt t)
-not-taken (turned r) t =
-    let h : refusalCode r < 0x20 = ltb-true (refusalCode r) 0x20 (refusal-code r) in
-    ne-eqb (refusalCode r) 0x20 (λ e. omega arith)
+not-taken (turned r) t = no-refusal r 0x20 (omega arith)
 
 module _ (l : Line) (o : Operation) (p : ℕ) where
   pub no-steps : isAccepted (moved l o p .answer) ≡ false → stepsToRest l o p ≡ 0

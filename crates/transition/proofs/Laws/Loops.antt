@@ -2,7 +2,7 @@
 -- same. With 256 turns they are the tidying, with none they leave the ring.
 use Prim.Native.Nat.{ℕ, zero, suc, _+_, _-_, _≤_, _<_}
 use mathlib.Core.Path.{_≡_, refl, sym, ap, subst, _∙_}
-use mathlib.Core.Bool.{Bool, true, false, true≢false, cond, _&&_, _||_}
+use mathlib.Core.Bool.{Bool, true, false, true≢false, _&&_, _||_}
 use native.Mathlib.Omega.{arith}
 use borrow.Author.Tests.{ltb-true}
 use lib.Dec.{ltb}
@@ -186,14 +186,3 @@ tidy k r = go _ refl _ refl
         ∙ ap (retire k) (off skip canSkip skipped skip-none skip-yes skip-no r k (other e))
     go false e true f z = absurd (true≢false z)
     go true e b f z = absurd (true≢false z)
-
--- The first loop leaves the oldest ticket.
-pub skip-oldest : (n : ℕ) (r : Ring) → skip n r .oldest ≡ r .oldest
-unfolding skip
-skip-oldest zero r = refl
-skip-oldest (suc n) r = go (canSkip r) (skip-oldest n (skipped r))
-  where
-    go : (b : Bool) → skip n (skipped r) .oldest ≡ r .oldest
-        → cond b (skip n (skipped r)) r .oldest ≡ r .oldest
-    go true e = e
-    go false e = refl

@@ -21,7 +21,8 @@ use Rattle.hub.specs.Radios.{STORE, moved, poolAfter, radiosIn, radiosOf, rearr
 use Rattle.hub.specs.Record.{PARTIES}
 use Rattle.hub.specs.Ring.{PLACES}
 use Rattle.hub.proofs.Laws.Bools.{first, second}
-use Rattle.hub.proofs.Laws.Radios.{ring-length}
+use Rattle.hub.proofs.Laws.Printed.{few-refusals}
+use Rattle.hub.proofs.Laws.Radios.{ring-length, unmoved}
 
 -- On a hub with radios the code moves one by the answer; on another the pool stays.
 module _ (named : Bool) (y : Printed) (p : ℕ) (q : Pool) where
@@ -36,23 +37,9 @@ module _ (named : Bool) (y : Printed) (p : ℕ) (q : Pool) where
 -- No refusal moves a radio.
 pub refused-pool : (named : Bool) (r : Refusal) (p : ℕ) (q : Pool)
     → poolAfter named (printed (Answer.Refused r)) p q ≡ q
-unfolding poolAfter moved
+unfolding poolAfter
 refused-pool false r p q = refl
-refused-pool true Refusal.Unfit p q = refl
-refused-pool true Refusal.BadPermits p q = refl
-refused-pool true Refusal.BadParties p q = refl
-refused-pool true Refusal.NoSuchParty p q = refl
-refused-pool true Refusal.NotFree p q = refl
-refused-pool true Refusal.Exhausted p q = refl
-refused-pool true Refusal.Full p q = refl
-refused-pool true Refusal.AtRest p q = refl
-refused-pool true Refusal.NotWaiting p q = refl
-refused-pool true Refusal.NotCancellable p q = refl
-refused-pool true Refusal.NotHolding p q = refl
-refused-pool true Refusal.SameRadios p q = refl
-refused-pool true Refusal.MiscountedKinds p q = refl
-refused-pool true Refusal.UnknownKind p q = refl
-refused-pool true Refusal.NoDesk p q = refl
+refused-pool true r p q = unmoved (printed (Answer.Refused r)) p q (few-refusals r)
 
 few-radios : (o : Opening) → length (radiosOf o) ≤ STORE
 unfolding radiosOf padded
