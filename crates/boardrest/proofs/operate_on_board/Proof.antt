@@ -30,14 +30,13 @@ use mir.Syntax.{
   seq,
   return,
 }
-use mir.Val.{Val, ofList, vint, vptr, vstruct}
+use mir.Val.{Val, ofList, vint, vstruct}
 use base.Logic.{SProp, ent, emp}
 use base.Fml.{GName, fat, fdies}
-use prog.Model.{Model}
 use prog.Wp.{Heap, Env, Calls, Loops, WpFn, Tables}
 use ghost.Atoms.{Atoms}
 use contract.Lifetimes.{Lfts}
-use contract.Running.{GhostRules, Running, givenOf, tables, tablesOf}
+use contract.Running.{givenOf, tables, tablesOf}
 use types.Kit.{
   Given,
   Item,
