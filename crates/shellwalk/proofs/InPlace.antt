@@ -1,22 +1,20 @@
--- The signature of a shell, which takes the record by reference: `fn(&mut Hub, u8) -> Answer`.
-use mathlib.Core.List.{[], _∷_}
-use denote.Builtin.{u8, RefMutOf}
+-- The signature of a shell, which takes the record by reference and then what the slots say.
+use mathlib.Core.List.{[], _∷_, List}
+use denote.Builtin.{RefMutOf}
 use denote.Exit.{yes}
-use denote.Signature.{Signature, plain}
+use denote.RattleType.{RattleType}
+use denote.Signature.{Signature, Slot, plain}
 use denote.Triple.Clauses.{Ended}
-use Rattle.hub.proofs.answers.Answer as Answer
+use denote.Triple.End.{Kepts}
 use Rattle.hub.proofs.record.Hub as Hub
 
-abbrev pub signature : Signature
-signature = record {
+abbrev pub signature : List (Slot 1) → RattleType → Signature
+signature slots R = record {
   lifetimes = 1;
   outlives = [];
-  params =
-      RefMutOf (0 ∷ []) tt (plain (λ _. Hub.the-row)) (λ _. tt)
-      ∷ plain (λ _. u8)
-      ∷ [];
-  result = plain (λ _. Answer.the-row);
+  params = RefMutOf (0 ∷ []) tt (plain (λ _. Hub.the-row)) (λ _. tt) ∷ slots;
+  result = plain (λ _. R);
 }
 
-abbrev pub ended : Ended
-ended = record { signature = signature; kept = (yes, (yes, tt)) }
+abbrev pub ended : (slots : List (Slot 1)) → Kepts slots → RattleType → Ended
+ended slots kept R = record { signature = signature slots R; kept = (yes, kept) }

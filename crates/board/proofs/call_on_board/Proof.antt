@@ -1,6 +1,6 @@
 -- `call_on_board` meets its contract: each arm lends the local record to its shell, which leaves there
 -- what the call leaves, and the outcome is made of that.
-use mathlib.Core.Path.{_≡_, refl}
+use mathlib.Core.Path.{_≡_, refl, ap, subst}
 use Prim.Native.Nat.{ℕ, _<_, _^_}
 use mathlib.Core.List.{[], _∷_, List}
 use lib.Dec.{T as Holds}
@@ -35,12 +35,12 @@ use mir.Syntax.{
   return,
 }
 use mir.Val.{Val, WT, hasTy, vint, vptr}
-use base.Logic.{SProp, ent, emp, via, fst∗}
-use base.Fml.{GName, ftrue, fat, froom, fdies}
+use base.Logic.{SProp}
+use base.Fml.{GName, fat, froom, fdies}
 use prog.Model.{Model}
 use prog.Wp.{Closed, Heap, Env, Calls, Loops, Wp, WpFn, Tables, next, afterSeq, atReturn, spotOf}
 use ghost.Atoms.{Atoms}
-use contract.Notation as Notation
+use contract.Lifetimes.{Lfts}
 use contract.Running.{GhostRules, Running, givenOf, tables, tablesOf}
 use types.Kit as Kit
 use types.Kit.{
@@ -64,7 +64,6 @@ use types.Kit.{
   qed,
   by,
   move,
-  keep,
   use1,
   use2,
   split,
@@ -72,8 +71,6 @@ use types.Kit.{
   learn,
   regoal,
   fjoin,
-  suffices,
-  frame,
   await,
   done,
 }
@@ -107,37 +104,21 @@ use types.Run.{
 use types.Part.{agg, whole}
 use types.Match.{vrt, look-tag}
 use sound.WpLaws.{FmC, fmOf, WpFn-mono}
-use denote.RattleType.{owns}
 use denote.Laws.{Is}
 use denote.Memory.{pointee}
-use denote.Plain.{uint-vals, uint-tells, uint-makes}
+use denote.Plain.{uint-makes}
 use denote.Builtin.{u8}
-use denote.Steps.{owned, nothing}
+use denote.Steps.{only, owned, nothing}
 use denote.Struct.Laws as LL
 use denote.Enum.Laws as EL
 use denote.Triple.Statement.{Triple}
 use denote.Triple.Call.{calls-at-last}
-use denote.Triple.Clauses.{Clauses, closing}
-use denote.Triple.Entry.{onEntry}
+use denote.Triple.Clauses.{closing}
 use denote.Triple.Spec.{Meets, tripleOf}
 use denote.Triple.Table.{entered, cited}
-use denote.Triple.Walked.{
-  says,
-  Stays,
-  stay-none,
-  walkOf,
-  AllGo,
-  goes-none,
-  Walks,
-  ends-at,
-  walked,
-  walk-meets,
-}
-use denote.Exit.{yes}
 use Rattle.hub.specs.declared.moves.Op.{Op}
 use Rattle.hub.specs.declared.record.Hub.{Hub}
 use Rattle.hub.specs.declared.record.Outcome.{Outcome}
-use Rattle.hub.specs.Answers.{printed}
 use Rattle.hub.proofs.answers.Answer as P
 use Rattle.hub.proofs.answers.Answer.Laws as P′
 use Rattle.hub.proofs.moves.Op as O
@@ -146,7 +127,11 @@ use Rattle.hub.proofs.record.Hub as T
 use Rattle.hub.proofs.record.Hub.Laws as T′
 use Rattle.hub.proofs.record.Outcome as R
 use Rattle.hub.proofs.record.Outcome.Laws as R′
-use Rattle.shellwalk.proofs.Shell.{answerVal, by-op, hubVal, outcomeVal, parts, Shell}
+use Rattle.shellwalk.proofs.OverFields.{hubVal}
+use Rattle.shellwalk.proofs.OnBoard as on
+use Rattle.shellwalk.proofs.OnBoard.{Reached, clauses, meets, opVal, reaches}
+use Rattle.shellwalk.proofs.Shell.{Kind, Shell}
+use Rattle.shellwalk.proofs.Tagged.{answerVal, by-op, kind, outcomeVal, parts}
 use Rattle.shellwalk.proofs.Lent.{to-shell, loan, lends, comes-back}
 use Rattle.board.proofs.acquire.Symbol as acquire
 use Rattle.board.proofs.acquire.Met as acquire-thm
@@ -159,7 +144,6 @@ use Rattle.board.proofs.release.Met as release-thm
 use Rattle.board.proofs.radio.Symbol as radio
 use Rattle.board.proofs.radio.Met as radio-thm
 use Rattle.board.proofs.call_on_board.Key.{name}
-use Rattle.board.proofs.call_on_board as on
 use Rattle.board.proofs.call_on_board.Statement.{statement}
 use Rattle.board.proofs.call_on_board.Code as code
 
@@ -226,55 +210,33 @@ function key = record {
   body = seq (assign (place 4 []) (rvOpd (copy (place 1 [])))) (seq (match key) rest);
 }
 
-abbrev opVal : Op → Val
-opVal = EL.val O.the-type O′.the-laws
-
-abbrev stayed : Stays (on.ended .signature .params) (on.ended .kept)
-stayed =
-    let o = stay-none (λ _. O.the-row) yes in
-    (stay-none (λ _. T.the-row) yes, (o, (stay-none (λ _. u8) yes, tt)))
-
-module _ {M : Type 1} (𝓤 : URA M) (D : Hub → Op → ℕ → Outcome) where
-  open Notation.Connectives (Notation.connectives 𝓤) using (⌜_⌝, ⊤ₛ)
-
-  abbrev clauses : Clauses 𝓤 on.ended
-  clauses = λ κs a. record {
-    ghost = Unit {0};
-    requires = λ g. ⊤ₛ;
-    ensures = λ g r e.
-        ⌜ (r ≡ D (a .0) (a .1 .0) (a .1 .1 .0))
-        × (printed (r .answer) ≡ printed (D (a .0) (a .1 .0) (a .1 .1 .0) .answer)) ⌝;
-  }
+-- what comes back is the answer's machine value, and an outcome's
+outcome :
+    (o : Outcome) (v : Val) → Is P.the-row (o .answer) (v ∷ []) → Is T.the-row (o .hub) (hubVal (o .hub) ∷ [])
+    → (v ≡ answerVal (o .answer)) × Is R.the-row o (outcomeVal o ∷ [])
+outcome o v p is =
+    let t = ap only (EL.tells P.the-type P′.the-laws (o .answer) _ p) in
+    let q = subst (λ (u : Val). Is P.the-row (o .answer) (u ∷ [])) t p in
+    (t, LL.owes R.the-type R′.the-laws o (q, (is, tt)))
 
 module _ {M : Type 1} (𝓤 : URA M) (H : Heap 𝓤) (A : Atoms 𝓤) (W : Given 𝓤 H A)
     (D : Hub → Op → ℕ → Outcome) (h : Hub) (n : ℕ) (fits : n < 2 ^ 8)
     (is : Is T.the-row h (hubVal h ∷ [])) where
-  abbrev x : Op → Hub × (Op × (ℕ × Unit {0}))
-  x o = (h, (o, (n, tt)))
-
-  abbrev at : Op → List Val × (List Val × (List Val × Unit {0}))
-  at o = (hubVal h ∷ [], (opVal o ∷ [], (vint w8 n ∷ [], tt)))
-
-  abbrev bound : Op → walkOf 𝓤 H A on.ended stayed (clauses 𝓤 D) .Ghost
-  bound o = ((tt, tt, tt, x o, at o), tt)
-
   abbrev Post : Op → Val → SProp 𝓤
-  Post o = walkOf 𝓤 H A on.ended stayed (clauses 𝓤 D) .post (bound o)
+  Post o = Reached 𝓤 H A W R.the-row (λ r. r .answer) D h o n
 
-  exits :
-      (o : Op) → Is O.the-row o (opVal o ∷ []) → Is R.the-row (D h o n) (outcomeVal (D h o n) ∷ [])
-      → ent 𝓤 (emp 𝓤) (Post o (outcomeVal (D h o n)))
-  exits o iso r =
-      qed W [] ∵
-      suffices ! _ (ends-at 𝓤 H A on.ended stayed (clauses 𝓤 D) W (bound o) (outcomeVal (D h o n)) (D h o n)
-      (tt, (tt, (tt, tt))) (tt, (tt, (tt, tt)))) $ says ! (refl, refl) $ nothing ! $ frame ! $
-      nothing ! $ owned ! u8 (Is u8) (uint-makes 𝓤 H A W w8) n _ (refl, fits) $ fjoin ! $
-      owned ! O.the-row (Is O.the-row) (EL.makes O.the-type O′.the-plain 𝓤 H A) o _ iso $ fjoin ! $
-      owned ! T.the-row (Is T.the-row) (LL.makes T.the-type T′.the-plain 𝓤 H A) h _ is $ fjoin ! $ frame ! $
-      owned ! R.the-row (Is R.the-row) (LL.makes R.the-type R′.the-plain 𝓤 H A) (D h o n) _ r $ done !
+  -- what is known of a shell, and what it is called with
+  abbrev shell : Op → Kind
+  shell o = kind (λ z p. D z o p)
+
+  abbrev party : Lfts 1 → ℕ × Unit {0}
+  party κs = (n, tt)
+
+  abbrev partyVal : Lfts 1 → List Val × Unit {0}
+  partyVal κs = (vint w8 n ∷ [], tt)
 
   module _ (key : Op → Name) (C : Calls 𝓤 H) (Λ : Loops 𝓤 H) (fm : FmC 𝓤 H (W .laws) C)
-      (known : (o : Op) → Triple 𝓤 (C (key o)) (Shell 𝓤 H A (λ z p. D z o p)))
+      (known : (o : Op) → Triple 𝓤 (C (key o)) (Shell 𝓤 H A (shell o)))
       (l₀ l₁ l₂ l₃ l₄ l₅ l₆ l₇ l₈ l₉ l₁₀ l₁₁ l₁₂ : ℕ) where
     abbrev E : Env 𝓤 H
     E =
@@ -341,7 +303,8 @@ module _ {M : Type 1} (𝓤 : URA M) (H : Heap 𝓤) (A : Atoms 𝓤) (W : Given
         move ! (0 ∷ 13 ∷ []) $ free1 ! $ move ! (10 ∷ 11 ∷ []) $ free1 ! $ move ! (8 ∷ 9 ∷ []) $ free1 ! $
         move ! (6 ∷ 7 ∷ []) $ free1 ! $ move ! (4 ∷ 5 ∷ []) $ free1 ! $ move ! (2 ∷ 3 ∷ []) $ free1 ! $
         free1 ! $ free0 ! $
-        by ! (exits o iso r)
+        by ! (reaches 𝓤 H A W R.the-row (λ z. z .answer) D h o n is iso fits (outcomeVal (D h o n))
+        (LL.makes R.the-type R′.the-plain 𝓤 H A (D h o n) _ r))
 
     -- one arm: the local's record is lent for the call; q is what is to hold after it
     armed :
@@ -360,22 +323,23 @@ module _ {M : Type 1} (𝓤 : URA M) (H : Heap 𝓤) (A : Atoms 𝓤) (W : Given
     armed o Δ q ok k =
         assigns ! (addr ! (from ! (stop !))) (from ! (stop !)) (init ! 0 refl ok) $ move ! (1 ∷ []) $
         use1 W (later (some (λ (α : ℕ). some (λ (γ : GName).
-        raw (Shell 𝓤 H A (λ z p. D z o p) .pre (to-shell 𝓤 H A W (λ z p. D z o p) l₄ h n α γ))
-        ⊛ ‵ (loan 𝓤 H A W (λ z p. D z o p) l₄ h n α γ))))) (lends 𝓤 H A W (λ z p. D z o p) l₄ h n fits is) $
+        raw (Shell 𝓤 H A (shell o) .pre (to-shell 𝓤 H A W (shell o) l₄ h party partyVal α γ))
+        ⊛ ‵ (loan 𝓤 H A W (shell o) l₄ h party partyVal α γ)))))
+        (lends 𝓤 H A W (shell o) l₄ h party partyVal
+        (λ κs. qed W [] ∵ nothing ! $ owned ! u8 (Is u8) (uint-makes 𝓤 H A W w8) n _ (refl, fits) $ fjoin ! $ done !) is) $
         await ! tt $ pick ! (λ α. pick ! (λ γ. split ! $
         -- [what the shell asks; the loan; _j; the party; room for the answer; …]
-        calls-at-last ! fm (Shell 𝓤 H A (λ z p. D z o p)) (known o)
-        (to-shell 𝓤 H A W (λ z p. D z o p) l₄ h n α γ)
+        calls-at-last ! fm (Shell 𝓤 H A (shell o)) (known o) (to-shell 𝓤 H A W (shell o) l₄ h party partyVal α γ)
         (and-then ! (load ! (from ! (stop !)) (look ! 2 refl))
         (and-then ! (load ! (from ! (stop !)) (look ! 3 refl)) (no-more !))) (λ v.
         use2 W (later (given
-        ((v ≡ answerVal (D h o n .answer)) × Is R.the-row (D h o n) (outcomeVal (D h o n) ∷ []))
-        (cell T′.mir l₄ (hubVal (D h o n .hub))))) (comes-back 𝓤 H A W (λ z p. D z o p) l₄ h n α γ v) $
+        (Is P.the-row (D h o n .answer) (v ∷ []) × Is T.the-row (D h o n .hub) (hubVal (D h o n .hub) ∷ []))
+        (cell T′.mir l₄ (hubVal (D h o n .hub))))) (comes-back 𝓤 H A W (shell o) l₄ h party partyVal α γ v) $
         await ! tt $ learn ! (λ e.
-        regoal ! (λ (u : Val). settles E (place 6 []) u q) (e .0) refl $
+        regoal ! (λ (u : Val). settles E (place 6 []) u q) (outcome (D h o n) v (e .0) (e .1) .0) refl $
         land-last ! (from ! (stop !)) (init ! 3 refl (EL.lawful P.the-type P′.the-laws 𝓤 H A W tt .typed
-        (D h o n .answer) _ (parts (D h o n) _ (e .1) .0) .0)) $
-        forget ! 1 refl $ move ! (1 ∷ 0 ∷ []) $ k (e .1)))))
+        (D h o n .answer) _ (parts (D h o n) _ (outcome (D h o n) v (e .0) (e .1) .1) .0) .0)) $
+        forget ! 1 refl $ move ! (1 ∷ 0 ∷ []) $ k (outcome (D h o n) v (e .0) (e .1) .1)))))
 
     -- the tag is a numeral in each case, and what is left computes to the arm that runs
     matched : (o : Op) → Is O.the-row o (opVal o ∷ []) → Sq W (Before o) (runs C Λ E (match key) (Then o))
@@ -406,13 +370,11 @@ module _ {M : Type 1} (𝓤 : URA M) (H : Heap 𝓤) (A : Atoms 𝓤) (W : Given
         move ! (1 ∷ 2 ∷ 3 ∷ 4 ∷ 5 ∷ 0 ∷ []) $ leaves Op.Radio iso r)
 
   module _ (key : Op → Name) (C : Calls 𝓤 H) (Λ : Loops 𝓤 H) (fm : FmC 𝓤 H (W .laws) C)
-      (known : (o : Op) → Triple 𝓤 (C (key o)) (Shell 𝓤 H A (λ z p. D z o p))) where
+      (known : (o : Op) → Triple 𝓤 (C (key o)) (Shell 𝓤 H A (shell o))) where
     walk :
         (o : Op) → Is O.the-row o (opVal o ∷ [])
-        → ent 𝓤 (onEntry 𝓤 H A on.signature tt tt (x o) (at o))
-        (WpFn 𝓤 H C Λ (function key) (hubVal h ∷ opVal o ∷ vint w8 n ∷ []) (Post o))
+        → Sq W [] (prop (WpFn 𝓤 H C Λ (function key) (hubVal h ∷ opVal o ∷ vint w8 n ∷ []) (Post o)))
     walk o iso =
-        qed W (‵ ftrue ∷ ‵ (owns (T.the-row ∷ O.the-row ∷ u8 ∷ []) (x o) (at o)) ∷ []) ∵ keep ! [] $
         enter ! C Λ (function key) (hubVal h ∷ opVal o ∷ vint w8 n ∷ []) _ $
         alloc1 ! (λ l₀. alloc1 ! (λ l₁. alloc1 ! (λ l₂. alloc1 ! (λ l₃. alloc1 ! (λ l₄. alloc1 ! (λ l₅.
         alloc1 ! (λ l₆. alloc1 ! (λ l₇. alloc1 ! (λ l₈. alloc1 ! (λ l₉. alloc1 ! (λ l₁₀. alloc1 ! (λ l₁₁.
@@ -424,55 +386,27 @@ module _ {M : Type 1} (𝓤 : URA M) (H : Heap 𝓤) (A : Atoms 𝓤) (W : Given
         (init ! 16 refl (LL.lawful T.the-type T′.the-laws 𝓤 H A W .typed h _ is .0)) $ first ! $
         matched key C Λ fm known l₀ l₁ l₂ l₃ l₄ l₅ l₆ l₇ l₈ l₉ l₁₀ l₁₁ l₁₂ o iso)))))))))))))
 
-module _ {M : Type 1} (𝓤 : URA M) (H : Heap 𝓤) (A : Atoms 𝓤) (W : Given 𝓤 H A)
-    (D : Hub → Op → ℕ → Outcome) where
-  walks :
-      (key : Op → Name) (C : Calls 𝓤 H) (Λ : Loops 𝓤 H) → FmC 𝓤 H (W .laws) C
-      → ((o : Op) → Triple 𝓤 (C (key o)) (Shell 𝓤 H A (λ z p. D z o p)))
-      → Walks 𝓤 H A on.ended stayed (WpFn 𝓤 H C Λ (function key)) (clauses 𝓤 D)
-  walks key C Λ fm known =
-      walked 𝓤 H A on.ended stayed (clauses 𝓤 D) (WpFn 𝓤 H C Λ (function key))
-      (λ κs. (LL.vals T.the-type T′.the-laws, (EL.vals O.the-type O′.the-laws, (uint-vals w8, tt))))
-      (λ κs. (LL.tells T.the-type T′.the-laws, (EL.tells O.the-type O′.the-laws, (uint-tells w8, tt))))
-      (λ κs qs bounds a g are. via 𝓤 _ (fst∗ 𝓤 _ (emp 𝓤))
-      (walk 𝓤 H A W D (a .0) (a .1 .1 .0) (are .1 .1 .0 .1) (are .0) key C Λ fm known (a .1 .0) (are .1 .0)))
-
-  goes : AllGo 𝓤 H A W 0 (on.signature .params) (on.ended .kept) stayed
-  goes =
-      let t = goes-none 𝓤 H A W 0 (λ _. T.the-row) yes (λ κs x f. refl) in
-      let o = goes-none 𝓤 H A W 0 (λ _. O.the-row) yes (λ κs x f. refl) in
-      (t, (o, (goes-none 𝓤 H A W 0 (λ _. u8) yes (λ κs x f. refl), tt)))
-
-  meets :
-      (key : Op → Name) (𝓣 : Tables 𝓤 H) → ((o : Op) → Triple 𝓤 (𝓣 .C (key o)) (Shell 𝓤 H A (λ z p. D z o p)))
-      → Meets 𝓤 H A on.signature (WpFn 𝓤 H (𝓣 .C) (𝓣 .Λ) (function key))
-      (closing 𝓤 H A on.ended (clauses 𝓤 D))
-  meets key 𝓣 known =
-      walk-meets 𝓤 H A on.ended stayed W goes (clauses 𝓤 D) (WpFn 𝓤 H (𝓣 .C) (𝓣 .Λ) (function key))
-      (WpFn-mono 𝓤 H (W .laws) 𝓣 (function key))
-      (walks key (𝓣 .C) (𝓣 .Λ) (fmOf 𝓤 H (W .laws) 𝓣) known)
-
 module _ {M : Type 1} (𝓤 : URA M) (H : Heap 𝓤) (𝓜 : Model 𝓤 H) (𝓖 : GhostRules 𝓤 H)
     (𝓡 : Running 𝓤 H 𝓜) where
   -- what is known of a shell
   abbrev Known : Name → Op → Type 1
-  Known k o = Triple 𝓤 (tables 𝓤 H 𝓜 𝓡 code.env .C k) (Shell 𝓤 H (𝓖 .A) (λ z p. by-op z o p))
+  Known k o = Triple 𝓤 (tables 𝓤 H 𝓜 𝓡 code.env .C k) (Shell 𝓤 H (𝓖 .A) (kind (λ z p. by-op z o p)))
 
   shells : (o : Op) → Known (keys acquire.name step.name cancel.name release.name radio.name o) o
   shells Op.Acquire =
-      cited 𝓤 H (Shell 𝓤 H (𝓖 .A) (λ z p. by-op z Op.Acquire p)) 𝓜 𝓡 code.env acquire.name acquire.routine
+      cited 𝓤 H (Shell 𝓤 H (𝓖 .A) (kind (λ z p. by-op z Op.Acquire p))) 𝓜 𝓡 code.env acquire.name acquire.routine
       code.calls-board·acquire (acquire-thm.met 𝓤 H 𝓜 𝓖 𝓡)
   shells Op.Step =
-      cited 𝓤 H (Shell 𝓤 H (𝓖 .A) (λ z p. by-op z Op.Step p)) 𝓜 𝓡 code.env step.name step.routine
+      cited 𝓤 H (Shell 𝓤 H (𝓖 .A) (kind (λ z p. by-op z Op.Step p))) 𝓜 𝓡 code.env step.name step.routine
       code.calls-board·step (step-thm.met 𝓤 H 𝓜 𝓖 𝓡)
   shells Op.Cancel =
-      cited 𝓤 H (Shell 𝓤 H (𝓖 .A) (λ z p. by-op z Op.Cancel p)) 𝓜 𝓡 code.env cancel.name cancel.routine
+      cited 𝓤 H (Shell 𝓤 H (𝓖 .A) (kind (λ z p. by-op z Op.Cancel p))) 𝓜 𝓡 code.env cancel.name cancel.routine
       code.calls-board·cancel (cancel-thm.met 𝓤 H 𝓜 𝓖 𝓡)
   shells Op.Release =
-      cited 𝓤 H (Shell 𝓤 H (𝓖 .A) (λ z p. by-op z Op.Release p)) 𝓜 𝓡 code.env release.name release.routine
+      cited 𝓤 H (Shell 𝓤 H (𝓖 .A) (kind (λ z p. by-op z Op.Release p))) 𝓜 𝓡 code.env release.name release.routine
       code.calls-board·release (release-thm.met 𝓤 H 𝓜 𝓖 𝓡)
   shells Op.Radio =
-      cited 𝓤 H (Shell 𝓤 H (𝓖 .A) (λ z p. by-op z Op.Radio p)) 𝓜 𝓡 code.env radio.name radio.routine
+      cited 𝓤 H (Shell 𝓤 H (𝓖 .A) (kind (λ z p. by-op z Op.Radio p))) 𝓜 𝓡 code.env radio.name radio.routine
       code.calls-board·radio (radio-thm.met 𝓤 H 𝓜 𝓖 𝓡)
 
   -- the names of the five are read off the code, and each must be known to do its operation
@@ -481,15 +415,19 @@ module _ {M : Type 1} (𝓤 : URA M) (H : Heap 𝓤) (𝓜 : Model 𝓤 H) (𝓖
       → Closed 𝓤 H (tables 𝓤 H 𝓜 𝓡 code.env .C) (tables 𝓤 H 𝓜 𝓡 code.env .Λ) name
       (function (keys a s c r q))
       → ((o : Op) → Known (keys a s c r q o) o)
-      → Meets 𝓤 H (𝓖 .A) on.signature (𝓡 .run (code.env name))
-      (closing 𝓤 H (𝓖 .A) on.ended (clauses 𝓤 by-op))
+      → Meets 𝓤 H (𝓖 .A) (on.signature R.the-row) (𝓡 .run (code.env name))
+      (closing 𝓤 H (𝓖 .A) (on.ended R.the-row) (clauses 𝓤 R.the-row (λ z. z .answer) by-op))
   unfolding tablesOf
   enters a s c r q closed known =
+      let W : Given 𝓤 H (𝓖 .A) = givenOf 𝓤 H 𝓜 𝓖 in
+      let 𝓣 : Tables 𝓤 H = tablesOf 𝓤 H 𝓜 (tables 𝓤 H 𝓜 𝓡 code.env) in
       entered 𝓤 H
-      (tripleOf 𝓤 H (𝓖 .A) on.signature (closing 𝓤 H (𝓖 .A) on.ended (clauses 𝓤 by-op)))
+      (tripleOf 𝓤 H (𝓖 .A) (on.signature R.the-row)
+      (closing 𝓤 H (𝓖 .A) (on.ended R.the-row) (clauses 𝓤 R.the-row (λ z. z .answer) by-op)))
       (tables 𝓤 H 𝓜 𝓡 code.env .C) (tables 𝓤 H 𝓜 𝓡 code.env .Λ) name (function (keys a s c r q)) closed
-      (meets 𝓤 H (𝓖 .A) (givenOf 𝓤 H 𝓜 𝓖) by-op (keys a s c r q)
-      (tablesOf 𝓤 H 𝓜 (tables 𝓤 H 𝓜 𝓡 code.env)) known)
+      (meets 𝓤 H (𝓖 .A) W R.the-row (λ z. z .answer) by-op (WpFn 𝓤 H (𝓣 .C) (𝓣 .Λ) (function (keys a s c r q)))
+      (WpFn-mono 𝓤 H (W .laws) 𝓣 (function (keys a s c r q))) (λ h o n is iso fits.
+      walk 𝓤 H (𝓖 .A) W by-op h n fits is (keys a s c r q) (𝓣 .C) (𝓣 .Λ) (fmOf 𝓤 H (W .laws) 𝓣) known o iso))
 
 pub call-on-board-spec : {M : Type 1} → statement M
 unfolding code.routine
