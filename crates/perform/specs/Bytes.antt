@@ -1,8 +1,8 @@
 -- A list of operations as bytes, and the answers to it.
-use Prim.Native.Nat.{ℕ, _*_, _/_}
+use Prim.Native.Nat.{ℕ, _+_, _*_, _/_}
 use mathlib.Core.Bool.{Bool}
 use mathlib.Core.List.{List, [], _∷_, _++_}
-use lib.ListN.{length, drop}
+use lib.ListN.{length, getD, take, drop}
 use Rattle.hub.specs.declared.moves.Call.{Call}
 use Rattle.hub.specs.declared.record.Hub.{Hub}
 use Rattle.hub.specs.Answers.{printed}
@@ -14,6 +14,13 @@ use Rattle.run.specs.Bytes.{callsOf}
 -- 10 ask, 12 give up, 13 give back.
 abbrev pub isOperationCode : ℕ → Bool
 isOperationCode c = among (0x10 ∷ 0x12 ∷ 0x13 ∷ []) c
+
+-- The operation of the i-th two bytes.
+abbrev pub codeAt : List ℕ → ℕ → ℕ
+codeAt l i = getD l (2 * i) 0
+
+abbrev pub partyAt : List ℕ → ℕ → ℕ
+partyAt l i = getD l (2 * i + 1) 0
 
 -- The three bytes of an answer: 20 or the refusal, the party that was woken, the steps taken.
 abbrev pub answerBytes : Operated → List ℕ
@@ -28,3 +35,7 @@ answersTo h (c ∷ cs) = answerBytes (operated h c) ++ answersTo (operated h c .
 abbrev pub written : Hub → List ℕ → List ℕ → List ℕ
 written h operations out =
     answersTo h (callsOf operations) ++ drop (3 * (length operations / 2)) out
+
+-- A buffer in which the answer to operation i is written.
+abbrev pub withAnswer : ℕ → List ℕ → List ℕ → List ℕ
+withAnswer i text out = (take (3 * i) out ++ text) ++ drop (3 * i + 3) out

@@ -2,9 +2,16 @@
 // takes until everybody is at rest again. The steps are not walked: what they come to is stored. The record's
 // arrays and figures are locals meanwhile, altered in place, as in the crate batch; and no record is checked.
 
+mod wire; // operations and answers as bytes
+
+use crate::wire::code_at;
+use crate::wire::party_at;
+use crate::wire::put_at;
 use hub::record::Hub;
 use hub::record::Phase;
 use hub::record::Place;
+use hub::record::PlaceSlot;
+use hub::record::Pool;
 use hub::slots::empty_seat;
 use hub::slots::with_phase;
 use hub::slots::with_place;
@@ -17,22 +24,34 @@ use pool::moving::move_radio;
 use transition::tidy::can_retire;
 use transition::tidy::can_skip;
 ghost use mathlib.Core.Path.{_≡_};
-ghost use mathlib.Core.Bool.{true};
-ghost use mathlib.Core.List.{[], _∷_};
-ghost use Prim.Native.Nat.{_*_, _/_, _%_, _≤_};
+ghost use mathlib.Core.Bool.{true, _&&_};
+ghost use Prim.Native.Nat.{_*_, _/_, _≤_};
+ghost use lib.Dec.{ltb};
 ghost use lib.ListN.{length};
+ghost use Rattle.hub.specs.Answers.{printed};
+ghost use Rattle.hub.specs.Phases.{isCancelled};
+ghost use Rattle.hub.specs.Radios.{moved};
+ghost use Rattle.plan.specs.Plan.{radioBy};
 ghost use Rattle.run.specs.Bytes.{wellFormed};
 ghost use Rattle.perform.specs.Bytes.{isOperationCode, written};
 ghost use Rattle.perform.specs.Rested.{Rested};
 
-// The three bytes of one answer.
-fn put(out: &mut [u8], code: u8, woken: u32, steps: u8)
-    requires { ⌜ length (now out) ≡ 3 ⌝ }
-    ensures { λ r. ⌜ now (out .exit) ≡ code ∷ woken % 256 ∷ steps ∷ [] ⌝ }
+// May the tidying pass ticket `resumed`, whose place this is, with so many left to pass?
+fn may_skip(skips: u32, seat: PlaceSlot, resumed: u32, end: u32) -> bool
+    ensures { λ r. ⌜ r ≡ (ltb 0 skips && (ltb resumed end && isCancelled (seat .place))) ⌝ }
 {
-    out[0] = code;
-    out[1] = (woken % 256) as u8;
-    out[2] = steps;
+    if skips == 0 {
+        return false;
+    }
+    can_skip(seat, resumed, end)
+}
+
+// The radios of a hub that has some, after the operation.
+fn radios_after(code: u8, steps: u8, woken: u32, party: u8, pool: Pool) -> Pool
+    requires { ⌜ pool .stored ≤ 32 ⌝ }
+    ensures { λ r. ⌜ r ≡ moved (printed (radioBy code steps woken)) party pool ⌝ }
+{
+    move_radio(radio_by(code, steps, woken), party, pool)
 }
 
 // Performs the operations, two bytes each, on a hub at rest.
@@ -52,13 +71,12 @@ pub fn perform_operations(hub: Hub, operations: &[u8], out: &mut [u8])
     let count = operations.len() / 2;
     let mut i: usize = 0;
     while i < count {
-        let code = operations[2 * i];
-        let party = operations[2 * i + 1];
-        let at = 3 * i;
-        let end = at + 3;
+        let code = code_at(operations, i);
+        let party = party_at(operations, i);
+        let at = i;
         i += 1;
         if opening.parties <= party {
-            put(&mut out[at..end], 4, 0xFF, 0);
+            put_at(out, at, 4, 0xFF, 0);
             continue;
         }
         let own = party as usize;
@@ -76,8 +94,6 @@ pub fn perform_operations(hub: Hub, operations: &[u8], out: &mut [u8])
             figures,
         };
         let plan = plan_for(code, full, s);
-        let next = plan.figures;
-        figures = next;
         let woken = plan.woken;
         if woken < 32 {
             let q = woken as usize;
@@ -88,34 +104,35 @@ pub fn perform_operations(hub: Hub, operations: &[u8], out: &mut [u8])
         slots[own] = becomes;
         let left = plan.seat;
         places[t] = left;
-        put(&mut out[at..end], plan.code, woken, plan.steps);
+        put_at(out, at, plan.code, woken, plan.steps);
         if opening.named {
-            pool = move_radio(radio_by(code, plan.steps, woken), party, pool);
+            pool = radios_after(code, plan.steps, woken, party, pool);
         }
-        let turns = plan.turns;
-        let limit = oldest + Hub::PLACES;
-        let mut n: u32 = 0;
-        while n < turns {
-            let r = figures.resumed;
-            let a = (r % Hub::PLACES) as usize;
-            let head = places[a];
-            if !can_skip(head, r, limit) {
+        let next = plan.figures;
+        figures = next;
+        // both loops of the tidying in one: it skips first, then it retires
+        let mut resumed = figures.resumed;
+        let mut skips = plan.turns;
+        let mut retires = skips;
+        while 0 < retires {
+            let a = (resumed % Hub::PLACES) as usize;
+            let ahead = places[a];
+            if may_skip(skips, ahead, resumed, oldest + Hub::PLACES) {
+                places[a] = with_place(Place::Done, ahead);
+                resumed += 1;
+                skips -= 1;
+                continue;
+            }
+            skips = 0;
+            let b = (oldest % Hub::PLACES) as usize;
+            let behind = places[b];
+            if !can_retire(behind) {
                 break;
             }
-            places[a] = with_place(Place::Done, head);
-            figures.resumed = r + 1;
-            n += 1;
-        }
-        let mut m: u32 = 0;
-        while m < turns {
-            let a = (oldest % Hub::PLACES) as usize;
-            let head = places[a];
-            if !can_retire(head) {
-                break;
-            }
-            places[a] = empty_seat();
+            places[b] = empty_seat();
             oldest += 1;
-            m += 1;
+            retires -= 1;
         }
+        figures.resumed = resumed;
     }
 }

@@ -5,27 +5,24 @@ use mathlib.Core.Bool.{true, false, true≢false}
 use mathlib.Core.List.{List, [], _∷_, _++_, append-assoc, append-nil}
 use native.Mathlib.Omega.{arith}
 use borrow.Rule.Slice.PartMut.{putMid}
-use lib.ListN.{length, getD, take, drop, take-append-drop, length-drop}
-use lib.Seq.{drop-drop, length-take-le}
+use lib.ListN.{length, take, drop, take-append-drop, length-drop}
+use lib.Seq.{drop-drop}
 use Rattle.hub.specs.declared.moves.Call.{Call}
 use Rattle.hub.specs.declared.record.Hub.{Hub}
 use Rattle.hub.proofs.Laws.Bools.{first, second}
 use Rattle.encoding.specs.Frame.{opOf}
-use Rattle.encoding.proofs.Laws.Parts.{put-length, put-take, put-drop}
+use Rattle.encoding.proofs.Laws.Parts.{parts, put-length, put-take, put-drop}
 use Rattle.operations.specs.Operation.{operated}
 use Rattle.run.specs.Bytes.{callsOf, wellFormed}
 use Rattle.run.proofs.Laws.Pairs.{one-formed, pair}
-use Rattle.perform.specs.Bytes.{answerBytes, answersTo, isOperationCode, written}
+use Rattle.perform.specs.Bytes.{answerBytes, answersTo, codeAt, isOperationCode, partyAt, withAnswer, written}
 use Rattle.perform.specs.Rested.{Rested}
 use Rattle.perform.proofs.Laws.Codes.{an-operation}
 use Rattle.perform.proofs.Laws.Rested.{rested-again}
 
--- The operation of the i-th two bytes.
-abbrev pub codeAt : List ℕ → ℕ → ℕ
-codeAt l i = getD l (2 * i) 0
-
+-- The operation of the i-th two bytes, as a call.
 abbrev pub callAt : List ℕ → ℕ → Call
-callAt l i = record { op = opOf (codeAt l i); party = getD l (2 * i + 1) 0 }
+callAt l i = record { op = opOf (codeAt l i); party = partyAt l i }
 
 -- Its answer stands in front of those that are still to come.
 one-answer : (h : Hub) (l : List ℕ) (i : ℕ) → i < length l / 2
@@ -65,30 +62,25 @@ module _ (h₀ : Hub) (l out₀ : List ℕ) (h : Hub) (out : List ℕ) (i : ℕ)
     pub whole-answer : 3 * i + 3 ≤ length out
     whole-answer = omega (arith, u .room)
 
-    pub answer-part : length (take (3 * i + 3 - 3 * i) (drop (3 * i) out)) ≡ 3
-    answer-part =
-        length-take-le (3 * i + 3 - 3 * i) (drop (3 * i) out) (simp length-drop (omega (arith, whole-answer)))
-        ∙ three i
-      where
-        three : (i : ℕ) → 3 * i + 3 - 3 * i ≡ 3
-        three i = omega arith
-
     pub code-here : isOperationCode (codeAt l i) ≡ true
     code-here = first _ _ (sym (one-formed isOperationCode l i more) ∙ u .formed)
 
     formed-on : wellFormed isOperationCode (drop (2 * (i + 1)) l) ≡ true
     formed-on = second (isOperationCode (codeAt l i)) _ (sym (one-formed isOperationCode l i more) ∙ u .formed)
 
-    -- One operation more, whose answer was written and whose record is h′.
-    pub answered : (text : List ℕ) (h′ : Hub)
-        → text ≡ answerBytes (operated h (callAt l i)) → h′ ≡ operated h (callAt l i) .hub
-        → Upto h₀ l out₀ h′ (putMid (3 * i) (3 * i + 3 - 3 * i) out text) (i + 1)
-    answered text h′ f g =
+    -- One operation c more, whose answer is written in out′ and whose record is h′.
+    pub answered : (c : Call) (text out′ : List ℕ) (h′ : Hub) → c ≡ callAt l i
+        → out′ ≡ withAnswer i text out → text ≡ answerBytes (operated h c) → h′ ≡ operated h c .hub
+        → Upto h₀ l out₀ h′ out′ (i + 1)
+    answered c text out′ h′ b w f₀ g₀ =
+        let f = f₀ ∙ ap (λ (c : Call). answerBytes (operated h c)) b in
+        let g = g₀ ∙ ap (λ (c : Call). operated h c .hub) b in
         let r = operated h (callAt l i) in
-        let put = putMid (3 * i) (3 * i + 3 - 3 * i) out text in
         let rest = callsOf (drop (2 * (i + 1)) l) in
         let fits : length text ≡ 3 = ap length f in
-        let long = put-length out text (3 * i) 3 whole-answer fits in
+        let put : out′ ≡ putMid (3 * i) (3 * i + 3 - 3 * i) out text =
+        w ∙ sym (parts out text (3 * i) 3 whole-answer fits) in
+        let long = ap length put ∙ put-length out text (3 * i) 3 whole-answer fits in
         record {
           within = omega arith;
           formed = formed-on;
@@ -98,13 +90,13 @@ module _ (h₀ : Hub) (l out₀ : List ℕ) (h : Hub) (out : List ℕ) (i : ℕ)
               subst Rested (sym g)
               (rested-again h (u .rested) (callAt l i) (an-operation (codeAt l i) code-here));
           rest =
-              ap (λ (k : ℕ). drop k put) (next i)
+              (λ j. drop (next i j) (put j))
               ∙ put-drop out text (3 * i) 3 whole-answer fits
               ∙ ap (drop 3) (u .rest)
               ∙ drop-drop 3 (3 * i) out₀
               ∙ ap (λ (k : ℕ). drop k out₀) (sym (next i));
           same =
-              ap (λ (k : ℕ). take k put ++ answersTo h′ rest) (next i)
+              (λ j. take (next i j) (put j) ++ answersTo h′ rest)
               ∙ (λ j. put-take out text (3 * i) 3 whole-answer fits j ++ answersTo (g j) rest)
               ∙ append-assoc (take (3 * i) out) text _
               ∙ ap (λ (m : List ℕ). take (3 * i) out ++ m)

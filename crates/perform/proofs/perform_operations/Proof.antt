@@ -2,8 +2,8 @@
 -- written with what is still to come is the whole.
 use borrow.Author.Needs.{needs}
 use borrow.Author.Tests.{le-ltb, lt-ltb, not-true, not-false}
-use mathlib.Core.Path.{_≡_, refl, sym, ap, subst, _∙_}
-use mathlib.Core.Bool.{true}
+use mathlib.Core.Path.{_≡_, sym, ap, subst, _∙_}
+use mathlib.Core.Bool.{true, false}
 use mathlib.Core.List.{List, [], _∷_, map}
 use mathlib.Core.Logic.{⊎-elim}
 use native.Mathlib.Omega.{arith}
@@ -19,36 +19,32 @@ use Rattle.hub.specs.declared.record.PartySlot.{PartySlot}
 use Rattle.hub.specs.declared.record.Phase.{Phase}
 use Rattle.hub.specs.declared.record.PlaceSlot.{PlaceSlot}
 use Rattle.hub.specs.declared.record.Pool.{Pool}
-use Rattle.hub.specs.Answers.{printed}
-use Rattle.hub.specs.Calls.{ringOf}
+use Rattle.hub.specs.Calls.{ringOf, withRing}
 use Rattle.hub.specs.Fits.{fits}
 use Rattle.hub.specs.Kinds.{kindIn}
-use Rattle.hub.specs.Radios.{moved}
 use Rattle.hub.specs.Record.{emptySeat, readSlot, withPhase, writeSlot}
-use Rattle.hub.specs.Ring.{PLACES, Ring, readSeat, writeSeat, skip, retire}
-use Rattle.hub.specs.Table.{withResumed}
+use Rattle.hub.specs.Ring.{PLACES, Ring, readSeat, writeSeat}
+use Rattle.encoding.specs.Frame.{opOf}
 use Rattle.operations.specs.declared.Operated.{Operated}
 use Rattle.operations.specs.AtRest.{operatedAtRest}
 use Rattle.operations.specs.Operation.{operated}
 use Rattle.transition.specs.Tidied.{tidiedBy}
 use Rattle.transition.proofs.Laws.Called.{Counted, counted}
-use Rattle.transition.proofs.Laws.Indexed.{tidies}
-use Rattle.transition.proofs.Laws.Loops.{Skipping, skipping, can-skip, in-window, skipping-on}
-use Rattle.transition.proofs.Laws.Loops.{skipping-stop, skipping-end}
-use Rattle.transition.proofs.Laws.Loops.{Retiring, retiring, retiring-on, retiring-stop, retiring-end}
 use Rattle.transition.proofs.Laws.Radios.{few-stored, with-radios, without-radios}
 use Rattle.transition.proofs.Laws.Stored.{nobody, still}
 use Rattle.plan.specs.declared.Plan.{Plan}
 use Rattle.plan.specs.declared.Seen.{Seen}
-use Rattle.perform.specs.Bytes.{answerBytes, isOperationCode}
 use Rattle.plan.specs.Plan.{planOf}
-use Rattle.perform.proofs.Laws.Answers.{Upto, answer-part, answered, callAt, code-here, codeAt, ended, start}
+use Rattle.perform.specs.Bytes.{answerBytes, isOperationCode}
+use Rattle.perform.proofs.Laws.Answers.{Upto, answered, callAt, code-here, ended, start}
 use Rattle.perform.proofs.Laws.Answers.{whole-answer, whole-operation}
 use Rattle.perform.proofs.Laws.Codes.{an-operation}
 use Rattle.perform.proofs.Laws.Comes.{Comes, as-planned, no-such-party, planAt, radiosBy, storedBy}
 use Rattle.perform.proofs.Laws.Comes.{full, seenOf, ticketAt, woken-byte}
 use Rattle.perform.proofs.Laws.Plans.{as-asked, few-turns}
 use Rattle.perform.proofs.Laws.Rested.{closed, next-in-line, rested-fits}
+use Rattle.perform.proofs.Laws.Tidying.{Tidying, ends, in-window, maySkip, retires-on, skips-on}
+use Rattle.perform.proofs.Laws.Tidying.{still-skips, stops, tidying}
 use Rattle.perform.proofs.perform_operations.Statement.{statement}
 use Rattle.perform.proofs.perform_operations.Tie as tie
 
@@ -64,27 +60,17 @@ hubOf opening figures oldest places slots pool =
       pool = pool;
     }
 
-abbrev ring : Figures → ℕ → List PlaceSlot → Ring
-ring f o l = record { resumed = f .resumed; oldest = o; places = l }
+abbrev ring : ℕ → ℕ → List PlaceSlot → Ring
+ring r o l = record { resumed = r; oldest = o; places = l }
 
 abbrev Inv-loop2 : tie.InvT-loop2
-Inv-loop2 _ _ _ figures₀ oldest places₀ _ _ _ _ _ _ _ _ _ _ _ _ _ _ turns limit _ figures places n =
-    Skipping turns (ring figures₀ oldest places₀) (ring figures oldest places) n
-    × (figures ≡ withResumed (figures .resumed) figures₀) × (limit ≡ oldest + 256)
-    × (oldest ≤ 1000000)
+Inv-loop2 _ _ _ _ o₀ l₀ _ _ _ _ _ _ _ _ _ _ _ _ _ r₀ turns _ oldest places resumed skips retires =
+    Tidying turns (ring r₀ o₀ l₀) (ring resumed oldest places) skips retires
+    × (o₀ ≤ 1000000) × (turns ≤ 256)
 
 abbrev μ-loop2 : tie.MeasureT-loop2
-μ-loop2 _ _ _ _ _ _ _ _ _ _ _ _ _ _ _ _ _ _ _ _ turns _ _ _ _ n =
-    turns - n
-
-abbrev Inv-loop3 : tie.InvT-loop3
-Inv-loop3 _ _ _ figures oldest₀ places₀ _ _ _ _ _ _ _ _ _ _ _ _ _ _ turns _ _ _ oldest places m =
-    Retiring turns (ring figures oldest₀ places₀) (ring figures oldest places) m
-    × (oldest₀ + turns ≤ 1000256)
-
-abbrev μ-loop3 : tie.MeasureT-loop3
-μ-loop3 _ _ _ _ _ _ _ _ _ _ _ _ _ _ _ _ _ _ _ _ turns _ _ _ _ _ m =
-    turns - m
+μ-loop2 _ _ _ _ _ _ _ _ _ _ _ _ _ _ _ _ _ _ _ _ _ _ _ _ _ skips retires =
+    skips + retires
 
 abbrev Inv-loop : tie.InvT-loop
 Inv-loop operations out₀ opening f₀ o₀ places₀ slots₀ pool₀ _ _ _ out f o places slots pool i =
@@ -95,56 +81,66 @@ abbrev μ-loop : tie.MeasureT-loop
 μ-loop _ _ _ _ _ _ _ _ _ count _ _ _ _ _ _ _ i =
     count - i
 
+-- A state or a need of the function, with these invariants and measures.
+abbrev At : (tie.InvT-loop2 → tie.MeasureT-loop2 → tie.InvT-loop → tie.MeasureT-loop → Type 0) → Type 0
+At f = f Inv-loop2 μ-loop2 Inv-loop μ-loop
+
 -- The places in the code that the facts below speak of, and the way back from each to the one before it. Only
 -- these know how many steps lie between.
-abbrev Begun : Type 0
-Begun = tie.Start Inv-loop2 μ-loop2 Inv-loop3 μ-loop3 Inv-loop μ-loop
-
 abbrev Head : Type 0
-Head = tie.At-loop Inv-loop2 μ-loop2 Inv-loop3 μ-loop3 Inv-loop μ-loop
+Head = At tie.At-loop
 
-abbrev Turning : Type 0
-Turning = tie.In-loop Inv-loop2 μ-loop2 Inv-loop3 μ-loop3 Inv-loop μ-loop
+abbrev Known : Type 0
+Known = At tie.After-struct-known
 
 abbrev Entered : Type 0
-Entered = tie.Else1 Inv-loop2 μ-loop2 Inv-loop3 μ-loop3 Inv-loop μ-loop
+Entered = At tie.Else1
 
 abbrev Planned : Type 0
-Planned = tie.After-plan-for Inv-loop2 μ-loop2 Inv-loop3 μ-loop3 Inv-loop μ-loop
+Planned = At tie.After-plan-for
 
 abbrev Woken : Type 0
-Woken = tie.Joined2 Inv-loop2 μ-loop2 Inv-loop3 μ-loop3 Inv-loop μ-loop
+Woken = At tie.Joined2
 
 abbrev Settled : Type 0
-Settled = tie.Joined3 Inv-loop2 μ-loop2 Inv-loop3 μ-loop3 Inv-loop μ-loop
+Settled = At tie.Joined3
 
-abbrev Tidying : Type 0
-Tidying = tie.At-loop2 Inv-loop2 μ-loop2 Inv-loop3 μ-loop3 Inv-loop μ-loop
-
-abbrev begun : Head → Begun
+abbrev begun : Head → At tie.Start
 begun c = c .before .before .before .before .before .before .before .before .before
 
-abbrev turning : Entered → Turning
-turning c = c .before .before .before .before
+abbrev turning : Known → At tie.In-loop
+turning c = c .before .before .before
+
+abbrev known : Entered → Known
+known c = c .before
 
 abbrev entered : Planned → Entered
 entered c = c .before .before .before .before .before
 
 abbrev planned : Woken → Planned
-planned c = c .before .before
+planned c = c .before
 
 abbrev woken : Settled → Woken
 woken c = c .before .before .before .before .before .before .before
 
-abbrev settled : Tidying → Settled
-settled c = c .before
+abbrev settled : At tie.At-loop2 → Settled
+settled c = c .before .before
+
+abbrev looping : At tie.After-may-skip → At tie.At-loop2
+looping c = c .before .before .before
+
+abbrev passed : At tie.After-can-retire → At tie.Else4
+passed c = c .before .before
 
 -- The same from further on.
-abbrev head : Entered → Head
+abbrev head : Known → Head
 head c = turning c .before
 
-abbrev within : Settled → Entered
-within s = entered (planned (woken s))
+abbrev within : Settled → Planned
+within s = planned (woken s)
+
+abbrev asking : Planned → Known
+asking c = known (entered c)
 
 -- The record at the head of a turn, and the operation.
 abbrev hub : Head → Hub
@@ -155,24 +151,30 @@ hub c =
 abbrev bytes : Head → List ℕ
 bytes c = begun c .args .operations .now
 
-abbrev code : Head → ℕ
-code c = codeAt (bytes c) (c .loop .i)
+abbrev code : Known → ℕ
+code c = c .before .before .code-at .result
 
-abbrev call : Head → Call
-call c = callAt (bytes c) (c .loop .i)
+abbrev party : Known → ℕ
+party c = c .before .party-at .result
 
-abbrev party : Head → ℕ
-party c = call c .party
+abbrev call : Known → Call
+call c = record { op = opOf (code c); party = party c }
+
+call-is : (c : Known) → call c ≡ callAt (bytes (head c)) (head c .loop .i)
+call-is c =
+    (λ j. record { op = opOf (c .before .before .code-at .ensures j); party = c .before .party-at .ensures j })
 
 -- There is still an operation to read, and room for its answer.
-asks : (c : Turning) → 2 * c .before .loop .i + 2 ≤ length (bytes (c .before))
+asks : (c : At tie.In-loop) → 2 * c .before .loop .i + 2 ≤ length (bytes (c .before))
 asks c = whole-operation _ _ _ _ _ _ (c .before .loop .inv .0) (c .loop-test .taken)
 
-room : (c : Turning) → 3 * c .before .loop .i + 3 ≤ length (c .before .loop .out)
+room : (c : At tie.In-loop) → 3 * c .before .loop .i + 3 ≤ length (c .before .loop .out)
 room c = whole-answer _ _ _ _ _ _ (c .before .loop .inv .0) (c .loop-test .taken)
 
-valid : (c : Turning) → isOperationCode (code (c .before)) ≡ true
-valid c = code-here _ _ _ _ _ _ (c .before .loop .inv .0) (c .loop-test .taken)
+valid : (c : Known) → isOperationCode (code c) ≡ true
+valid c =
+    ap isOperationCode (c .before .before .code-at .ensures)
+    ∙ code-here _ _ _ _ _ _ (head c .loop .inv .0) (turning c .loop-test .taken)
 
 -- The record fits, so that its figures leave room.
 fit : (c : Head) → fits (hub c) ≡ true
@@ -181,25 +183,19 @@ fit c = rested-fits (hub c) (c .loop .inv .0 .rested)
 counts : (c : Head) → Counted (hub c)
 counts c = counted (hub c) (fit c)
 
-low : (c : Entered) → head c .loop .oldest ≤ 1000000
-low c = omega (arith, counts (head c) .oldest)
-
-small : (c : Entered) → party (head c) < 32
-small c = omega (arith, c .if1 .left, counts (head c) .parties)
+small : (c : Entered) → party (known c) < 32
+small c = omega (arith, c .if1 .left, counts (head (known c)) .parties)
 
 long-unmapped : (X Y : Type 0) (f : X → Y) (l : List X) (n : ℕ) → length (map f l) ≡ n
     → length l ≡ n
 long-unmapped X Y f l n e = sym (length-map l f) ∙ e
 
-full-slots : (s : Begun) → length (s .args .hub .slots) ≡ 32
+full-slots : (s : At tie.Start) → length (s .args .hub .slots) ≡ 32
 full-slots s = search (needs, long-unmapped)
 
 -- The operation comes to its closed form.
-rests-on : (c : Turning)
-    → operated (hub (c .before)) (call (c .before)) ≡ operatedAtRest (hub (c .before)) (call (c .before))
-rests-on c =
-    let h = c .before in
-    closed (hub h) (h .loop .inv .0 .rested) (call h) (an-operation (code h) (valid c))
+rests-on : (c : Known) → operated (hub (head c)) (call c) ≡ operatedAtRest (hub (head c)) (call c)
+rests-on c = closed (hub (head c)) (head c .loop .inv .0 .rested) (call c) (an-operation (code c) (valid c))
 
 -- What is decided is what it comes to.
 abbrev plan : Planned → Plan
@@ -209,457 +205,378 @@ abbrev index : Planned → ℕ
 index c = c .before .before .before .place-for .result
 
 index-is : (c : Planned)
-    → index c ≡ ticketAt (hub (head (entered c))) (party (head (entered c))) (code (head (entered c))) % PLACES
+    → let k = asking c in
+    index c ≡ ticketAt (hub (head k)) (party k) (code k) % PLACES
 unfolding readSlot
 index-is c = c .before .before .before .place-for .ensures
 
 plan-is : (c : Planned)
-    → let h = head (entered c) in
-    plan c ≡ planAt (hub h) (party h) (code h)
+    → let k = asking c in
+    plan c ≡ planAt (hub (head k)) (party k) (code k)
 unfolding readSlot readSeat kindIn
 plan-is c =
-    let h = head (entered c) in
-    let s = readSlot (h .loop .slots) (party h) in
-    let f = c .before in
+    let k = asking c in
+    let h = head k in
     let sight : ℕ → Seen = λ t.
     record {
-      party = party h;
-      kind = getD (hub h .opening .kinds) (party h) 0;
+      party = party k;
+      kind = getD (hub h .opening .kinds) (party k) 0;
       named = hub h .opening .named;
-      slot = s;
+      slot = readSlot (h .loop .slots) (party k);
       seat = getD (h .loop .places) t emptySeat;
       figures = h .loop .figures;
     } in
     c .plan-for .ensures
-    ∙ (λ i. planOf (code h) (f .is-full-for .ensures i) (sight (index-is c i)))
-    ∙ as-asked (code h) (full (hub h) (party h)) (seenOf (hub h) (party h) (code h))
+    ∙ (λ i. planOf (code k) (c .before .is-full-for .ensures i) (sight (index-is c i)))
+    ∙ as-asked (code k) (full (hub h) (party k)) (seenOf (hub h) (party k) (code k))
 
 comes : (c : Planned)
-    → let h = head (entered c) in
-    Comes (hub h) (party h) (code h) (plan c) (operated (hub h) (call h))
+    → let k = asking c in
+    Comes (hub (head k)) (party k) (code k) (plan c) (operated (hub (head k)) (call k))
 comes c =
-    let e = entered c in
-    let h = head e in
+    let k = asking c in
+    let h = head k in
     let made =
-    as-planned (hub h) (party h) (h .loop .inv .1) (fit h) (lt-ltb _ _ (e .if1 .left))
-    (h .loop .inv .0 .rested .calm (party h)) (code h) (valid (turning e)) in
-    subst (λ (p : Plan). Comes (hub h) (party h) (code h) p (operated (hub h) (call h))) (sym (plan-is c))
-    (subst (Comes (hub h) (party h) (code h) (planAt (hub h) (party h) (code h))) (sym (rests-on (turning e))) made)
+    as-planned (hub h) (party k) (h .loop .inv .1) (fit h) (lt-ltb _ _ (entered c .if1 .left))
+    (h .loop .inv .0 .rested .calm (party k)) (code k) (valid k) in
+    subst (λ (p : Plan). Comes (hub h) (party k) (code k) p (operated (hub h) (call k))) (sym (plan-is c))
+    (subst (Comes (hub h) (party k) (code k) (planAt (hub h) (party k) (code k))) (sym (rests-on k)) made)
 
 turns-most : (c : Planned) → plan c .turns ≤ 256
 turns-most c =
-    let h = head (entered c) in
-    omega (arith, ap (λ (p : Plan). p .turns) (plan-is c), few-turns (seenOf (hub h) (party h) (code h)) (code h) (full (hub h) (party h)))
+    let k = asking c in
+    let h = hub (head k) in
+    omega (arith, ap (λ (p : Plan). p .turns) (plan-is c), few-turns (seenOf h (party k) (code k)) (code k) (full h (party k)))
 
 byte : (c : Planned) → plan c .woken % 256 ≡ plan c .woken
 byte c =
-    let e = entered c in
-    let h = head e in
+    let k = asking c in
+    let h = head k in
     let small =
-    woken-byte (hub h) (party h) (next-in-line (hub h) (h .loop .inv .0 .rested)) (code h) (valid (turning e)) in
+    woken-byte (hub h) (party k) (next-in-line (hub h) (h .loop .inv .0 .rested)) (code k) (valid k) in
     omega (arith, small, ap (λ (p : Plan). p .woken) (plan-is c))
 
 -- The record that the tidying starts from.
-abbrev decided : Settled → Plan
-decided s = plan (planned (woken s))
-
 abbrev untidied : Settled → Hub
 untidied s =
-    let h = head (within s) in
-    let p = planned (woken s) in
-    hubOf (hub h .opening) (decided s .figures) (h .loop .oldest)
-    (set (h .loop .places) (index p) (decided s .seat))
-    (writeSlot (woken s .if2 .slots) (party h) (decided s .slot)) (s .if3 .pool)
+    let c = within s in
+    let h = head (asking c) in
+    hubOf (hub h .opening) (plan c .figures) (h .loop .oldest) (set (h .loop .places) (index c) (plan c .seat))
+    (writeSlot (woken s .if2 .slots) (party (asking c)) (plan c .slot)) (s .if3 .pool)
 
-woken-slots : (s : Settled)
-    → let l = head (within s) .loop .slots in
-    let q = decided s .woken in
-    woken s .if2 .slots ≡ writeSlot l q (withPhase Phase.Holding (readSlot l q))
+abbrev wokenSlots : Planned → List PartySlot
+wokenSlots c =
+    let l = head (asking c) .loop .slots in
+    writeSlot l (plan c .woken) (withPhase Phase.Holding (readSlot l (plan c .woken)))
+
+woken-slots : (s : Settled) → woken s .if2 .slots ≡ wokenSlots (within s)
 unfolding readSlot writeSlot
 woken-slots s =
-    let h = head (within s) in
-    let l = h .loop .slots in
-    let q = decided s .woken in
-    ⊎-elim (λ w. w .3 ∙ ap (set l q) (w .2 .ensures))
-    (λ w. w .1 ∙ nobody l q (withPhase Phase.Holding (readSlot l q)) (omega (arith, h .loop .inv .1, w .0 .left)))
+    let h = head (asking (within s)) in
+    let q = plan (within s) .woken in
+    ⊎-elim {C = _≡_ (woken s .if2 .slots) (wokenSlots (within s))}
+    (λ w. w .3 ∙ ap (set (h .loop .slots) q) (w .2 .ensures))
+    (λ w. w .1
+    ∙ nobody (h .loop .slots) q (withPhase Phase.Holding (readSlot (h .loop .slots) q))
+    (omega (arith, h .loop .inv .1, w .0 .left)))
     (woken s .if2 .came)
 
-moved-pool : (s : Settled)
-    → let h = head (within s) in
-    s .if3 .pool ≡ radiosBy (hub h) (party h) (code h) (decided s)
+abbrev pool : Planned → Pool
+pool c = let k = asking c in radiosBy (hub (head k)) (party k) (code k) (plan c)
+
+moved-pool : (s : Settled) → s .if3 .pool ≡ pool (within s)
 moved-pool s =
-    let h = head (within s) in
-    ⊎-elim
-    (λ w. with-radios _ _ _ _ _ (w .0 .taken)
-    (w .3 ∙ w .2 .ensures
-    ∙ ap (λ (y : Answer). moved (printed y) (party h) (h .loop .pool)) (w .1 .ensures)))
+    ⊎-elim {C = _≡_ (s .if3 .pool) (pool (within s))}
+    (λ w. with-radios _ _ _ _ _ (w .0 .taken) (w .2 ∙ w .1 .ensures))
     (λ w. w .1 ∙ without-radios _ _ _ _ (w .0 .left)) (s .if3 .came)
 
 stored : (s : Settled)
-    → let h = head (within s) in
-    untidied s ≡ storedBy (hub h) (party h) (code h) (decided s)
+    → let k = asking (within s) in
+    untidied s ≡ storedBy (hub (head k)) (party k) (code k) (plan (within s))
 unfolding writeSeat
 stored s =
-    let h = head (within s) in
-    (λ i. hubOf (hub h .opening) (decided s .figures) (h .loop .oldest)
-    (set (h .loop .places) (index-is (planned (woken s)) i) (decided s .seat))
-    (writeSlot (woken-slots s i) (party h) (decided s .slot)) (moved-pool s i))
-
--- What is left, once it is tidied, is what the operation leaves.
-leaves : (s : Settled) (u : Hub) → u ≡ tidiedBy (decided s .turns) (untidied s)
-    → let h = head (within s) in
-    u ≡ operated (hub h) (call h) .hub
-leaves s u e =
-    e ∙ ap (tidiedBy (decided s .turns)) (stored s) ∙ comes (planned (woken s)) .hub
-
--- The ring between the tidying's loops.
-abbrev between : Tidying → Ring
-between t = ring (t .loop2 .figures) (head (within (settled t)) .loop .oldest) (t .loop2 .places)
-
-skipped-all : (c : tie.Left-loop2 Inv-loop2 μ-loop2 Inv-loop3 μ-loop3 Inv-loop μ-loop)
-    → let s = settled (c .before) in
-    between (c .before) ≡ skip (decided s .turns) (ringOf (untidied s))
-unfolding readSeat writeSeat
-skipped-all c =
-    let s = c .before .loop2 .inv in
-    ⊎-elim (λ w. skipping-end _ _ _ _ (s .0) (w .left))
-    (λ w. skipping-stop _ _ _ _ (s .0)
-    (can-skip _ _ _ _ (s .0) _ _ (s .2) (w .2 .ensures) ∙ not-true _ (w .3 .taken)))
-    (c .loop2-test .came)
-
-done : (c : tie.Left-loop2 Inv-loop2 μ-loop2 Inv-loop3 μ-loop3 Inv-loop μ-loop) (o : ℕ) (l : List PlaceSlot)
-    → let t = c .before in
-    let s = settled t in
-    let h = head (within s) in
-    ring (t .loop2 .figures) o l ≡ retire (decided s .turns) (between t)
-    → hubOf (hub h .opening) (t .loop2 .figures) o l (untidied s .slots) (untidied s .pool)
-    ≡ operated (hub h) (call h) .hub
-done c o l e =
-    let t = c .before in
-    let s = settled t in
-    leaves s _
-    (tidies (untidied s) (decided s .turns) (t .loop2 .figures) (between t)
-    (ring (t .loop2 .figures) o l) (t .loop2 .inv .1) (skipped-all c) e)
-
--- The slots stay as many.
-still-32 : (s : Settled) → length (untidied s .slots) ≡ 32
-still-32 s =
-    let h = head (within s) in
-    let q = decided s .woken in
-    still (h .loop .slots) _ q (party h) (withPhase Phase.Holding (readSlot (h .loop .slots) q)) (decided s .slot)
-    (woken-slots s)
-    ∙ h .loop .inv .1
+    let c = within s in
+    let h = head (asking c) in
+    (λ i. hubOf (hub h .opening) (plan c .figures) (h .loop .oldest) (set (h .loop .places) (index-is c i) (plan c .seat))
+    (writeSlot (woken-slots s i) (party (asking c)) (plan c .slot)) (moved-pool s i))
 
 -- The answer that is written.
 abbrev said : Plan → List ℕ
 said p = p .code ∷ p .woken % 256 ∷ p .steps ∷ []
 
-worded : (s : Settled)
-    → let h = head (within s) in
-    said (decided s) ≡ answerBytes (operated (hub h) (call h))
-worded s =
-    let e = comes (planned (woken s)) in
-    (λ i. sym (e .code) i ∷ (byte (planned (woken s)) ∙ sym (e .woken)) i ∷ sym (e .steps) i ∷ [])
+worded : (c : Planned)
+    → let k = asking c in
+    said (plan c) ≡ answerBytes (operated (hub (head k)) (call k))
+worded c =
+    let e = comes c in
+    (λ i. sym (e .code) i ∷ (byte c ∙ sym (e .woken)) i ∷ sym (e .steps) i ∷ [])
+
+-- One more operation is performed: its answer is written, and u is the record that is left.
+one-more : (s : Settled) (u : Hub) → u ≡ tidiedBy (plan (within s) .turns) (untidied s)
+    → let h = head (asking (within s)) in
+    let b = begun h .args in
+    Upto (hubOf (b .hub .opening) (b .hub .figures) (b .hub .oldest) (b .hub .places) (b .hub .slots) (b .hub .pool))
+    (bytes h) (b .out .now) u (s .before .before .before .put-at2 .last .0) (h .loop .i + 1)
+one-more s u e =
+    let c = within s in
+    let k = asking c in
+    answered _ _ _ _ _ _ (head k .loop .inv .0) (turning k .loop-test .taken) (call k) (said (plan c)) _ u
+    (call-is k) (s .before .before .before .put-at2 .ensures) (worded c)
+    (e ∙ ap (tidiedBy (plan c .turns)) (stored s) ∙ comes c .hub)
+
+-- The slots stay as many.
+still-32 : (s : Settled) → length (untidied s .slots) ≡ 32
+still-32 s =
+    let c = within s in
+    let l = head (asking c) .loop .slots in
+    let q = plan c .woken in
+    still l _ q (party (asking c)) (withPhase Phase.Holding (readSlot l q)) (plan c .slot) (woken-slots s)
+    ∙ head (asking c) .loop .inv .1
 
 -- A party that there is not is refused at once.
-turned-down : (c : Turning) → hub (c .before) .opening .parties ≤ party (c .before)
-    → operated (hub (c .before)) (call (c .before))
+turned-down : (c : Known) → hub (head c) .opening .parties ≤ party c
+    → operated (hub (head c)) (call c)
     ≡ record {
       answer = Answer.Refused Refusal.NoSuchParty;
       woken = 0xFF;
       steps = 0;
-      hub = hub (c .before);
+      hub = hub (head c);
     }
 turned-down c l =
-    let h = c .before in
-    rests-on c ∙ no-such-party (hub h) (party h) (h .loop .inv .1) (fit h) (code h) (le-ltb _ _ l)
+    let h = head c in
+    rests-on c ∙ no-such-party (hub h) (party c) (h .loop .inv .1) (fit h) (code c) (le-ltb _ _ l)
 
-loop-holds : tie.Need-loop-holds Inv-loop2 μ-loop2 Inv-loop3 μ-loop3 Inv-loop μ-loop
+-- The tidying's first test is that of its definition.
+abbrev ringAt : At tie.At-loop2 → Ring
+ringAt c = ring (c .loop2 .resumed) (c .loop2 .oldest) (c .loop2 .places)
+
+may-skip-is : (c : At tie.After-may-skip)
+    → maySkip (ringAt (looping c)) (looping c .loop2 .skips) ≡ c .may-skip .result
+unfolding readSeat
+may-skip-is c = sym (c .may-skip .ensures)
+
+skipping : (c : At tie.Then4) → maySkip (ringAt (looping (c .before))) (looping (c .before) .loop2 .skips) ≡ true
+skipping c = may-skip-is (c .before) ∙ c .if4 .taken
+
+retiring : (c : At tie.Else4) → maySkip (ringAt (looping (c .before))) (looping (c .before) .loop2 .skips) ≡ false
+retiring c = may-skip-is (c .before) ∙ c .if4 .left
+
+loop-holds : At tie.Need-loop-holds
 loop-holds c =
     let a = c .before .before .before .before .before .before .before .before in
     (start _ _ _ (a .pre .0) (a .pre .1 .0) (a .pre .1 .1), full-slots a)
 
-mul-code : tie.Need-mul-code Inv-loop2 μ-loop2 Inv-loop3 μ-loop3 Inv-loop μ-loop
-mul-code c = omega (arith, asks c)
+code-at-requires : At tie.Need-code-at-requires
+code-at-requires c κs = asks c
 
-shared-slice-read-code : tie.Need-shared-slice-read-code Inv-loop2 μ-loop2 Inv-loop3 μ-loop3 Inv-loop μ-loop
-shared-slice-read-code c = omega (arith, asks (c .before))
+party-at-requires : At tie.Need-party-at-requires
+party-at-requires c κs = asks (c .before)
 
-mul-party : tie.Need-mul-party Inv-loop2 μ-loop2 Inv-loop3 μ-loop3 Inv-loop μ-loop
-mul-party c = omega (arith, asks (c .before))
-
-add-party : tie.Need-add-party Inv-loop2 μ-loop2 Inv-loop3 μ-loop3 Inv-loop μ-loop
-add-party c = omega (arith, asks (c .before))
-
-shared-slice-read-party : tie.Need-shared-slice-read-party Inv-loop2 μ-loop2 Inv-loop3 μ-loop3 Inv-loop μ-loop
-shared-slice-read-party c = omega (arith, asks (c .before .before))
-
-mul-at : tie.Need-mul-at Inv-loop2 μ-loop2 Inv-loop3 μ-loop3 Inv-loop μ-loop
-mul-at c = omega (arith, room (c .before .before))
-
-add-end : tie.Need-add-end Inv-loop2 μ-loop2 Inv-loop3 μ-loop3 Inv-loop μ-loop
-add-end c = omega (arith, room (c .before .before))
-
-add-i : tie.Need-add-i Inv-loop2 μ-loop2 Inv-loop3 μ-loop3 Inv-loop μ-loop
+add-i : At tie.Need-add-i
 add-i c = search needs
 
-sub-put : tie.Need-sub-put Inv-loop2 μ-loop2 Inv-loop3 μ-loop3 Inv-loop μ-loop
-sub-put c = search needs
+put-at-requires : At tie.Need-put-at-requires
+put-at-requires c κs = room (turning (c .before .before))
 
-part-put-start : tie.Need-part-put-start Inv-loop2 μ-loop2 Inv-loop3 μ-loop3 Inv-loop μ-loop
-part-put-start c = search needs
-
-part-put-end : tie.Need-part-put-end Inv-loop2 μ-loop2 Inv-loop3 μ-loop3 Inv-loop μ-loop
-part-put-end c = omega (arith, room (c .before .before .before .before))
-
-put-requires : tie.Need-put-requires Inv-loop2 μ-loop2 Inv-loop3 μ-loop3 Inv-loop μ-loop
-put-requires c κs =
-    let e = c .before .before .before .before .before in
-    answer-part _ _ _ _ _ _ (e .before .loop .inv .0) (e .loop-test .taken)
-
-loop-less : tie.Need-loop-less Inv-loop2 μ-loop2 Inv-loop3 μ-loop3 Inv-loop μ-loop
+loop-less : At tie.Need-loop-less
 loop-less c = search needs
 
-loop-again : tie.Need-loop-again Inv-loop2 μ-loop2 Inv-loop3 μ-loop3 Inv-loop μ-loop
+loop-again : At tie.Need-loop-again
 loop-again c =
     let t = c .before .before .before .before in
-    let e = t .before .before .before .before in
-    let down = turned-down e (t .if1 .taken) in (
-      answered _ _ _ _ _ _ (e .before .loop .inv .0) (e .loop-test .taken) _ _
-          (c .before .before .put .ensures ∙ ap answerBytes (sym down)) (ap (λ (r : Operated). r .hub) (sym down)),
-      e .before .loop .inv .1,
+    let k = t .before in
+    let down = turned-down k (t .if1 .taken) in (
+      answered _ _ _ _ _ _ (head k .loop .inv .0) (turning k .loop-test .taken) (call k) _ _ _ (call-is k)
+          (c .before .before .put-at .ensures) (ap answerBytes (sym down)) (ap (λ (r : Operated). r .hub) (sym down)),
+      head k .loop .inv .1,
     )
 
-cast-own : tie.Need-cast-own Inv-loop2 μ-loop2 Inv-loop3 μ-loop3 Inv-loop μ-loop
+cast-own : At tie.Need-cast-own
 cast-own c = omega (arith, small c)
 
-mul-slot : tie.Need-mul-slot Inv-loop2 μ-loop2 Inv-loop3 μ-loop3 Inv-loop μ-loop
+mul-slot : At tie.Need-mul-slot
 mul-slot c = omega (arith, small c)
 
-array-copy-out-slot : tie.Need-array-copy-out-slot Inv-loop2 μ-loop2 Inv-loop3 μ-loop3 Inv-loop μ-loop
+array-copy-out-slot : At tie.Need-array-copy-out-slot
 array-copy-out-slot c = omega (arith, small c)
 
-place-for-requires : tie.Need-place-for-requires Inv-loop2 μ-loop2 Inv-loop3 μ-loop3 Inv-loop μ-loop
+place-for-requires : At tie.Need-place-for-requires
 place-for-requires c κs = search needs
 
-mul-seat : tie.Need-mul-seat Inv-loop2 μ-loop2 Inv-loop3 μ-loop3 Inv-loop μ-loop
+mul-seat : At tie.Need-mul-seat
 mul-seat c = search needs
 
-array-copy-out-seat : tie.Need-array-copy-out-seat Inv-loop2 μ-loop2 Inv-loop3 μ-loop3 Inv-loop μ-loop
+array-copy-out-seat : At tie.Need-array-copy-out-seat
 array-copy-out-seat c = search needs
 
-array-read-kind : tie.Need-array-read-kind Inv-loop2 μ-loop2 Inv-loop3 μ-loop3 Inv-loop μ-loop
+array-read-kind : At tie.Need-array-read-kind
 array-read-kind c = omega (arith, small (c .before .before .before))
 
-is-full-for-requires : tie.Need-is-full-for-requires Inv-loop2 μ-loop2 Inv-loop3 μ-loop3 Inv-loop μ-loop
+is-full-for-requires : At tie.Need-is-full-for-requires
 is-full-for-requires c κs =
-    let n = counts (head (c .before .before .before)) in (n .oldest, n .issued)
+    let n = counts (head (known (c .before .before .before))) in (n .oldest, n .issued)
 
-plan-for-requires : tie.Need-plan-for-requires Inv-loop2 μ-loop2 Inv-loop3 μ-loop3 Inv-loop μ-loop
+plan-for-requires : At tie.Need-plan-for-requires
 plan-for-requires c κs =
-    let n = counts (head (c .before .before .before .before)) in (n .counter, n .issued, n .resumed)
+    let n = counts (head (known (c .before .before .before .before))) in (n .counter, n .issued, n .resumed)
 
-cast-q : tie.Need-cast-q Inv-loop2 μ-loop2 Inv-loop3 μ-loop3 Inv-loop μ-loop
+cast-q : At tie.Need-cast-q
 cast-q c = search needs
 
-mul-waiter : tie.Need-mul-waiter Inv-loop2 μ-loop2 Inv-loop3 μ-loop3 Inv-loop μ-loop
+mul-waiter : At tie.Need-mul-waiter
 mul-waiter c = search needs
 
-array-copy-out-waiter : tie.Need-array-copy-out-waiter Inv-loop2 μ-loop2 Inv-loop3 μ-loop3 Inv-loop μ-loop
+array-copy-out-waiter : At tie.Need-array-copy-out-waiter
 array-copy-out-waiter c = search needs
 
-with-phase-requires : tie.Need-with-phase-requires Inv-loop2 μ-loop2 Inv-loop3 μ-loop3 Inv-loop μ-loop
+with-phase-requires : At tie.Need-with-phase-requires
 with-phase-requires c κs = search needs
 
-mul-slots : tie.Need-mul-slots Inv-loop2 μ-loop2 Inv-loop3 μ-loop3 Inv-loop μ-loop
+mul-slots : At tie.Need-mul-slots
 mul-slots c = search needs
 
-array-set-from-slots : tie.Need-array-set-from-slots Inv-loop2 μ-loop2 Inv-loop3 μ-loop3 Inv-loop μ-loop
+array-set-from-slots : At tie.Need-array-set-from-slots
 array-set-from-slots c = search needs
 
-mul-slots-2 : tie.Need-mul-slots-2 Inv-loop2 μ-loop2 Inv-loop3 μ-loop3 Inv-loop μ-loop
+mul-slots-2 : At tie.Need-mul-slots-2
 mul-slots-2 c = omega (arith, small (entered (planned (c .before))))
 
-array-set-from-slots-2 : tie.Need-array-set-from-slots-2 Inv-loop2 μ-loop2 Inv-loop3 μ-loop3 Inv-loop μ-loop
+array-set-from-slots-2 : At tie.Need-array-set-from-slots-2
 array-set-from-slots-2 c = omega (arith, small (entered (planned (c .before))))
 
-mul-places : tie.Need-mul-places Inv-loop2 μ-loop2 Inv-loop3 μ-loop3 Inv-loop μ-loop
+mul-places : At tie.Need-mul-places
 mul-places c = omega (arith, index-is (planned (c .before .before)))
 
-array-set-from-places : tie.Need-array-set-from-places Inv-loop2 μ-loop2 Inv-loop3 μ-loop3 Inv-loop μ-loop
+array-set-from-places : At tie.Need-array-set-from-places
 array-set-from-places c = omega (arith, index-is (planned (c .before .before)))
 
-sub-put-2 : tie.Need-sub-put-2 Inv-loop2 μ-loop2 Inv-loop3 μ-loop3 Inv-loop μ-loop
-sub-put-2 c = search needs
+put-at-requires-2 : At tie.Need-put-at-requires-2
+put-at-requires-2 c κs = room (turning (asking (planned (c .before .before .before))))
 
-part-put-start-2 : tie.Need-part-put-start-2 Inv-loop2 μ-loop2 Inv-loop3 μ-loop3 Inv-loop μ-loop
-part-put-start-2 c = search needs
+radios-after-requires : At tie.Need-radios-after-requires
+radios-after-requires c κs =
+    let h = head (asking (planned (c .before .before .before .before .before .before .before))) in
+    few-stored (hub h) (fit h) (c .if3 .taken)
 
-part-put-end-2 : tie.Need-part-put-end-2 Inv-loop2 μ-loop2 Inv-loop3 μ-loop3 Inv-loop μ-loop
-part-put-end-2 c = omega (arith, room (turning (entered (planned (c .before .before)))))
+loop2-holds : At tie.Need-loop2-holds
+loop2-holds c =
+    let p = within (c .before) in
+    (tidying _ _, counts (head (asking p)) .oldest, turns-most p)
 
-put-requires-2 : tie.Need-put-requires-2 Inv-loop2 μ-loop2 Inv-loop3 μ-loop3 Inv-loop μ-loop
-put-requires-2 c κs =
-    let e = turning (entered (planned (c .before .before .before))) in
-    answer-part _ _ _ _ _ _ (e .before .loop .inv .0) (e .loop-test .taken)
-
-radio-by-requires : tie.Need-radio-by-requires Inv-loop2 μ-loop2 Inv-loop3 μ-loop3 Inv-loop μ-loop
-radio-by-requires c κs = search needs
-
-move-radio-requires : tie.Need-move-radio-requires Inv-loop2 μ-loop2 Inv-loop3 μ-loop3 Inv-loop μ-loop
-move-radio-requires c κs =
-    let h = head (entered (planned (c .before .before .before .before .before .before .before .before))) in
-    few-stored (hub h) (fit h) (c .before .if3 .taken)
-
-add-limit : tie.Need-add-limit Inv-loop2 μ-loop2 Inv-loop3 μ-loop3 Inv-loop μ-loop
-add-limit c = omega (arith, low (within c))
-
-loop2-holds : tie.Need-loop2-holds Inv-loop2 μ-loop2 Inv-loop3 μ-loop3 Inv-loop μ-loop
-loop2-holds c = (skipping _ _, refl, refl, low (within c))
-
-cast-a : tie.Need-cast-a Inv-loop2 μ-loop2 Inv-loop3 μ-loop3 Inv-loop μ-loop
+cast-a : At tie.Need-cast-a
 cast-a c = search needs
 
-mul-head : tie.Need-mul-head Inv-loop2 μ-loop2 Inv-loop3 μ-loop3 Inv-loop μ-loop
-mul-head c = search needs
+mul-ahead : At tie.Need-mul-ahead
+mul-ahead c = search needs
 
-array-copy-out-head : tie.Need-array-copy-out-head Inv-loop2 μ-loop2 Inv-loop3 μ-loop3 Inv-loop μ-loop
-array-copy-out-head c = search needs
+array-copy-out-ahead : At tie.Need-array-copy-out-ahead
+array-copy-out-ahead c = search needs
 
-can-skip-requires : tie.Need-can-skip-requires Inv-loop2 μ-loop2 Inv-loop3 μ-loop3 Inv-loop μ-loop
-can-skip-requires c κs = search needs
+add-may-skip : At tie.Need-add-may-skip
+add-may-skip c =
+    let i = c .before .before .loop2 .inv in
+    omega (arith, i .0 .low, i .1, i .2)
 
-with-place-requires : tie.Need-with-place-requires Inv-loop2 μ-loop2 Inv-loop3 μ-loop3 Inv-loop μ-loop
+may-skip-requires : At tie.Need-may-skip-requires
+may-skip-requires c κs = search needs
+
+with-place-requires : At tie.Need-with-place-requires
 with-place-requires c κs = search needs
 
-mul-places-2 : tie.Need-mul-places-2 Inv-loop2 μ-loop2 Inv-loop3 μ-loop3 Inv-loop μ-loop
+mul-places-2 : At tie.Need-mul-places-2
 mul-places-2 c = search needs
 
-array-set-from-places-2 : tie.Need-array-set-from-places-2 Inv-loop2 μ-loop2 Inv-loop3 μ-loop3 Inv-loop μ-loop
+array-set-from-places-2 : At tie.Need-array-set-from-places-2
 array-set-from-places-2 c = search needs
 
-add-figures : tie.Need-add-figures Inv-loop2 μ-loop2 Inv-loop3 μ-loop3 Inv-loop μ-loop
-unfolding readSeat
-add-figures c =
-    let s = c .before .before .before .before .before .loop2 .inv in
-    let e = can-skip _ _ _ _ (s .0) _ _ (s .2) (c .before .before .can-skip .ensures) in
-    omega (arith, in-window _ _ _ _ (s .0) (e ∙ not-false _ (c .before .if4 .left)), s .3)
+add-resumed : At tie.Need-add-resumed
+add-resumed c =
+    let i = looping (c .before .before) .loop2 .inv in
+    omega (arith, in-window _ _ _ _ _ (i .0) (skipping (c .before)), i .0 .low, i .1, i .2)
 
-add-n : tie.Need-add-n Inv-loop2 μ-loop2 Inv-loop3 μ-loop3 Inv-loop μ-loop
-add-n c =
-    omega (
-      arith,
-      c .before .before .before .before .loop2-test .taken,
-      turns-most (planned (woken (settled (c .before .before .before .before .before)))),
-    )
+sub-skips : At tie.Need-sub-skips
+sub-skips c = omega (arith, still-skips _ _ _ _ _ (looping (c .before .before) .loop2 .inv .0) (skipping (c .before)))
 
-loop2-less : tie.Need-loop2-less Inv-loop2 μ-loop2 Inv-loop3 μ-loop3 Inv-loop μ-loop
-loop2-less c = omega (arith, c .before .before .before .before .loop2-test .taken)
+loop2-less : At tie.Need-loop2-less
+loop2-less c = omega (arith, still-skips _ _ _ _ _ (looping (c .before .before) .loop2 .inv .0) (skipping (c .before)))
 
-loop2-again : tie.Need-loop2-again Inv-loop2 μ-loop2 Inv-loop3 μ-loop3 Inv-loop μ-loop
+loop2-again : At tie.Need-loop2-again
 unfolding readSeat writeSeat
 loop2-again c =
-    let s = c .before .before .before .before .before .loop2 .inv in
-    let e = can-skip _ _ _ _ (s .0) _ _ (s .2) (c .before .before .can-skip .ensures) in
-    let l = c .before .before .before .before .before .loop2 in
-    let r = l .figures .resumed in
-    let on =
-    skipping-on _ _ _ _ (s .0) _ (c .with-place .ensures)
-    (c .before .before .before .before .loop2-test .taken) (e ∙ not-false _ (c .before .if4 .left)) in (
-      on,
-      ap (withResumed (r + 1)) (s .1),
-      s .2,
-      s .3,
-    )
+    let i = looping (c .before .before) .loop2 .inv in
+    (skips-on _ _ _ _ _ (i .0) (skipping (c .before)) _ (c .with-place .ensures), i .1, i .2)
 
-loop3-holds : tie.Need-loop3-holds Inv-loop2 μ-loop2 Inv-loop3 μ-loop3 Inv-loop μ-loop
-loop3-holds c =
-    (retiring _ _, omega (arith, c .before .loop2 .inv .3, turns-most (planned (woken (settled (c .before))))))
+cast-b : At tie.Need-cast-b
+cast-b c = search needs
 
-loop-less-2 : tie.Need-loop-less-2 Inv-loop2 μ-loop2 Inv-loop3 μ-loop3 Inv-loop μ-loop
-loop-less-2 c = omega (arith, turning (within (settled (c .before .before .before))) .loop-test .taken)
+mul-behind : At tie.Need-mul-behind
+mul-behind c = search needs
 
-loop-again-2 : tie.Need-loop-again-2 Inv-loop2 μ-loop2 Inv-loop3 μ-loop3 Inv-loop μ-loop
-unfolding readSeat writeSlot
-loop-again-2 c =
-    let s = settled (c .before .before .before) in
-    let e = turning (within s) in
-    let last = retiring-end _ _ _ _ (c .before .loop3 .inv .0) (c .loop3-test .left) in (
-      answered _ _ _ _ _ _ (e .before .loop .inv .0) (e .loop-test .taken) _ _
-          (s .before .before .before .put2 .ensures ∙ worded s) (done (c .before .before) _ _ last),
-      still-32 s,
-    )
+array-copy-out-behind : At tie.Need-array-copy-out-behind
+array-copy-out-behind c = search needs
 
-cast-a-2 : tie.Need-cast-a-2 Inv-loop2 μ-loop2 Inv-loop3 μ-loop3 Inv-loop μ-loop
-cast-a-2 c = search needs
-
-mul-head-2 : tie.Need-mul-head-2 Inv-loop2 μ-loop2 Inv-loop3 μ-loop3 Inv-loop μ-loop
-mul-head-2 c = search needs
-
-array-copy-out-head-2 : tie.Need-array-copy-out-head-2 Inv-loop2 μ-loop2 Inv-loop3 μ-loop3 Inv-loop μ-loop
-array-copy-out-head-2 c = search needs
-
-can-retire-requires : tie.Need-can-retire-requires Inv-loop2 μ-loop2 Inv-loop3 μ-loop3 Inv-loop μ-loop
+can-retire-requires : At tie.Need-can-retire-requires
 can-retire-requires c κs = search needs
 
-loop-less-3 : tie.Need-loop-less-3 Inv-loop2 μ-loop2 Inv-loop3 μ-loop3 Inv-loop μ-loop
-loop-less-3 c =
-    omega (arith, turning (within (settled (c .before .before .before .before .before .before))) .loop-test .taken)
-
-loop-again-3 : tie.Need-loop-again-3 Inv-loop2 μ-loop2 Inv-loop3 μ-loop3 Inv-loop μ-loop
-unfolding readSeat writeSlot
-loop-again-3 c =
-    let l = c .before .before .before .before in
-    let s = settled (l .before .before) in
-    let e = turning (within s) in
-    let last =
-    retiring-stop _ _ _ _ (l .loop3 .inv .0)
-    (sym (c .before .can-retire .ensures) ∙ not-true _ (c .if5 .taken)) in (
-      answered _ _ _ _ _ _ (e .before .loop .inv .0) (e .loop-test .taken) _ _
-          (s .before .before .before .put2 .ensures ∙ worded s) (done (l .before) _ _ last),
-      still-32 s,
-    )
-
-empty-seat-requires : tie.Need-empty-seat-requires Inv-loop2 μ-loop2 Inv-loop3 μ-loop3 Inv-loop μ-loop
+empty-seat-requires : At tie.Need-empty-seat-requires
 empty-seat-requires c κs = search needs
 
-mul-places-3 : tie.Need-mul-places-3 Inv-loop2 μ-loop2 Inv-loop3 μ-loop3 Inv-loop μ-loop
+mul-places-3 : At tie.Need-mul-places-3
 mul-places-3 c = search needs
 
-array-set-from-places-3 : tie.Need-array-set-from-places-3 Inv-loop2 μ-loop2 Inv-loop3 μ-loop3 Inv-loop μ-loop
+array-set-from-places-3 : At tie.Need-array-set-from-places-3
 array-set-from-places-3 c = search needs
 
-add-oldest : tie.Need-add-oldest Inv-loop2 μ-loop2 Inv-loop3 μ-loop3 Inv-loop μ-loop
+add-oldest : At tie.Need-add-oldest
 add-oldest c =
-    let s = c .before .before .before .before .before .loop3 .inv in
-    omega (arith, s .0 .low, s .1, c .before .before .before .before .loop3-test .taken)
+    let i = looping (passed (c .before .before) .before) .loop2 .inv in
+    omega (arith, i .0 .low, i .1, i .2)
 
-add-m : tie.Need-add-m Inv-loop2 μ-loop2 Inv-loop3 μ-loop3 Inv-loop μ-loop
-add-m c =
-    omega (
-      arith,
-      c .before .before .before .before .before .loop3 .inv .1,
-      c .before .before .before .before .loop3-test .taken,
-    )
+sub-retires : At tie.Need-sub-retires
+sub-retires c = omega (arith, passed (c .before .before) .before .before .before .loop2-test .taken)
 
-loop3-less : tie.Need-loop3-less Inv-loop2 μ-loop2 Inv-loop3 μ-loop3 Inv-loop μ-loop
-loop3-less c = omega (arith, c .before .before .before .before .loop3-test .taken)
+loop2-less-2 : At tie.Need-loop2-less-2
+loop2-less-2 c = omega (arith, passed (c .before .before) .before .before .before .loop2-test .taken)
 
-loop3-again : tie.Need-loop3-again Inv-loop2 μ-loop2 Inv-loop3 μ-loop3 Inv-loop μ-loop
+loop2-again-2 : At tie.Need-loop2-again-2
 unfolding readSeat writeSeat
-loop3-again c =
-    let l = c .before .before .before .before .before .loop3 in
-    let s = l .inv in (
-      retiring-on _ _ _ _ (s .0) _ (c .empty-seat .ensures)
-          (c .before .before .before .before .loop3-test .taken)
-          (sym (c .before .before .can-retire .ensures) ∙ not-false _ (c .before .if5 .left)),
-      s .1,
-    )
+loop2-again-2 c =
+    let e = passed (c .before .before) in
+    let i = looping (e .before) .loop2 .inv in
+    let on =
+    retires-on _ _ _ _ _ (i .0) (retiring e) _ (c .empty-seat .ensures) (e .before .before .before .loop2-test .taken)
+    (sym (c .before .before .can-retire .ensures) ∙ not-false _ (c .before .if5 .left)) in
+    (on, i .1, i .2)
 
-same-length : tie.Need-same-length Inv-loop2 μ-loop2 Inv-loop3 μ-loop3 Inv-loop μ-loop
+loop-less-2 : At tie.Need-loop-less-2
+loop-less-2 c = omega (arith, turning (asking (within (settled (c .before)))) .loop-test .taken)
+
+loop-again-2 : At tie.Need-loop-again-2
+unfolding writeSlot
+loop-again-2 c =
+    let l = c .before in
+    let s = settled l in
+    (one-more s _ (ap (withRing (untidied s)) (ends _ _ _ _ _ (l .loop2 .inv .0) (c .loop2-test .left))), still-32 s)
+
+loop-less-3 : At tie.Need-loop-less-3
+loop-less-3 c =
+    omega (arith, turning (asking (within (settled (looping (passed (c .before) .before))))) .loop-test .taken)
+
+loop-again-3 : At tie.Need-loop-again-3
+unfolding readSeat writeSlot
+loop-again-3 c =
+    let e = passed (c .before) in
+    let l = looping (e .before) in
+    let s = settled l in
+    let last =
+    stops _ _ _ _ _ (l .loop2 .inv .0) (retiring e)
+    (sym (c .before .can-retire .ensures) ∙ not-true _ (c .if5 .taken)) in
+    (one-more s _ (ap (withRing (untidied s)) last), still-32 s)
+
+same-length : At tie.Need-same-length
 same-length c = c .before .loop .inv .0 .length
 
-returns : tie.Need-returns Inv-loop2 μ-loop2 Inv-loop3 μ-loop3 Inv-loop μ-loop
+returns : At tie.Need-returns
 returns c = ended _ _ _ _ _ _ (c .before .loop .inv .0) (c .loop-test .left)
 
 pub perform-operations-spec : {M : Type 1} → statement M
@@ -668,23 +585,13 @@ perform-operations-spec =
     (tie.spec
     Inv-loop2
     μ-loop2
-    Inv-loop3
-    μ-loop3
     Inv-loop
     μ-loop
     loop-holds
-    mul-code
-    shared-slice-read-code
-    mul-party
-    add-party
-    shared-slice-read-party
-    mul-at
-    add-end
+    code-at-requires
+    party-at-requires
     add-i
-    sub-put
-    part-put-start
-    part-put-end
-    put-requires
+    put-at-requires
     loop-less
     loop-again
     cast-own
@@ -706,40 +613,35 @@ perform-operations-spec =
     array-set-from-slots-2
     mul-places
     array-set-from-places
-    sub-put-2
-    part-put-start-2
-    part-put-end-2
-    put-requires-2
-    radio-by-requires
-    move-radio-requires
-    add-limit
+    put-at-requires-2
+    radios-after-requires
     loop2-holds
     cast-a
-    mul-head
-    array-copy-out-head
-    can-skip-requires
+    mul-ahead
+    array-copy-out-ahead
+    add-may-skip
+    may-skip-requires
     with-place-requires
     mul-places-2
     array-set-from-places-2
-    add-figures
-    add-n
+    add-resumed
+    sub-skips
     loop2-less
     loop2-again
-    loop3-holds
-    loop-less-2
-    loop-again-2
-    cast-a-2
-    mul-head-2
-    array-copy-out-head-2
+    cast-b
+    mul-behind
+    array-copy-out-behind
     can-retire-requires
-    loop-less-3
-    loop-again-3
     empty-seat-requires
     mul-places-3
     array-set-from-places-3
     add-oldest
-    add-m
-    loop3-less
-    loop3-again
+    sub-retires
+    loop2-less-2
+    loop2-again-2
+    loop-less-2
+    loop-again-2
+    loop-less-3
+    loop-again-3
     same-length
     returns)

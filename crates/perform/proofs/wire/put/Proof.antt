@@ -1,8 +1,8 @@
 -- `put` meets its contract: what it writes fills its part of the buffer.
 use Rattle.encoding.proofs.Laws.Filled.{all-set}
 use borrow.Author.Needs.{needs}
-use Rattle.perform.proofs.put.Statement.{statement}
-use Rattle.perform.proofs.put.Tie as tie
+use Rattle.perform.proofs.wire.put.Statement.{statement}
+use Rattle.perform.proofs.wire.put.Tie as tie
 
 slice-write-out : tie.Need-slice-write-out
 slice-write-out c = search needs
