@@ -3,14 +3,14 @@
 // opening fits, and that is proved: so there is no check of the whole record here.
 
 mod admission; // what is answered before the table is asked
-mod wire; // requests as bytes
+mod wire; // requests and replies as bytes
 
 use crate::admission::admit;
 use crate::admission::op_of;
 use crate::wire::code_at;
 use crate::wire::party_at;
-use encoding::answer::plain;
-use encoding::answer::print_of;
+use crate::wire::put_answer;
+use crate::wire::put_refusal;
 use encoding::pairs;
 use hub::moves::Sight;
 use hub::record::Hub;
@@ -23,7 +23,6 @@ use transition::sight::seat_index;
 use transition::sight::slot_within;
 use transition::sight::waiter_at;
 use transition::tidy::is_untidy;
-use writer::form::put_reply;
 use writer::form::reply_size;
 ghost use mathlib.Core.Path.{_≡_};
 ghost use Prim.Native.Nat.{_*_, _≤_};
@@ -56,13 +55,11 @@ pub fn answer_requests(hub: Hub, requests: &[u8], count: usize, form: bool, out:
     let width = reply_size(form);
     let mut i: usize = 0;
     while i < count {
-        let at = width * i;
-        let end = at + width;
         let code = code_at(requests, i);
         let party = party_at(requests, i);
         let a = admit(code, party, opening.parties);
         if !a.admitted {
-            put_reply(&pairs, &mut out[at..end], form, a.party, plain(a.code));
+            put_refusal(&pairs, out, width * i, form, a);
             i += 1;
             continue;
         }
@@ -101,7 +98,9 @@ pub fn answer_requests(hub: Hub, requests: &[u8], count: usize, form: bool, out:
         let put = e.seat;
         ring.places[t] = put;
         let answer = e.answer;
-        put_reply(&pairs, &mut out[at..end], form, party, print_of(answer));
+        let at = width * i;
+        let end = at + width;
+        put_answer(&pairs, &mut out[at..end], form, party, answer);
         i += 1;
         if opening.named {
             pool = move_radio(answer, party, pool);

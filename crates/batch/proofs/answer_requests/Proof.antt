@@ -7,8 +7,9 @@ use mathlib.Core.Bool.{Bool}
 use mathlib.Core.List.{List, map}
 use mathlib.Core.Logic.{⊎-elim}
 use native.Mathlib.Omega.{arith}
-use Prim.Native.Nat.{ℕ, _+_, _-_, _*_, _%_, _≤_}
+use Prim.Native.Nat.{ℕ, _+_, _-_, _*_, _%_, _^_, _≤_, _<_}
 use lib.ListN.{length, getD, set, length-map}
+use Rattle.hub.specs.declared.answers.Answer.{Answer}
 use Rattle.hub.specs.declared.moves.Op.{Op}
 use Rattle.hub.specs.declared.moves.Sight.{Sight}
 use Rattle.hub.specs.declared.opening.Opening.{Opening}
@@ -17,7 +18,7 @@ use Rattle.hub.specs.declared.record.Hub.{Hub}
 use Rattle.hub.specs.declared.record.PartySlot.{PartySlot}
 use Rattle.hub.specs.declared.record.PlaceSlot.{PlaceSlot}
 use Rattle.hub.specs.declared.record.Pool.{Pool}
-use Rattle.hub.specs.Answers.{Printed, printed}
+use Rattle.hub.specs.Answers.{printed}
 use Rattle.hub.specs.Calls.{answerOf, apply, isFull, ringOf, withPool, withRing}
 use Rattle.hub.specs.Kinds.{kindIn}
 use Rattle.hub.specs.Look.{look}
@@ -27,7 +28,7 @@ use Rattle.hub.specs.Radios.{handOf}
 use Rattle.hub.specs.Record.{emptySeat, readSlot, writeSlot}
 use Rattle.hub.specs.Ring.{PLACES, readSeat}
 use Rattle.hub.specs.Table.{decide}
-use Rattle.encoding.specs.Frame.{opOf, frameOf, paper}
+use Rattle.encoding.specs.Frame.{opOf, frameOf}
 use Rattle.encoding.specs.Form.{formOf, inForm}
 use Rattle.line.specs.Program.{respond}
 use Rattle.effects.specs.declared.effect.Effect.{Effect}
@@ -46,7 +47,7 @@ use Rattle.batch.specs.Batch.{requestFor}
 use Rattle.batch.proofs.Laws.Answered.{Admitted, is-admitted, refused-response, LetIn}
 use Rattle.batch.proofs.Laws.Answered.{let-in, call-response}
 use Rattle.batch.proofs.Laws.Responses.{Upto, requestAt, start, whole-request}
-use Rattle.batch.proofs.Laws.Responses.{whole-reply, reply-part, responded, ended}
+use Rattle.batch.proofs.Laws.Responses.{whole-reply, reply-part, refused-one, responded, ended}
 use Rattle.batch.proofs.answer_requests.Statement.{statement}
 use Rattle.batch.proofs.answer_requests.Tie as tie
 
@@ -97,11 +98,11 @@ decided c = c .before
 abbrev woken : At tie.After-put → At tie.Joined2
 woken c = c .before .before .before
 
-abbrev filled : At tie.After-print-of → At tie.After-put
+abbrev filled : At tie.After-put-answer → At tie.After-put
 filled c = c .before .before .before
 
-abbrev printing : At tie.Joined3 → At tie.After-print-of
-printing c = c .before .before .before .before
+abbrev replying : At tie.Joined3 → At tie.After-put-answer
+replying c = c .before .before .before
 
 abbrev moving : At tie.After-is-untidy → At tie.Joined3
 moving c = c .before .before .before .before
@@ -120,7 +121,7 @@ abbrev effecting : At tie.After-put → At tie.After-decide-by
 effecting c = decided (woken c)
 
 abbrev placed : At tie.After-is-untidy → At tie.After-put
-placed c = filled (printing (moving c))
+placed c = filled (replying (moving c))
 
 abbrev effected : At tie.After-is-untidy → At tie.After-decide-by
 effected c = effecting (placed c)
@@ -156,6 +157,9 @@ asks c = whole-request _ _ _ _ _ _ _ _ _ (c .before .loop .inv .0) (c .loop-test
 room : (c : At tie.In-loop)
     → width (c .before) * c .before .loop .i + width (c .before) ≤ length (c .before .loop .out)
 room c = whole-reply _ _ _ _ _ _ _ _ _ (c .before .loop .inv .0) (c .loop-test .taken)
+
+room-fits : (c : At tie.In-loop) → width (c .before) * c .before .loop .i + width (c .before) < 2 ^ 64
+room-fits c = omega (arith, room c)
 
 -- The call is admitted.
 pass : (c : At tie.Else1)
@@ -297,14 +301,6 @@ leaves s u e =
     (stores (hub (head b)) (party (asked b)) _ (index (seen d)) (effect s) _ (woken-slots s))
     ∙ left _ _ _ _ _ (reading (seen d)) (op b) (effect s) (effect-is d) (untidied s .pool) (moved-pool s)
 
--- The reply says what the call answers.
-worded : (s : At tie.After-is-untidy)
-    → paper (printing (moving s) .print-of .result) ≡ printed (answerOf (move (within s)))
-worded s =
-    let d = effected s in
-    printing (moving s) .print-of .ensures
-    ∙ ap printed (said _ _ _ _ _ (reading (seen d)) (op (within s)) (effect s) (effect-is d))
-
 -- The slots stay as many.
 still-32 : (s : At tie.After-is-untidy) → length (untidied s .slots) ≡ 32
 still-32 s =
@@ -313,15 +309,17 @@ still-32 s =
     (woken-slots s)
     ∙ head b .loop .inv .1
 
--- What was written.
+-- What was written is what the call answers.
 replied-with : (s : At tie.After-is-untidy)
     → let b = within s in
-    moving s .before .before .before .put-reply2 .last .1 .0
+    replying (moving s) .put-answer .last .1 .0
     ≡ inForm (formOf (begun (head b) .args .form)) (frameOf (party (asked b)) (printed (answerOf (move b))))
 replied-with s =
+    let d = effected s in
     let b = within s in
-    moving s .before .before .before .put-reply2 .ensures
-    ∙ ap (λ (q : Printed). inForm (formOf (begun (head b) .args .form)) (frameOf (party (asked b)) q)) (worded s)
+    replying (moving s) .put-answer .ensures
+    ∙ ap (λ (a : Answer). inForm (formOf (begun (head b) .args .form)) (frameOf (party (asked b)) (printed a)))
+    (said _ _ _ _ _ (reading (seen d)) (op b) (effect s) (effect-is d))
 
 table-requires : At tie.Need-table-requires
 table-requires c κs = search needs
@@ -336,12 +334,6 @@ loop-holds c =
       full-slots a,
     )
 
-mul-at : At tie.Need-mul-at
-mul-at c = omega (arith, room c)
-
-add-end : At tie.Need-add-end
-add-end c = omega (arith, room c)
-
 code-at-requires : At tie.Need-code-at-requires
 code-at-requires c κs = asks c
 
@@ -351,28 +343,18 @@ party-at-requires c κs = asks (c .before)
 admit-requires : At tie.Need-admit-requires
 admit-requires c κs = search needs
 
-sub-put-reply : At tie.Need-sub-put-reply
-sub-put-reply c = search needs
+mul-put-refusal : At tie.Need-mul-put-refusal
+mul-put-refusal c = omega (arith, room (turning (c .before .before .before .before .before)))
 
-part-put-reply-start : At tie.Need-part-put-reply-start
-part-put-reply-start c = search needs
-
-part-put-reply-end : At tie.Need-part-put-reply-end
-part-put-reply-end c = omega (arith, room (turning (c .before .before .before .before)))
-
-plain-requires : At tie.Need-plain-requires
-plain-requires c κs = search needs
-
-put-reply-requires : At tie.Need-put-reply-requires
-put-reply-requires c κs =
-    let e = turning (c .before .before .before .before .before .before) in (
-      e .before .before .before .table .ensures,
-      reply-part _ _ _ _ _ _ _ _ _ (e .before .loop .inv .0) (e .loop-test .taken),
-    )
+put-refusal-requires : At tie.Need-put-refusal-requires
+put-refusal-requires c κs =
+    let t = turning (c .before .before .before .before .before) in
+    let h = t .before in
+    (h .before .before .table .ensures, omega (arith, room t, h .loop .inv .0 .width-is))
 
 add-i : At tie.Need-add-i
 add-i c =
-    let t = turning (c .before .before .before .before .before .before .before .before .before) in
+    let t = turning (c .before .before .before .before .before .before .before .before) in
     omega (arith, t .loop-test .taken, begun (t .before) .fits .count)
 
 loop-less : At tie.Need-loop-less
@@ -380,19 +362,15 @@ loop-less c = search needs
 
 loop-again : At tie.Need-loop-again
 loop-again c =
-    let w = c .before .before .before in
-    let p = w .before .before .before in
+    let p = c .before .before .before .before .before in
     let d = p .before .before in
-    let h = turning (d .before) .before in
-    let u = h .loop .inv .0 in
-    let line =
-    c .before .before .put-reply .ensures
-    ∙ ap (λ (q : Printed). inForm (formOf (begun h .args .form)) (frameOf (d .admit .result .party) q))
-    (w .plain .ensures) in (
-      responded _ _ _ _ _ _ _ _ _ u (turning (d .before) .loop-test .taken) _ _ _
+    let t = turning (d .before) in
+    let h = t .before in
+    let u = h .loop .inv .0 in (
+      refused-one _ _ _ _ _ _ _ _ _ u (t .loop-test .taken) _ _ _
           (ap (respond (hub h)) (request-is (d .before))
           ∙ refused-response _ _ _ (u .reachable) _ (d .admit .ensures) (not-true _ (p .if1 .taken)))
-          line refl,
+          (c .before .before .put-refusal .ensures) refl,
       h .loop .inv .1,
     )
 
@@ -467,33 +445,36 @@ mul-put c = omega (arith, index (seen (effecting c)))
 element-set-from-put : At tie.Need-element-set-from-put
 element-set-from-put c = omega (arith, index (seen (effecting c)))
 
-sub-put-reply-2 : At tie.Need-sub-put-reply-2
-sub-put-reply-2 c = search needs
+mul-at : At tie.Need-mul-at
+mul-at c = omega (arith, room-fits (turning (asked (entering (effecting c)))))
 
-part-put-reply-start-2 : At tie.Need-part-put-reply-start-2
-part-put-reply-start-2 c = search needs
+add-end : At tie.Need-add-end
+add-end c = omega (arith, room-fits (turning (asked (entering (effecting c)))))
 
-part-put-reply-end-2 : At tie.Need-part-put-reply-end-2
-part-put-reply-end-2 c = omega (arith, room (turning (asked (entering (effecting (c .before))))))
+sub-put-answer : At tie.Need-sub-put-answer
+sub-put-answer c = search needs
 
-print-of-requires : At tie.Need-print-of-requires
-print-of-requires c κs = search needs
+part-put-answer-start : At tie.Need-part-put-answer-start
+part-put-answer-start c = search needs
 
-put-reply-requires-2 : At tie.Need-put-reply-requires-2
-put-reply-requires-2 c κs =
-    let e = turning (asked (entering (effecting (filled c)))) in (
+part-put-answer-end : At tie.Need-part-put-answer-end
+part-put-answer-end c = omega (arith, room (turning (asked (entering (effecting (c .before))))))
+
+put-answer-requires : At tie.Need-put-answer-requires
+put-answer-requires c κs =
+    let e = turning (asked (entering (effecting (c .before .before)))) in (
       e .before .before .before .table .ensures,
       reply-part _ _ _ _ _ _ _ _ _ (e .before .loop .inv .0) (e .loop-test .taken),
     )
 
 add-i-2 : At tie.Need-add-i-2
 add-i-2 c =
-    let t = turning (asked (entering (effecting (filled (c .before .before .before))))) in
+    let t = turning (asked (entering (effecting (filled (c .before .before))))) in
     omega (arith, t .loop-test .taken, begun (t .before) .fits .count)
 
 move-radio-requires : At tie.Need-move-radio-requires
 move-radio-requires c κs =
-    admitted (entering (effecting (filled (c .before .before .before .before)))) .store (c .if3 .taken)
+    admitted (entering (effecting (filled (c .before .before .before)))) .store (c .if3 .taken)
 
 cast-ahead : At tie.Need-cast-ahead
 cast-ahead c = search needs
@@ -565,16 +546,11 @@ answer-requests-spec =
     table-requires
     reply-size-requires
     loop-holds
-    mul-at
-    add-end
     code-at-requires
     party-at-requires
     admit-requires
-    sub-put-reply
-    part-put-reply-start
-    part-put-reply-end
-    plain-requires
-    put-reply-requires
+    mul-put-refusal
+    put-refusal-requires
     add-i
     loop-less
     loop-again
@@ -601,11 +577,12 @@ answer-requests-spec =
     array-set-from-slots-2
     mul-put
     element-set-from-put
-    sub-put-reply-2
-    part-put-reply-start-2
-    part-put-reply-end-2
-    print-of-requires
-    put-reply-requires-2
+    mul-at
+    add-end
+    sub-put-answer
+    part-put-answer-start
+    part-put-answer-end
+    put-answer-requires
     add-i-2
     move-radio-requires
     cast-ahead
