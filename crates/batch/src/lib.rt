@@ -13,7 +13,11 @@ use crate::wire::put_answer;
 use crate::wire::put_refusal;
 use encoding::pairs;
 use hub::moves::Sight;
+use hub::opening::Opening;
+use hub::record::Figures;
 use hub::record::Hub;
+use hub::record::PartySlot;
+use hub::record::Pool;
 use pool::moving::move_radio;
 use ring::PlaceRing;
 use ring::reclaim;
@@ -29,7 +33,7 @@ ghost use Prim.Native.Nat.{_*_, _≤_};
 ghost use lib.ListN.{length};
 ghost use Rattle.encoding.specs.Form.{formOf, replySize};
 ghost use Rattle.line.specs.Program.{after};
-ghost use Rattle.batch.specs.Batch.{Reachable, replied, requestsIn};
+ghost use Rattle.batch.specs.Batch.{Reachable, ofParts, replied, requestsIn};
 
 // Answers the first `count` requests, of two bytes each, in a form.
 pub fn answer_requests(hub: Hub, requests: &[u8], count: usize, form: bool, out: &mut [u8]) -> Hub
@@ -41,18 +45,53 @@ pub fn answer_requests(hub: Hub, requests: &[u8], count: usize, form: bool, out:
         ≡ replied (formOf form) hub count (now (requests .entry)) (now (out .entry))) ⌝ }
 {
     let opening = hub.opening;
-    let mut figures = hub.figures;
+    let figures = hub.figures;
     let places = hub.places;
-    let mut ring = PlaceRing {
+    let ring = PlaceRing {
         resumed: hub.figures.resumed,
         oldest: hub.oldest,
         places,
     };
-    let mut slots = hub.slots;
-    let mut pool = hub.pool;
+    let slots = hub.slots;
+    let pool = hub.pool;
+    answer_in_turn(
+        opening,
+        figures,
+        ring,
+        slots,
+        pool,
+        requests,
+        count,
+        form,
+        reply_size(form),
+        out,
+    )
+}
+
+// The loop. A record's parts are its parameters, so that nothing but the loop is in the function, which is dear to prove.
+fn answer_in_turn(
+    opening: Opening,
+    mut figures: Figures,
+    mut ring: PlaceRing,
+    mut slots: [PartySlot; 32],
+    mut pool: Pool,
+    requests: &[u8],
+    count: usize,
+    form: bool,
+    width: usize,
+    out: &mut [u8],
+) -> Hub
+    requires { ⌜ Reachable (ofParts opening figures ring slots pool) ⌝ }
+    requires { ⌜ 2 * count ≤ length (now requests) ⌝ }
+    requires { ⌜ width ≡ replySize (formOf form) ⌝ }
+    requires { ⌜ replySize (formOf form) * count ≤ length (now out) ⌝ }
+    ensures { λ r. ⌜ (r ≡ after (ofParts opening figures ring slots pool) (requestsIn count (now (requests .entry))))
+        × (now (out .exit)
+        ≡ replied (formOf form) (ofParts opening figures ring slots pool) count (now (requests .entry))
+        (now (out .entry))) ⌝ }
+{
     let kinds = opening.kinds;
     let pairs = pairs::table();
-    let width = reply_size(form);
     let mut i: usize = 0;
     while i < count {
         let code = code_at(requests, i);
