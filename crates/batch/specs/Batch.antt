@@ -1,10 +1,10 @@
 -- Requests as bytes, and the records that an open hub can be in.
-use Prim.Native.Nat.{ℕ, zero, suc, _+_, _*_}
+use Prim.Native.Nat.{ℕ, zero, suc, _*_}
 use mathlib.Core.Path.{_≡_}
 use mathlib.Core.Bool.{cond}
 use mathlib.Core.List.{List, [], _∷_, _++_}
 use lib.Dec.{eqb}
-use lib.ListN.{getD, take, drop}
+use lib.ListN.{getD, drop}
 use Rattle.hub.specs.declared.answers.Answer.{Answer}
 use Rattle.hub.specs.declared.moves.Call.{Call}
 use Rattle.hub.specs.declared.record.Figures.{Figures}
@@ -14,7 +14,7 @@ use Rattle.hub.specs.declared.record.Pool.{Pool}
 use Rattle.hub.specs.Opening.{nobody, opening}
 use Rattle.hub.specs.Schedule.{run}
 use Rattle.hub.specs.declared.opening.Opening.{Opening}
-use Rattle.encoding.specs.Form.{Form, inForm, replySize}
+use Rattle.encoding.specs.Form.{Form, replySize}
 use Rattle.encoding.specs.Frame.{isCall, opOf}
 use Rattle.line.specs.Program.{repliesIn}
 use Rattle.ring.specs.declared.PlaceRing.{PlaceRing}
@@ -31,10 +31,6 @@ requestFor c p =
 unfoldable pub requestsIn : ℕ → List ℕ → List Request
 requestsIn zero l = []
 requestsIn (suc n) l = requestFor (getD l 0 0) (getD l 1 0) ∷ requestsIn n (drop 2 l)
-
--- A buffer in which a reply's seven bytes are written in a form, from a place on.
-abbrev pub withReply : Form → ℕ → List ℕ → List ℕ → List ℕ
-withReply form at bytes out = (take at out ++ inForm form bytes) ++ drop (at + replySize form) out
 
 -- The replies, in front of what the buffer holds past them.
 abbrev pub replied : Form → Hub → ℕ → List ℕ → List ℕ → List ℕ

@@ -2,31 +2,26 @@
 // arrays and figures are locals while they are, altered in place. A record that is reached from an
 // opening fits, and that is proved: so there is no check of the whole record here.
 
-mod admission; // what is answered before the table is asked
-mod wire; // requests and replies as bytes
-
-use crate::admission::admit;
-use crate::admission::op_of;
-use crate::wire::code_at;
-use crate::wire::party_at;
-use crate::wire::put_answer;
-use crate::wire::put_refusal;
 use encoding::pairs;
-use hub::moves::Sight;
 use hub::opening::Opening;
 use hub::record::Figures;
 use hub::record::Hub;
 use hub::record::PartySlot;
 use hub::record::Pool;
-use pool::moving::move_radio;
 use ring::PlaceRing;
 use ring::reclaim;
-use transition::effect::decide_by;
 use transition::room::full_for;
 use transition::sight::seat_index;
-use transition::sight::slot_within;
 use transition::sight::waiter_at;
 use transition::tidy::is_untidy;
+use turn::admission::admit;
+use turn::admission::op_of;
+use turn::decision::decide_for;
+use turn::decision::radios_after;
+use turn::wire::code_at;
+use turn::wire::party_at;
+use turn::wire::put_answer;
+use turn::wire::put_refusal;
 use writer::form::reply_size;
 ghost use mathlib.Core.Path.{_≡_};
 ghost use Prim.Native.Nat.{_*_, _≤_};
@@ -108,23 +103,23 @@ fn answer_in_turn(
         let seat = ring.places[t];
         let q = waiter_at(seat);
         let near = slots[(q % 32) as usize];
-        let waiter = slot_within(q, near);
         let kind = kinds[own];
         let radio = pool.hands[own];
         let op = op_of(code);
         let full = full_for(op, ring.oldest, figures.issued, slots);
-        let s = Sight {
+        let e = decide_for(
+            op,
+            full,
             party,
             kind,
             slot,
             seat,
-            waiter,
+            near,
             figures,
-            named: opening.named,
+            opening.named,
             radio,
-            stocked: 0 < pool.stored,
-        };
-        let e = decide_by(op, full, s);
+            pool.stored,
+        );
         let woken = e.woken;
         if woken < 32 {
             let woke = e.waiter;
@@ -136,13 +131,12 @@ fn answer_in_turn(
         figures = next;
         let put = e.seat;
         ring.places[t] = put;
-        let answer = e.answer;
         let at = width * i;
         let end = at + width;
-        put_answer(&pairs, &mut out[at..end], form, party, answer);
+        put_answer(&pairs, &mut out[at..end], form, party, e);
         i += 1;
         if opening.named {
-            pool = move_radio(answer, party, pool);
+            pool = radios_after(e, party, pool);
         }
         // mostly there is nothing to tidy
         let ahead = ring.places[(figures.resumed % Hub::PLACES) as usize];

@@ -3,11 +3,12 @@
 use borrow.Author.Needs.{needs}
 use borrow.Author.Tests.{not-true, not-false}
 use mathlib.Core.Path.{_≡_, refl, sym, ap, ap₂, _∙_}
-use mathlib.Core.Bool.{Bool}
+use mathlib.Core.Bool.{Bool, cond}
 use mathlib.Core.List.{List, map}
 use mathlib.Core.Logic.{⊎-elim}
 use native.Mathlib.Omega.{arith}
 use Prim.Native.Nat.{ℕ, _+_, _-_, _*_, _%_, _^_, _≤_, _<_}
+use lib.Dec.{ltb}
 use lib.ListN.{length, getD, set, length-map}
 use Rattle.hub.specs.declared.answers.Answer.{Answer}
 use Rattle.hub.specs.declared.moves.Op.{Op}
@@ -22,7 +23,7 @@ use Rattle.hub.specs.Look.{look}
 use Rattle.hub.specs.Moves.{Move}
 use Rattle.hub.specs.Phases.{ticketOf}
 use Rattle.hub.specs.Radios.{handOf}
-use Rattle.hub.specs.Record.{emptySeat, readSlot, writeSlot}
+use Rattle.hub.specs.Record.{PARTIES, emptySeat, freeSlot, readSlot, writeSlot}
 use Rattle.hub.specs.Ring.{PLACES, readSeat}
 use Rattle.hub.specs.Table.{decide}
 use Rattle.encoding.specs.Frame.{opOf, frameOf}
@@ -39,6 +40,7 @@ use Rattle.transition.proofs.Laws.Ops.{as-asked}
 use Rattle.transition.proofs.Laws.Radios.{with-radios, without-radios}
 use Rattle.transition.proofs.Laws.Sight.{Reads, sightOf}
 use Rattle.transition.proofs.Laws.Stored.{nobody, still, few-turns}
+use Rattle.turn.specs.Decision.{waiterBy}
 use Rattle.batch.specs.Batch.{ofParts, requestFor}
 use Rattle.batch.proofs.Laws.Answered.{Admitted, is-admitted, refused-response, LetIn}
 use Rattle.batch.proofs.Laws.Answered.{let-in, call-response}
@@ -70,13 +72,13 @@ asked c = c .before .before .before
 abbrev turning : At tie.After-party-at → At tie.In-loop
 turning c = c .before .before
 
-abbrev entered : At tie.After-slot-within → At tie.Else1
-entered c = c .before .before .before .before .before .before
+abbrev entered : At tie.After-near → At tie.Else1
+entered c = c .before .before .before .before .before
 
-abbrev seen : At tie.After-decide-by → At tie.After-slot-within
+abbrev seen : At tie.After-decide-for → At tie.After-near
 seen c = c .before .before .before .before
 
-abbrev decided : At tie.Joined2 → At tie.After-decide-by
+abbrev decided : At tie.Joined2 → At tie.After-decide-for
 decided c = c .before
 
 abbrev woken : At tie.After-put → At tie.Joined2
@@ -98,16 +100,16 @@ settled c = c .before .before
 abbrev head : At tie.Else1 → At tie.At-loop
 head c = turning (asked c) .before
 
-abbrev entering : At tie.After-decide-by → At tie.Else1
+abbrev entering : At tie.After-decide-for → At tie.Else1
 entering c = entered (seen c)
 
-abbrev effecting : At tie.After-put → At tie.After-decide-by
+abbrev effecting : At tie.After-put → At tie.After-decide-for
 effecting c = decided (woken c)
 
 abbrev placed : At tie.After-is-untidy → At tie.After-put
 placed c = filled (replying (moving c))
 
-abbrev effected : At tie.After-is-untidy → At tie.After-decide-by
+abbrev effected : At tie.After-is-untidy → At tie.After-decide-for
 effected c = effecting (placed c)
 
 abbrev within : At tie.After-is-untidy → At tie.Else1
@@ -154,29 +156,33 @@ admitted : (c : At tie.Else1) → LetIn (hub (head c)) (party (asked c))
 admitted c = let-in _ _ _ (head c .loop .inv .0 .reachable) (pass c)
 
 -- What the code read for it.
-abbrev ticketAt : At tie.After-slot-within → ℕ
-ticketAt c = c .before .before .before .before .seat-index .result
+abbrev ticketAt : At tie.After-near → ℕ
+ticketAt c = c .before .before .before .seat-index .result
 
-abbrev seat : At tie.After-slot-within → PlaceSlot
+abbrev seat : At tie.After-near → PlaceSlot
 seat c = getD (hub (head (entered c)) .places) (ticketAt c) emptySeat
 
-abbrev waiter : At tie.After-slot-within → PartySlot
-waiter c = c .slot-within .result
+abbrev near : At tie.After-near → PartySlot
+near c = getD (head (entered c) .loop .slots) (c .before .waiter-at .result % PARTIES) freeSlot
 
-index : (c : At tie.After-slot-within)
+abbrev waiter : At tie.After-near → PartySlot
+waiter c = waiterBy (seat c) (near c)
+
+index : (c : At tie.After-near)
     → let e = entered c in
     ticketAt c ≡ ticketOf (readSlot (hub (head e) .slots) (party (asked e)) .phase) % PLACES
 unfolding readSlot
-index c = c .before .before .before .before .seat-index .ensures
+index c = c .before .before .before .seat-index .ensures
 
-reading : (c : At tie.After-slot-within)
+reading : (c : At tie.After-near)
     → let e = entered c in
-    Reads (hub (head e)) (party (asked e)) (seat c) (c .before .before .waiter-at .result) (waiter c)
+    Reads (hub (head e)) (party (asked e)) (seat c) (c .before .waiter-at .result) (waiter c)
 unfolding readSlot
 reading c =
     let e = entered c in
     reads (hub (head e)) (party (asked e)) _ (index c) _ _
-    (head e .loop .inv .1) (c .before .before .waiter-at .ensures) (c .slot-within .ensures)
+    (head e .loop .inv .1) (c .before .waiter-at .ensures)
+    (ap (λ (q : ℕ). cond (ltb q PARTIES) (near c) freeSlot) (sym (c .before .waiter-at .ensures)))
 
 -- The effect is that of the call.
 abbrev op : At tie.Else1 → Op
@@ -185,18 +191,18 @@ op e = opOf (code (asked e))
 abbrev full : At tie.At-loop → Bool
 full h = isFull (h .loop .ring .oldest) (h .loop .figures .issued) (h .loop .slots)
 
-abbrev sight : At tie.After-slot-within → Sight
+abbrev sight : At tie.After-near → Sight
 sight c = sightOf (hub (head (entered c))) (party (asked (entered c))) (seat c) (waiter c)
 
-effect-is : (c : At tie.After-decide-by)
+effect-is : (c : At tie.After-decide-for)
     → let e = entering c in
-    c .decide-by .result ≡ effectOf (decide (op e) (full (head e)) (sight (seen c))) (sight (seen c))
+    c .decide-for .result ≡ effectOf (decide (op e) (full (head e)) (sight (seen c))) (sight (seen c))
 unfolding readSlot kindIn handOf
 effect-is c =
     let e = entering c in
     let h = head e in
     let s = sight (seen c) in
-    c .decide-by .ensures
+    c .decide-for .ensures
     ∙ ap₂ (λ (o : Op) (b : Bool). effectOf (decide o b s) s) (c .before .before .op-of .ensures)
     (c .before .full-for .ensures ∙ ap (λ (o : Op). fullFor o (full h)) (c .before .before .op-of .ensures))
     ∙ ap (λ (m : Sight → Move). effectOf (m s) s) (λ i. λ z. as-asked (full h) z (op e) i)
@@ -230,16 +236,16 @@ full-slots s = search (needs, long-unmapped)
 
 -- The effect, and the record that the tidying starts from.
 abbrev effect : At tie.After-is-untidy → Effect
-effect s = effected s .decide-by .result
+effect s = effected s .decide-for .result
 
-low : (c : At tie.After-decide-by) → head (entering c) .loop .ring .oldest ≤ 1000000
+low : (c : At tie.After-decide-for) → head (entering c) .loop .ring .oldest ≤ 1000000
 low c = omega (arith, admitted (entering c) .counts .oldest)
 
-turns-most : (c : At tie.After-decide-by) → c .decide-by .result .turns ≤ 256
+turns-most : (c : At tie.After-decide-for) → c .decide-for .result .turns ≤ 256
 turns-most c =
     let e = entering c in
     let s = sight (seen c) in
-    few-turns (decide (op e) (full (head e)) s) s (c .decide-by .result) (effect-is c)
+    few-turns (decide (op e) (full (head e)) s) s (c .decide-for .result) (effect-is c)
 
 abbrev untidied : At tie.After-is-untidy → Hub
 untidied s =
@@ -383,9 +389,6 @@ mul-near c = search needs
 array-copy-out-near : At tie.Need-array-copy-out-near
 array-copy-out-near c = search needs
 
-slot-within-requires : At tie.Need-slot-within-requires
-slot-within-requires c κs = search needs
-
 array-read-kind : At tie.Need-array-read-kind
 array-read-kind c = omega (arith, admitted (entered c) .party)
 
@@ -398,8 +401,8 @@ op-of-requires c κs = search needs
 full-for-requires : At tie.Need-full-for-requires
 full-for-requires c κs = let n = admitted (entered (c .before .before)) .counts in (n .oldest, n .issued)
 
-decide-by-requires : At tie.Need-decide-by-requires
-decide-by-requires c κs =
+decide-for-requires : At tie.Need-decide-for-requires
+decide-for-requires c κs =
     let n = admitted (entered (c .before .before .before)) .counts in
     record { counter = n .counter; issued = n .issued; resumed = n .resumed }
 
@@ -451,8 +454,8 @@ add-i-2 c =
     let t = turning (asked (entering (effecting (filled (c .before .before))))) in
     omega (arith, t .loop-test .taken, begun (t .before) .fits .count)
 
-move-radio-requires : At tie.Need-move-radio-requires
-move-radio-requires c κs =
+radios-after-requires : At tie.Need-radios-after-requires
+radios-after-requires c κs =
     admitted (entering (effecting (filled (c .before .before .before)))) .store (c .if3 .taken)
 
 cast-ahead : At tie.Need-cast-ahead
@@ -542,12 +545,11 @@ answer-in-turn-spec =
     cast-near
     mul-near
     array-copy-out-near
-    slot-within-requires
     array-read-kind
     element-copy-out-radio
     op-of-requires
     full-for-requires
-    decide-by-requires
+    decide-for-requires
     cast-slots
     mul-slots
     array-set-from-slots
@@ -562,7 +564,7 @@ answer-in-turn-spec =
     part-put-answer-end
     put-answer-requires
     add-i-2
-    move-radio-requires
+    radios-after-requires
     cast-ahead
     mul-ahead
     element-copy-out-ahead

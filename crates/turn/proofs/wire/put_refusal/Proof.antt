@@ -8,8 +8,8 @@ use Rattle.hub.specs.Answers.{Printed, plain}
 use Rattle.encoding.specs.Form.{Form, asText, asBytes, formOf, inForm, replySize}
 use Rattle.encoding.specs.Frame.{frameOf}
 use Rattle.encoding.proofs.Laws.Parts.{parts}
-use Rattle.batch.proofs.wire.put_refusal.Statement.{statement}
-use Rattle.batch.proofs.wire.put_refusal.Tie as tie
+use Rattle.turn.proofs.wire.put_refusal.Statement.{statement}
+use Rattle.turn.proofs.wire.put_refusal.Tie as tie
 
 size : (form : Form) (party : ℕ) (p : Printed) → length (inForm form (frameOf party p)) ≡ replySize form
 size asText party p = refl

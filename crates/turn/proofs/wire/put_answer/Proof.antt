@@ -4,8 +4,8 @@ use mathlib.Core.Path.{ap, _∙_}
 use Rattle.hub.specs.Answers.{Printed}
 use Rattle.encoding.specs.Form.{formOf, inForm}
 use Rattle.encoding.specs.Frame.{frameOf}
-use Rattle.batch.proofs.wire.put_answer.Statement.{statement}
-use Rattle.batch.proofs.wire.put_answer.Tie as tie
+use Rattle.turn.proofs.wire.put_answer.Statement.{statement}
+use Rattle.turn.proofs.wire.put_answer.Tie as tie
 
 print-of-requires : tie.Need-print-of-requires
 print-of-requires c κs = search needs

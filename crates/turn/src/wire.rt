@@ -1,9 +1,9 @@
 // Requests as bytes, two each, and the replies to them.
 
 use crate::admission::Admission;
+use effects::effect::Effect;
 use encoding::answer::plain;
 use encoding::answer::print_of;
-use hub::answers::Answer;
 use writer::form::put_reply;
 use writer::form::reply_size;
 ghost use mathlib.Core.Path.{_≡_};
@@ -13,10 +13,10 @@ ghost use Rattle.hub.specs.Answers.{plain, printed};
 ghost use Rattle.encoding.specs.Form.{formOf, inForm, replySize};
 ghost use Rattle.encoding.specs.Frame.{frameOf};
 ghost use Rattle.encoding.specs.Tables.{Pairs};
-ghost use Rattle.batch.specs.Batch.{withReply};
+ghost use Rattle.turn.specs.Wire.{withReply};
 
 // The code of request i.
-pub(crate) fn code_at(requests: &[u8], i: usize) -> u8
+pub fn code_at(requests: &[u8], i: usize) -> u8
     requires { ⌜ 2 * i + 2 ≤ length (now requests) ⌝ }
     ensures { λ r. ⌜ r ≡ getD (now (requests .entry)) (2 * i) 0 ⌝ }
 {
@@ -24,7 +24,7 @@ pub(crate) fn code_at(requests: &[u8], i: usize) -> u8
 }
 
 // Its party.
-pub(crate) fn party_at(requests: &[u8], i: usize) -> u8
+pub fn party_at(requests: &[u8], i: usize) -> u8
     requires { ⌜ 2 * i + 2 ≤ length (now requests) ⌝ }
     ensures { λ r. ⌜ r ≡ getD (now (requests .entry)) (2 * i + 1) 0 ⌝ }
 {
@@ -32,7 +32,7 @@ pub(crate) fn party_at(requests: &[u8], i: usize) -> u8
 }
 
 // What a request is answered that was not admitted, from a place of the buffer on.
-pub(crate) fn put_refusal(pairs: &[u16; 256], out: &mut [u8], at: usize, form: bool, a: Admission)
+pub fn put_refusal(pairs: &[u16; 256], out: &mut [u8], at: usize, form: bool, a: Admission)
     requires { ⌜ Pairs (now pairs) ⌝ }
     requires { ⌜ at + replySize (formOf form) ≤ length (now out) ⌝ }
     ensures { λ r. ⌜ now (out .exit)
@@ -43,10 +43,11 @@ pub(crate) fn put_refusal(pairs: &[u16; 256], out: &mut [u8], at: usize, form: b
 }
 
 // What a call is answered. Its part of the buffer is handed over: with the place a line cost three more.
-pub(crate) fn put_answer(pairs: &[u16; 256], out: &mut [u8], form: bool, party: u8, answer: Answer)
+pub fn put_answer(pairs: &[u16; 256], out: &mut [u8], form: bool, party: u8, e: Effect)
     requires { ⌜ Pairs (now pairs) ⌝ }
     requires { ⌜ length (now out) ≡ replySize (formOf form) ⌝ }
-    ensures { λ r. ⌜ now (out .exit) ≡ inForm (formOf form) (frameOf party (printed answer)) ⌝ }
+    ensures { λ r. ⌜ now (out .exit) ≡ inForm (formOf form) (frameOf party (printed (e .answer))) ⌝ }
 {
+    let answer = e.answer;
     put_reply(pairs, out, form, party, print_of(answer));
 }
