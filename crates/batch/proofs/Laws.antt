@@ -1,5 +1,4 @@
 -- Laws that the loop's proof cites.
-pub mod Admission
 pub mod Reachable
 pub mod Answered
 pub mod Responses

@@ -7,13 +7,17 @@ use lib.Dec.{eqb}
 use lib.ListN.{getD, drop}
 use Rattle.hub.specs.declared.answers.Answer.{Answer}
 use Rattle.hub.specs.declared.moves.Call.{Call}
+use Rattle.hub.specs.declared.record.Figures.{Figures}
 use Rattle.hub.specs.declared.record.Hub.{Hub}
+use Rattle.hub.specs.declared.record.PartySlot.{PartySlot}
+use Rattle.hub.specs.declared.record.Pool.{Pool}
 use Rattle.hub.specs.Opening.{nobody, opening}
 use Rattle.hub.specs.Schedule.{run}
 use Rattle.hub.specs.declared.opening.Opening.{Opening}
 use Rattle.encoding.specs.Form.{Form, replySize}
 use Rattle.encoding.specs.Frame.{isCall, opOf}
 use Rattle.line.specs.Program.{repliesIn}
+use Rattle.ring.specs.declared.PlaceRing.{PlaceRing}
 use Rattle.line.specs.Requests.{Request, malformed, toOpen, toCall}
 
 -- The request that a code and a party make. An open hub refuses every opening alike, so that one
@@ -32,6 +36,18 @@ requestsIn (suc n) l = requestFor (getD l 0 0) (getD l 1 0) ∷ requestsIn n (dr
 abbrev pub replied : Form → Hub → ℕ → List ℕ → List ℕ → List ℕ
 replied form h n requests out =
     repliesIn form h (requestsIn n requests) ++ drop (replySize form * n) out
+
+-- The record that the loop's parts make. Its figures have the next ticket to resume, not its ring.
+abbrev pub ofParts : Opening → Figures → PlaceRing → List PartySlot → Pool → Hub
+ofParts opening figures ring slots pool =
+    record {
+      opening = opening;
+      figures = figures;
+      oldest = ring .oldest;
+      places = ring .places;
+      slots = slots;
+      pool = pool;
+    }
 
 -- What an accepted opening and a list of calls lead to: such a record needs no check.
 pub record Reachable (h : Hub) : Type 0 where

@@ -20,8 +20,8 @@ use Rattle.line.proofs.Laws.Schedules.{respond-open}
 use Rattle.transition.proofs.Laws.Called.{Counted, counted, no-such-party, asks, radiosAfter}
 use Rattle.transition.proofs.Laws.Called.{admitted as by-table}
 use Rattle.transition.proofs.Laws.Radios.{few-stored}
-use Rattle.batch.specs.declared.admission.Admission.{Admission}
-use Rattle.batch.specs.Admission.{admitted, admissionOf, refused}
+use Rattle.turn.specs.declared.admission.Admission.{Admission}
+use Rattle.turn.specs.Admission.{admitted, admissionOf, refused}
 use Rattle.batch.specs.Batch.{requestFor, Reachable}
 use Rattle.batch.proofs.Laws.Reachable.{reachable-fits, reachable-open}
 

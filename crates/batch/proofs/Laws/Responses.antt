@@ -12,7 +12,9 @@ use Rattle.encoding.specs.Form.{Form, asText, asBytes, replySize}
 use Rattle.line.specs.Program.{Reply, Response, respond, after, replies, replyIn, rendered}
 use Rattle.line.specs.Program.{repliesIn}
 use Rattle.line.specs.Requests.{Request}
-use Rattle.encoding.proofs.Laws.Parts.{put-length, put-take, put-drop}
+use Rattle.encoding.specs.Frame.{frameOf}
+use Rattle.encoding.proofs.Laws.Parts.{parts, put-length, put-take, put-drop}
+use Rattle.turn.specs.Wire.{withReply}
 use Rattle.batch.specs.Batch.{requestFor, requestsIn, replied, Reachable}
 use Rattle.batch.proofs.Laws.Reachable.{response-reachable}
 
@@ -163,6 +165,20 @@ module _ (form : Form) where
                 ∙ ap (λ (k : ℕ). replied form h k here (drop at out)) (sym fewer))
                 ∙ u .same;
           }
+
+      -- The same of a reply that was written into the buffer, which is out′ then.
+      pub refused-one : (out′ : List ℕ) (h′ : Hub) (t : Response) → respond h (requestAt l (2 * i)) ≡ t
+          → out′ ≡ withReply form at (frameOf (t .reply .party) (t .reply .answer)) out → h′ ≡ t .hub
+          → Upto width h₀ n l out₀ h′ out′ (i + 1)
+      refused-one out′ h′ t e f g =
+          let text = replyIn form (t .reply) in
+          let wide : (take at out ++ text) ++ drop (at + replySize form) out
+          ≡ (take at out ++ text) ++ drop (at + width) out =
+          ap (λ (k : ℕ). (take at out ++ text) ++ drop (at + k) out) (sym (u .width-is)) in
+          let size = reply-size form (t .reply) ∙ sym (u .width-is) in
+          subst (λ (o : List ℕ). Upto width h₀ n l out₀ h′ o (i + 1))
+          (sym (f ∙ wide ∙ sym (parts out text at width whole-reply size)))
+          (responded text h′ t e refl g)
 
     pub ended : n ≤ i → (h ≡ after h₀ (requestsIn n l)) × (out ≡ replied form h₀ n l out₀)
     unfolding after replies rendered requestsIn

@@ -3,7 +3,7 @@ use Prim.Native.Nat.{ℕ}
 use mathlib.Core.Bool.{true, false, cond}
 use lib.Dec.{eqb, ltb}
 use Rattle.encoding.specs.Frame.{isCall}
-use Rattle.batch.specs.declared.admission.Admission.{Admission}
+use Rattle.turn.specs.declared.admission.Admission.{Admission}
 
 -- Answered with code c, for party p.
 abbrev pub refused : ℕ → ℕ → Admission

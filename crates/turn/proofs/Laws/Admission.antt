@@ -6,8 +6,8 @@ use borrow.Author.Tests.{eq-eqb, ne-eqb, le-ltb, lt-ltb}
 use native.Mathlib.Omega.{arith}
 use Rattle.encoding.specs.Frame.{isCall}
 use Rattle.line.proofs.Laws.Codes.{no-code, under, a-code}
-use Rattle.batch.specs.declared.admission.Admission.{Admission}
-use Rattle.batch.specs.Admission.{admitted, admissionOf, refused}
+use Rattle.turn.specs.declared.admission.Admission.{Admission}
+use Rattle.turn.specs.Admission.{admitted, admissionOf, refused}
 
 -- How far a code c is past the first of the five calls, counted round the 256 bytes, says whether it is one.
 module _ (c r : ℕ) (w : (r + 16) % 256 ≡ c) where

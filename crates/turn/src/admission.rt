@@ -5,7 +5,7 @@ use line::request::OPENING;
 use std::num::wrapping_sub_u8;
 ghost use mathlib.Core.Path.{_≡_};
 ghost use Rattle.encoding.specs.Frame.{opOf};
-ghost use Rattle.batch.specs.Admission.{admissionOf, refused};
+ghost use Rattle.turn.specs.Admission.{admissionOf, refused};
 
 pub struct Admission {
     pub admitted: bool, // a call of a party that there is: the table answers it
@@ -23,7 +23,7 @@ fn refused(party: u8, code: u8) -> Admission
     }
 }
 
-pub(crate) fn admit(code: u8, party: u8, parties: u8) -> Admission
+pub fn admit(code: u8, party: u8, parties: u8) -> Admission
     ensures { λ r. ⌜ r ≡ admissionOf code party parties ⌝ }
 {
     // the codes of the calls are 10 to 14
@@ -44,7 +44,7 @@ pub(crate) fn admit(code: u8, party: u8, parties: u8) -> Admission
 }
 
 // The operation of an admitted code; which radio is what is left of the five.
-pub(crate) fn op_of(code: u8) -> Op
+pub fn op_of(code: u8) -> Op
     ensures { λ r. ⌜ r ≡ opOf code ⌝ }
 {
     if code == 0x10 {

@@ -1,0 +1,581 @@
+-- `answer_in_turn` meets its contract: the record made of its parts is that of the requests so
+-- far, and what is written with what is still to come is the whole.
+use borrow.Author.Needs.{needs}
+use borrow.Author.Tests.{not-true, not-false}
+use mathlib.Core.Path.{_≡_, refl, sym, ap, ap₂, _∙_}
+use mathlib.Core.Bool.{Bool, cond}
+use mathlib.Core.List.{List, map}
+use mathlib.Core.Logic.{⊎-elim}
+use native.Mathlib.Omega.{arith}
+use Prim.Native.Nat.{ℕ, _+_, _-_, _*_, _%_, _^_, _≤_, _<_}
+use lib.Dec.{ltb}
+use lib.ListN.{length, getD, set, length-map}
+use Rattle.hub.specs.declared.answers.Answer.{Answer}
+use Rattle.hub.specs.declared.moves.Op.{Op}
+use Rattle.hub.specs.declared.moves.Sight.{Sight}
+use Rattle.hub.specs.declared.record.Hub.{Hub}
+use Rattle.hub.specs.declared.record.PartySlot.{PartySlot}
+use Rattle.hub.specs.declared.record.PlaceSlot.{PlaceSlot}
+use Rattle.hub.specs.Answers.{printed}
+use Rattle.hub.specs.Calls.{answerOf, apply, isFull, ringOf, withPool, withRing}
+use Rattle.hub.specs.Kinds.{kindIn}
+use Rattle.hub.specs.Look.{look}
+use Rattle.hub.specs.Moves.{Move}
+use Rattle.hub.specs.Phases.{ticketOf}
+use Rattle.hub.specs.Radios.{handOf}
+use Rattle.hub.specs.Record.{PARTIES, emptySeat, freeSlot, readSlot, writeSlot}
+use Rattle.hub.specs.Ring.{PLACES, readSeat}
+use Rattle.hub.specs.Table.{decide}
+use Rattle.encoding.specs.Frame.{opOf, frameOf}
+use Rattle.encoding.specs.Form.{formOf, inForm}
+use Rattle.line.specs.Program.{respond}
+use Rattle.effects.specs.declared.effect.Effect.{Effect}
+use Rattle.effects.specs.Effect.{effectOf}
+use Rattle.transition.specs.Room.{fullFor}
+use Rattle.transition.specs.Tidied.{tidiedBy}
+use Rattle.transition.proofs.Laws.Called.{radiosAfter, said, left}
+use Rattle.transition.proofs.Laws.Indexed.{reads, stores}
+use Rattle.transition.proofs.Laws.Loops.{tidy}
+use Rattle.transition.proofs.Laws.Ops.{as-asked}
+use Rattle.transition.proofs.Laws.Radios.{with-radios, without-radios}
+use Rattle.transition.proofs.Laws.Sight.{Reads, sightOf}
+use Rattle.transition.proofs.Laws.Stored.{nobody, still, few-turns}
+use Rattle.turn.specs.Decision.{waiterBy}
+use Rattle.batch.specs.Batch.{ofParts, requestFor}
+use Rattle.batch.proofs.Laws.Answered.{Admitted, is-admitted, refused-response, LetIn}
+use Rattle.batch.proofs.Laws.Answered.{let-in, call-response}
+use Rattle.batch.proofs.Laws.Responses.{Upto, requestAt, start, whole-request}
+use Rattle.batch.proofs.Laws.Responses.{whole-reply, reply-part, refused-one, responded, ended}
+use Rattle.batch.proofs.answer_in_turn.Statement.{statement}
+use Rattle.batch.proofs.answer_in_turn.Tie as tie
+
+abbrev Inv-loop : tie.InvT-loop
+Inv-loop opening f₀ requests count form width out₀ ring₀ slots₀ pool₀ _ _ _ f out ring slots pool i =
+    Upto (formOf form) width (ofParts opening f₀ ring₀ slots₀ pool₀) count requests out₀
+    (ofParts opening f ring slots pool) out i
+    × (length slots ≡ 32)
+
+abbrev μ-loop : tie.MeasureT-loop
+μ-loop _ _ _ count _ _ _ _ _ _ _ _ _ _ _ _ _ _ i = count - i
+
+-- A state or a need of the function, with this invariant and this measure.
+abbrev At : (tie.InvT-loop → tie.MeasureT-loop → Type 0) → Type 0
+At f = f Inv-loop μ-loop
+
+-- The way back along the code. Only these know how many steps lie between.
+abbrev begun : At tie.At-loop → At tie.Start
+begun c = c .before .before .before .before .before
+
+abbrev asked : At tie.Else1 → At tie.After-party-at
+asked c = c .before .before .before
+
+abbrev turning : At tie.After-party-at → At tie.In-loop
+turning c = c .before .before
+
+abbrev entered : At tie.After-near → At tie.Else1
+entered c = c .before .before .before .before .before
+
+abbrev seen : At tie.After-decide-for → At tie.After-near
+seen c = c .before .before .before .before
+
+abbrev decided : At tie.Joined2 → At tie.After-decide-for
+decided c = c .before
+
+abbrev woken : At tie.After-put → At tie.Joined2
+woken c = c .before .before .before
+
+abbrev filled : At tie.After-put-answer → At tie.After-put
+filled c = c .before .before .before
+
+abbrev replying : At tie.Joined3 → At tie.After-put-answer
+replying c = c .before .before .before
+
+abbrev moving : At tie.After-is-untidy → At tie.Joined3
+moving c = c .before .before .before .before
+
+abbrev settled : At tie.After-reclaim → At tie.After-is-untidy
+settled c = c .before .before
+
+-- The same from further on.
+abbrev head : At tie.Else1 → At tie.At-loop
+head c = turning (asked c) .before
+
+abbrev entering : At tie.After-decide-for → At tie.Else1
+entering c = entered (seen c)
+
+abbrev effecting : At tie.After-put → At tie.After-decide-for
+effecting c = decided (woken c)
+
+abbrev placed : At tie.After-is-untidy → At tie.After-put
+placed c = filled (replying (moving c))
+
+abbrev effected : At tie.After-is-untidy → At tie.After-decide-for
+effected c = effecting (placed c)
+
+abbrev within : At tie.After-is-untidy → At tie.Else1
+within c = entering (effected c)
+
+-- The record at the head of a turn, and the request.
+abbrev hub : At tie.At-loop → Hub
+hub c = ofParts (begun c .args .opening) (c .loop .figures) (c .loop .ring) (c .loop .slots) (c .loop .pool)
+
+abbrev bytes : At tie.At-loop → List ℕ
+bytes c = begun c .args .requests .now
+
+abbrev width : At tie.At-loop → ℕ
+width c = begun c .args .width
+
+abbrev code : At tie.After-party-at → ℕ
+code c = c .before .code-at .result
+
+abbrev party : At tie.After-party-at → ℕ
+party c = c .party-at .result
+
+request-is : (c : At tie.After-party-at)
+    → let h = turning c .before in
+    requestAt (bytes h) (2 * h .loop .i) ≡ requestFor (code c) (party c)
+request-is c = sym (λ j. requestFor (c .before .code-at .ensures j) (c .party-at .ensures j))
+
+-- There is still a request to read, and room for its reply.
+asks : (c : At tie.In-loop) → 2 * c .before .loop .i + 2 ≤ length (bytes (c .before))
+asks c = whole-request _ _ _ _ _ _ _ _ _ (c .before .loop .inv .0) (c .loop-test .taken)
+
+room : (c : At tie.In-loop)
+    → width (c .before) * c .before .loop .i + width (c .before) ≤ length (c .before .loop .out)
+room c = whole-reply _ _ _ _ _ _ _ _ _ (c .before .loop .inv .0) (c .loop-test .taken)
+
+room-fits : (c : At tie.In-loop) → width (c .before) * c .before .loop .i + width (c .before) < 2 ^ 64
+room-fits c = omega (arith, room c)
+
+-- The call is admitted.
+pass : (c : At tie.Else1)
+    → Admitted (code (asked c)) (party (asked c)) (hub (head c) .opening .parties)
+pass c = is-admitted _ _ _ _ (c .before .before .admit .ensures) (not-false _ (c .if1 .left))
+
+admitted : (c : At tie.Else1) → LetIn (hub (head c)) (party (asked c))
+admitted c = let-in _ _ _ (head c .loop .inv .0 .reachable) (pass c)
+
+-- What the code read for it.
+abbrev ticketAt : At tie.After-near → ℕ
+ticketAt c = c .before .before .before .seat-index .result
+
+abbrev seat : At tie.After-near → PlaceSlot
+seat c = getD (hub (head (entered c)) .places) (ticketAt c) emptySeat
+
+abbrev near : At tie.After-near → PartySlot
+near c = getD (head (entered c) .loop .slots) (c .before .waiter-at .result % PARTIES) freeSlot
+
+abbrev waiter : At tie.After-near → PartySlot
+waiter c = waiterBy (seat c) (near c)
+
+index : (c : At tie.After-near)
+    → let e = entered c in
+    ticketAt c ≡ ticketOf (readSlot (hub (head e) .slots) (party (asked e)) .phase) % PLACES
+unfolding readSlot
+index c = c .before .before .before .seat-index .ensures
+
+reading : (c : At tie.After-near)
+    → let e = entered c in
+    Reads (hub (head e)) (party (asked e)) (seat c) (c .before .waiter-at .result) (waiter c)
+unfolding readSlot
+reading c =
+    let e = entered c in
+    reads (hub (head e)) (party (asked e)) _ (index c) _ _
+    (head e .loop .inv .1) (c .before .waiter-at .ensures)
+    (ap (λ (q : ℕ). cond (ltb q PARTIES) (near c) freeSlot) (sym (c .before .waiter-at .ensures)))
+
+-- The effect is that of the call.
+abbrev op : At tie.Else1 → Op
+op e = opOf (code (asked e))
+
+abbrev full : At tie.At-loop → Bool
+full h = isFull (h .loop .ring .oldest) (h .loop .figures .issued) (h .loop .slots)
+
+abbrev sight : At tie.After-near → Sight
+sight c = sightOf (hub (head (entered c))) (party (asked (entered c))) (seat c) (waiter c)
+
+effect-is : (c : At tie.After-decide-for)
+    → let e = entering c in
+    c .decide-for .result ≡ effectOf (decide (op e) (full (head e)) (sight (seen c))) (sight (seen c))
+unfolding readSlot kindIn handOf
+effect-is c =
+    let e = entering c in
+    let h = head e in
+    let s = sight (seen c) in
+    c .decide-for .ensures
+    ∙ ap₂ (λ (o : Op) (b : Bool). effectOf (decide o b s) s) (c .before .before .op-of .ensures)
+    (c .before .full-for .ensures ∙ ap (λ (o : Op). fullFor o (full h)) (c .before .before .op-of .ensures))
+    ∙ ap (λ (m : Sight → Move). effectOf (m s) s) (λ i. λ z. as-asked (full h) z (op e) i)
+
+abbrev move : At tie.Else1 → Move
+move e = decide (op e) (full (head e)) (look (hub (head e)) (party (asked e)))
+
+-- What the call leaves.
+abbrev leaving : At tie.Else1 → Hub
+leaving e =
+    withPool (radiosAfter (hub (head e)) (party (asked e)) (answerOf (move e)))
+    (apply (hub (head e)) (look (hub (head e)) (party (asked e))) (move e))
+
+answered : (c : At tie.Else1)
+    → let h = head c in
+    respond (hub h) (requestAt (bytes h) (2 * h .loop .i))
+    ≡ record {
+      reply = record { party = party (asked c); answer = printed (answerOf (move c)) };
+      hub = leaving c;
+    }
+answered c =
+    ap (respond (hub (head c))) (request-is (asked c))
+    ∙ call-response _ _ _ (head c .loop .inv .0 .reachable) (pass c)
+
+long-unmapped : (X Y : Type 0) (f : X → Y) (l : List X) (n : ℕ) → length (map f l) ≡ n
+    → length l ≡ n
+long-unmapped X Y f l n e = sym (length-map l f) ∙ e
+
+full-slots : (s : At tie.Start) → length (s .args .t4) ≡ 32
+full-slots s = search (needs, long-unmapped)
+
+-- The effect, and the record that the tidying starts from.
+abbrev effect : At tie.After-is-untidy → Effect
+effect s = effected s .decide-for .result
+
+low : (c : At tie.After-decide-for) → head (entering c) .loop .ring .oldest ≤ 1000000
+low c = omega (arith, admitted (entering c) .counts .oldest)
+
+turns-most : (c : At tie.After-decide-for) → c .decide-for .result .turns ≤ 256
+turns-most c =
+    let e = entering c in
+    let s = sight (seen c) in
+    few-turns (decide (op e) (full (head e)) s) s (c .decide-for .result) (effect-is c)
+
+abbrev untidied : At tie.After-is-untidy → Hub
+untidied s =
+    let h = head (within s) in
+    record {
+      opening = hub h .opening;
+      figures = effect s .figures;
+      oldest = h .loop .ring .oldest;
+      places = set (h .loop .ring .places) (ticketAt (seen (effected s))) (effect s .seat);
+      slots = writeSlot (woken (placed s) .if2 .slots) (party (asked (within s))) (effect s .slot);
+      pool = moving s .if3 .pool;
+    }
+
+woken-slots : (s : At tie.After-is-untidy)
+    → woken (placed s) .if2 .slots
+    ≡ writeSlot (head (within s) .loop .slots) (effect s .woken) (effect s .waiter)
+unfolding writeSlot
+woken-slots s =
+    let h = head (within s) in
+    ⊎-elim (λ w. w .2)
+    (λ w. w .1
+    ∙ nobody (h .loop .slots) (effect s .woken) (effect s .waiter)
+    (omega (arith, h .loop .inv .1, w .0 .left)))
+    (woken (placed s) .if2 .came)
+
+-- The answer moved a radio, on a hub with radios.
+moved-pool : (s : At tie.After-is-untidy)
+    → moving s .if3 .pool
+    ≡ radiosAfter (hub (head (within s))) (party (asked (within s))) (effect s .answer)
+moved-pool s =
+    ⊎-elim (λ w. with-radios _ _ _ _ _ (w .0 .taken) (w .2 ∙ w .1 .ensures))
+    (λ w. w .1 ∙ without-radios _ _ _ _ (w .0 .left)) (moving s .if3 .came)
+
+-- What is left, once it is tidied, is what the call leaves.
+leaves : (s : At tie.After-is-untidy) (u : Hub) → u ≡ tidiedBy (effect s .turns) (untidied s)
+    → u ≡ leaving (within s)
+unfolding readSlot
+leaves s u e =
+    let d = effected s in
+    let b = within s in
+    e
+    ∙ ap (λ (g : Hub). tidiedBy (effect s .turns) (withPool (untidied s .pool) g))
+    (stores (hub (head b)) (party (asked b)) _ (index (seen d)) (effect s) _ (woken-slots s))
+    ∙ left _ _ _ _ _ (reading (seen d)) (op b) (effect s) (effect-is d) (untidied s .pool) (moved-pool s)
+
+-- The slots stay as many.
+still-32 : (s : At tie.After-is-untidy) → length (untidied s .slots) ≡ 32
+still-32 s =
+    let b = within s in
+    still (head b .loop .slots) _ (effect s .woken) (party (asked b)) (effect s .waiter) (effect s .slot)
+    (woken-slots s)
+    ∙ head b .loop .inv .1
+
+-- What was written is what the call answers.
+replied-with : (s : At tie.After-is-untidy)
+    → let b = within s in
+    replying (moving s) .put-answer .last .1 .0
+    ≡ inForm (formOf (begun (head b) .args .form)) (frameOf (party (asked b)) (printed (answerOf (move b))))
+replied-with s =
+    let d = effected s in
+    let b = within s in
+    replying (moving s) .put-answer .ensures
+    ∙ ap (λ (a : Answer). inForm (formOf (begun (head b) .args .form)) (frameOf (party (asked b)) (printed a)))
+    (said _ _ _ _ _ (reading (seen d)) (op b) (effect s) (effect-is d))
+
+table-requires : At tie.Need-table-requires
+table-requires c κs = search needs
+
+loop-holds : At tie.Need-loop-holds
+loop-holds c =
+    let a = c .before .before .before .before in
+    (start _ _ _ _ _ _ (a .pre .1 .1 .0) (a .pre .0) (a .pre .1 .0) (a .pre .1 .1 .1), full-slots a)
+
+code-at-requires : At tie.Need-code-at-requires
+code-at-requires c κs = asks c
+
+party-at-requires : At tie.Need-party-at-requires
+party-at-requires c κs = asks (c .before)
+
+admit-requires : At tie.Need-admit-requires
+admit-requires c κs = search needs
+
+mul-put-refusal : At tie.Need-mul-put-refusal
+mul-put-refusal c = omega (arith, room-fits (turning (c .before .before .before .before .before)))
+
+put-refusal-requires : At tie.Need-put-refusal-requires
+put-refusal-requires c κs =
+    let t = turning (c .before .before .before .before .before) in
+    let h = t .before in
+    (h .before .table .ensures, omega (arith, room t, h .loop .inv .0 .width-is))
+
+add-i : At tie.Need-add-i
+add-i c =
+    let t = turning (c .before .before .before .before .before .before .before .before) in
+    omega (arith, t .loop-test .taken, begun (t .before) .fits .count)
+
+loop-less : At tie.Need-loop-less
+loop-less c = search needs
+
+loop-again : At tie.Need-loop-again
+loop-again c =
+    let p = c .before .before .before .before .before in
+    let d = p .before .before in
+    let t = turning (d .before) in
+    let h = t .before in
+    let u = h .loop .inv .0 in (
+      refused-one _ _ _ _ _ _ _ _ _ u (t .loop-test .taken) _ _ _
+          (ap (respond (hub h)) (request-is (d .before))
+          ∙ refused-response _ _ _ (u .reachable) _ (d .admit .ensures) (not-true _ (p .if1 .taken)))
+          (c .before .before .put-refusal .ensures) refl,
+      h .loop .inv .1,
+    )
+
+cast-own : At tie.Need-cast-own
+cast-own c = omega (arith, admitted c .party)
+
+mul-slot : At tie.Need-mul-slot
+mul-slot c = omega (arith, admitted c .party)
+
+array-copy-out-slot : At tie.Need-array-copy-out-slot
+array-copy-out-slot c = omega (arith, admitted c .party)
+
+seat-index-requires : At tie.Need-seat-index-requires
+seat-index-requires c κs = search needs
+
+mul-seat : At tie.Need-mul-seat
+mul-seat c = search needs
+
+element-copy-out-seat : At tie.Need-element-copy-out-seat
+element-copy-out-seat c = search needs
+
+waiter-at-requires : At tie.Need-waiter-at-requires
+waiter-at-requires c κs = search needs
+
+cast-near : At tie.Need-cast-near
+cast-near c = search needs
+
+mul-near : At tie.Need-mul-near
+mul-near c = search needs
+
+array-copy-out-near : At tie.Need-array-copy-out-near
+array-copy-out-near c = search needs
+
+array-read-kind : At tie.Need-array-read-kind
+array-read-kind c = omega (arith, admitted (entered c) .party)
+
+element-copy-out-radio : At tie.Need-element-copy-out-radio
+element-copy-out-radio c = omega (arith, admitted (entered c) .party)
+
+op-of-requires : At tie.Need-op-of-requires
+op-of-requires c κs = search needs
+
+full-for-requires : At tie.Need-full-for-requires
+full-for-requires c κs = let n = admitted (entered (c .before .before)) .counts in (n .oldest, n .issued)
+
+decide-for-requires : At tie.Need-decide-for-requires
+decide-for-requires c κs =
+    let n = admitted (entered (c .before .before .before)) .counts in
+    record { counter = n .counter; issued = n .issued; resumed = n .resumed }
+
+cast-slots : At tie.Need-cast-slots
+cast-slots c = search needs
+
+mul-slots : At tie.Need-mul-slots
+mul-slots c = search needs
+
+array-set-from-slots : At tie.Need-array-set-from-slots
+array-set-from-slots c = search needs
+
+mul-slots-2 : At tie.Need-mul-slots-2
+mul-slots-2 c = omega (arith, admitted (entering (decided (c .before))) .party)
+
+array-set-from-slots-2 : At tie.Need-array-set-from-slots-2
+array-set-from-slots-2 c = omega (arith, admitted (entering (decided (c .before))) .party)
+
+mul-put : At tie.Need-mul-put
+mul-put c = omega (arith, index (seen (effecting c)))
+
+element-set-from-put : At tie.Need-element-set-from-put
+element-set-from-put c = omega (arith, index (seen (effecting c)))
+
+mul-at : At tie.Need-mul-at
+mul-at c = omega (arith, room-fits (turning (asked (entering (effecting c)))))
+
+add-end : At tie.Need-add-end
+add-end c = omega (arith, room-fits (turning (asked (entering (effecting c)))))
+
+sub-put-answer : At tie.Need-sub-put-answer
+sub-put-answer c = search needs
+
+part-put-answer-start : At tie.Need-part-put-answer-start
+part-put-answer-start c = search needs
+
+part-put-answer-end : At tie.Need-part-put-answer-end
+part-put-answer-end c = omega (arith, room (turning (asked (entering (effecting (c .before))))))
+
+put-answer-requires : At tie.Need-put-answer-requires
+put-answer-requires c κs =
+    let e = turning (asked (entering (effecting (c .before .before)))) in (
+      e .before .before .table .ensures,
+      reply-part _ _ _ _ _ _ _ _ _ (e .before .loop .inv .0) (e .loop-test .taken),
+    )
+
+add-i-2 : At tie.Need-add-i-2
+add-i-2 c =
+    let t = turning (asked (entering (effecting (filled (c .before .before))))) in
+    omega (arith, t .loop-test .taken, begun (t .before) .fits .count)
+
+radios-after-requires : At tie.Need-radios-after-requires
+radios-after-requires c κs =
+    admitted (entering (effecting (filled (c .before .before .before)))) .store (c .if3 .taken)
+
+cast-ahead : At tie.Need-cast-ahead
+cast-ahead c = search needs
+
+mul-ahead : At tie.Need-mul-ahead
+mul-ahead c = search needs
+
+element-copy-out-ahead : At tie.Need-element-copy-out-ahead
+element-copy-out-ahead c = search needs
+
+cast-behind : At tie.Need-cast-behind
+cast-behind c = search needs
+
+mul-behind : At tie.Need-mul-behind
+mul-behind c = search needs
+
+element-copy-out-behind : At tie.Need-element-copy-out-behind
+element-copy-out-behind c = search needs
+
+is-untidy-requires : At tie.Need-is-untidy-requires
+is-untidy-requires c κs = search needs
+
+loop-less-2 : At tie.Need-loop-less-2
+loop-less-2 c = omega (arith, turning (asked (within (c .before))) .loop-test .taken)
+
+loop-again-2 : At tie.Need-loop-again-2
+unfolding readSeat writeSlot
+loop-again-2 c =
+    let s = c .before in
+    let b = within s in
+    let nothing =
+    tidy (effect s .turns) (ringOf (untidied s)) (sym (s .is-untidy .ensures) ∙ not-true _ (c .if4 .taken)) in (
+      responded _ _ _ _ _ _ _ _ _ (head b .loop .inv .0) (turning (asked b) .loop-test .taken) _ _ _
+          (answered b) (replied-with s) (leaves s _ (ap (withRing (untidied s)) nothing)),
+      still-32 s,
+    )
+
+reclaim-requires : At tie.Need-reclaim-requires
+reclaim-requires c κs = (low (effected (c .before)), turns-most (effected (c .before)))
+
+loop-less-3 : At tie.Need-loop-less-3
+loop-less-3 c = omega (arith, turning (asked (within (settled c))) .loop-test .taken)
+
+loop-again-3 : At tie.Need-loop-again-3
+unfolding writeSlot
+loop-again-3 c =
+    let s = settled c in
+    let b = within s in (
+      responded _ _ _ _ _ _ _ _ _ (head b .loop .inv .0) (turning (asked b) .loop-test .taken) _ _ _
+          (answered b) (replied-with s) (leaves s _ (ap (withRing (untidied s)) (c .reclaim .ensures))),
+      still-32 s,
+    )
+
+same-length : At tie.Need-same-length
+same-length c = search needs
+
+returns : At tie.Need-returns
+returns c =
+    let l = c .before in
+    let e = ended _ _ _ _ _ _ _ _ _ (l .before .loop .inv .0) (l .loop-test .left) in
+    (e .0, e .1)
+
+pub answer-in-turn-spec : {M : Type 1} → statement M
+answer-in-turn-spec =
+    tie.close
+    (tie.spec
+    Inv-loop
+    μ-loop
+    table-requires
+    loop-holds
+    code-at-requires
+    party-at-requires
+    admit-requires
+    mul-put-refusal
+    put-refusal-requires
+    add-i
+    loop-less
+    loop-again
+    cast-own
+    mul-slot
+    array-copy-out-slot
+    seat-index-requires
+    mul-seat
+    element-copy-out-seat
+    waiter-at-requires
+    cast-near
+    mul-near
+    array-copy-out-near
+    array-read-kind
+    element-copy-out-radio
+    op-of-requires
+    full-for-requires
+    decide-for-requires
+    cast-slots
+    mul-slots
+    array-set-from-slots
+    mul-slots-2
+    array-set-from-slots-2
+    mul-put
+    element-set-from-put
+    mul-at
+    add-end
+    sub-put-answer
+    part-put-answer-start
+    part-put-answer-end
+    put-answer-requires
+    add-i-2
+    radios-after-requires
+    cast-ahead
+    mul-ahead
+    element-copy-out-ahead
+    cast-behind
+    mul-behind
+    element-copy-out-behind
+    is-untidy-requires
+    loop-less-2
+    loop-again-2
+    reclaim-requires
+    loop-less-3
+    loop-again-3
+    same-length
+    returns)
