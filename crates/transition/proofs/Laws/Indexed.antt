@@ -5,17 +5,13 @@ use mathlib.Core.Bool.{cond}
 use mathlib.Core.List.{List}
 use lib.Dec.{ltb}
 use lib.ListN.{length, getD, set}
-use Rattle.hub.specs.declared.record.Figures.{Figures}
 use Rattle.hub.specs.declared.record.Hub.{Hub}
 use Rattle.hub.specs.declared.record.PartySlot.{PartySlot}
 use Rattle.hub.specs.declared.record.Phase.{Phase}
-use Rattle.hub.specs.Calls.{ringOf}
 use Rattle.hub.specs.Phases.{byWaiter, ticketOf}
 use Rattle.hub.specs.Record.{PARTIES, emptySeat, freeSlot, readSlot, writeSlot}
-use Rattle.hub.specs.Ring.{PLACES, Ring, readSeat, writeSeat, skip, retire}
-use Rattle.hub.specs.Table.{withResumed}
+use Rattle.hub.specs.Ring.{PLACES, readSeat, writeSeat}
 use Rattle.effects.specs.declared.effect.Effect.{Effect}
-use Rattle.transition.specs.Tidied.{tidiedBy}
 use Rattle.transition.proofs.Laws.Sight.{Reads}
 use Rattle.transition.proofs.Laws.Stored.{made, stored}
 
@@ -42,32 +38,3 @@ module _ (h : Hub) (p i : ℕ) (at : i ≡ ticketOf (readSlot (h .slots) p .phas
   stores e l el =
       ap₂ (made h (e .figures)) (ap (λ (j : ℕ). set (h .places) j (e .seat)) at)
       (ap (λ (k : List PartySlot). writeSlot k p (e .slot)) el)
-
--- The tidying in two loops: the first moves the next ticket to resume, the second the oldest.
-pub tidies : (u : Hub) (k : ℕ) (f : Figures) (s t : Ring) → f ≡ withResumed (t .resumed) (u .figures)
-    → s ≡ skip k (ringOf u) → t ≡ retire k s
-    → record {
-      opening = u .opening;
-      figures = f;
-      oldest = t .oldest;
-      places = t .places;
-      slots = u .slots;
-      pool = u .pool;
-    } ≡ tidiedBy k u
-tidies u k f s t ef es et =
-    ap (λ (f : Figures). record {
-      opening = u .opening;
-      figures = f;
-      oldest = t .oldest;
-      places = t .places;
-      slots = u .slots;
-      pool = u .pool;
-    }) ef
-    ∙ ap (λ (t : Ring). record {
-      opening = u .opening;
-      figures = withResumed (t .resumed) (u .figures);
-      oldest = t .oldest;
-      places = t .places;
-      slots = u .slots;
-      pool = u .pool;
-    }) (et ∙ ap (retire k) es)
