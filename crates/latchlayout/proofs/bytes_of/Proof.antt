@@ -79,23 +79,34 @@ five a b c d e = simp append-assoc
 
 returns : tie.Need-returns
 returns c =
-    let h = c .before .before .before .before .before .before .before .before .before .before .before .before .before .before .before .before .before .before .before .before .before .before .before .before .before .args .latch in
+    let at-put-few2 = c .before in
+    let at-marks-of = at-put-few2 .before in
+    let at-put-few = at-marks-of .before .before .before in
+    let at-lefts-of = at-put-few .before in
+    let at-put-bytes-at3 = at-lefts-of .before .before .before in
+    let at-phase-bytes = at-put-bytes-at3 .before .before .before in
+    let at-put-bytes-at2 = at-phase-bytes .before .before .before in
+    let at-place-bytes = at-put-bytes-at2 .before .before .before in
+    let at-put-bytes-at = at-place-bytes .before .before .before in
+    let at-figure-bytes = at-put-bytes-at .before .before .before in
+    let start = at-figure-bytes .before in
+    let h = start .args .latch in
     let w1 =
     next 1523 (replicate 1523 0) 0 19 [] _ _ _ (nothing 1523 _ refl) (omega arith)
-    (c .before .before .before .before .before .before .before .before .before .before .before .before .before .before .before .before .before .before .before .before .before .before .before .before .figure-bytes .ensures) (figure-size (c .before .before .before .before .before .before .before .before .before .before .before .before .before .before .before .before .before .before .before .before .before .before .before .before))
-    (c .before .before .before .before .before .before .before .before .before .before .before .before .before .before .before .before .before .before .before .before .before .put-bytes-at .ensures) in
+    (at-figure-bytes .figure-bytes .ensures) (figure-size at-figure-bytes)
+    (at-put-bytes-at .put-bytes-at .ensures) in
     let w2 =
-    next 1523 _ 19 1280 _ _ _ _ w1 (omega arith) (c .before .before .before .before .before .before .before .before .before .before .before .before .before .before .before .before .before .before .place-bytes .ensures) (place-size (c .before .before .before .before .before .before .before .before .before .before .before .before .before .before .before .before .before .before))
-    (c .before .before .before .before .before .before .before .before .before .before .before .before .before .before .before .put-bytes-at2 .ensures) in
+    next 1523 _ 19 1280 _ _ _ _ w1 (omega arith) (at-place-bytes .place-bytes .ensures) (place-size at-place-bytes)
+    (at-put-bytes-at2 .put-bytes-at2 .ensures) in
     let w3 =
-    next 1523 _ 1299 160 _ _ _ _ w2 (omega arith) (c .before .before .before .before .before .before .before .before .before .before .before .before .phase-bytes .ensures) (phase-size (c .before .before .before .before .before .before .before .before .before .before .before .before))
-    (c .before .before .before .before .before .before .before .before .before .put-bytes-at3 .ensures) in
-    let lefts = c .before .before .before .before .before .put-few .ensures in
+    next 1523 _ 1299 160 _ _ _ _ w2 (omega arith) (at-phase-bytes .phase-bytes .ensures) (phase-size at-phase-bytes)
+    (at-put-bytes-at3 .put-bytes-at3 .ensures) in
+    let lefts = at-put-few .put-few .ensures in
     let w4 =
-    next 1523 _ 1459 32 _ _ _ _ w3 (omega arith) (c .before .before .before .before .before .before .lefts-of .ensures) (lefts .1) (lefts .0) in
-    let marks = c .before .put-few2 .ensures in
+    next 1523 _ 1459 32 _ _ _ _ w3 (omega arith) (at-lefts-of .lefts-of .ensures) (lefts .1) (lefts .0) in
+    let marks = at-put-few2 .put-few2 .ensures in
     let w5 =
-    next 1523 _ 1491 32 _ _ _ _ w4 (omega arith) (c .before .before .marks-of .ensures) (marks .1) (marks .0) in
+    next 1523 _ 1491 32 _ _ _ _ w4 (omega arith) (at-marks-of .marks-of .ensures) (marks .1) (marks .0) in
     all-written 1523 _ 1523 _ w5 (omega arith)
     ∙ five (figureBytes h) (placeBytes (h .places)) (phaseBytes (h .slots)) (leftBytes (h .slots)) (markBytes (h .slots))
 

@@ -87,24 +87,36 @@ radio-size c = search needs
 
 returns : tie.Need-returns
 returns c =
-    let h = c .before .before .before .before .before .before .before .before .before .before .before .before .before .before .before .before .before .before .before .before .before .before .before .before .before .before .before .before .before .before .args .hub in
+    let at-put-few2 = c .before in
+    let at-put-few = at-put-few2 .before .before .before .before in
+    let at-marks-of = at-put-few .before in
+    let at-put-bytes-at4 = at-marks-of .before .before .before in
+    let at-radio-bytes = at-put-bytes-at4 .before .before .before in
+    let at-put-bytes-at3 = at-radio-bytes .before .before in
+    let at-phase-bytes = at-put-bytes-at3 .before .before .before in
+    let at-put-bytes-at2 = at-phase-bytes .before .before .before in
+    let at-place-bytes = at-put-bytes-at2 .before .before .before in
+    let at-put-bytes-at = at-place-bytes .before .before .before in
+    let at-figure-bytes = at-put-bytes-at .before .before .before in
+    let start = at-figure-bytes .before in
+    let h = start .args .hub in
     let w1 =
     next 1881 (replicate 1881 0) 0 22 [] _ _ _ (nothing 1881 _ refl) (omega arith)
-    (c .before .before .before .before .before .before .before .before .before .before .before .before .before .before .before .before .before .before .before .before .before .before .before .before .before .before .before .before .before .figure-bytes .ensures) (figure-size (c .before .before .before .before .before .before .before .before .before .before .before .before .before .before .before .before .before .before .before .before .before .before .before .before .before .before .before .before .before))
-    (c .before .before .before .before .before .before .before .before .before .before .before .before .before .before .before .before .before .before .before .before .before .before .before .before .before .before .put-bytes-at .ensures) in
+    (at-figure-bytes .figure-bytes .ensures) (figure-size at-figure-bytes)
+    (at-put-bytes-at .put-bytes-at .ensures) in
     let w2 =
-    next 1881 _ 22 1280 _ _ _ _ w1 (omega arith) (c .before .before .before .before .before .before .before .before .before .before .before .before .before .before .before .before .before .before .before .before .before .before .before .place-bytes .ensures) (place-size (c .before .before .before .before .before .before .before .before .before .before .before .before .before .before .before .before .before .before .before .before .before .before .before))
-    (c .before .before .before .before .before .before .before .before .before .before .before .before .before .before .before .before .before .before .before .before .put-bytes-at2 .ensures) in
+    next 1881 _ 22 1280 _ _ _ _ w1 (omega arith) (at-place-bytes .place-bytes .ensures) (place-size at-place-bytes)
+    (at-put-bytes-at2 .put-bytes-at2 .ensures) in
     let w3 =
-    next 1881 _ 1302 160 _ _ _ _ w2 (omega arith) (c .before .before .before .before .before .before .before .before .before .before .before .before .before .before .before .before .before .phase-bytes .ensures) (phase-size (c .before .before .before .before .before .before .before .before .before .before .before .before .before .before .before .before .before))
-    (c .before .before .before .before .before .before .before .before .before .before .before .before .before .before .put-bytes-at3 .ensures) in
+    next 1881 _ 1302 160 _ _ _ _ w2 (omega arith) (at-phase-bytes .phase-bytes .ensures) (phase-size at-phase-bytes)
+    (at-put-bytes-at3 .put-bytes-at3 .ensures) in
     let w4 =
-    next 1881 _ 1462 355 _ _ _ _ w3 (omega arith) (c .before .before .before .before .before .before .before .before .before .before .before .before .radio-bytes .ensures) (radio-size (c .before .before .before .before .before .before .before .before .before .before .before .before))
-    (c .before .before .before .before .before .before .before .before .before .put-bytes-at4 .ensures) in
-    let marks = c .before .before .before .before .before .put-few .ensures in
+    next 1881 _ 1462 355 _ _ _ _ w3 (omega arith) (at-radio-bytes .radio-bytes .ensures) (radio-size at-radio-bytes)
+    (at-put-bytes-at4 .put-bytes-at4 .ensures) in
+    let marks = at-put-few .put-few .ensures in
     let w5 =
-    next 1881 _ 1817 32 _ _ _ _ w4 (omega arith) (c .before .before .before .before .before .before .marks-of .ensures) (marks .1) (marks .0) in
-    let kinds = c .before .put-few2 .ensures in
+    next 1881 _ 1817 32 _ _ _ _ w4 (omega arith) (at-marks-of .marks-of .ensures) (marks .1) (marks .0) in
+    let kinds = at-put-few2 .put-few2 .ensures in
     let w6 = next 1881 _ 1849 32 _ _ _ _ w5 (omega arith) refl (kinds .1) (kinds .0) in
     all-written 1881 _ 1881 _ w6 (omega arith) ∙ six (figureBytes h) (placeBytes (h .places)) (phaseBytes (h .slots))
     (radioBytes (h .opening) (h .slots) (h .places) (h .pool)) (markBytes (h .slots)) (h .opening .kinds)

@@ -53,9 +53,35 @@ returns-14 c = search needs
 returns-15 : tie.Need-returns-15
 returns-15 c =
     let n = c .before .args .name in
-    let r = c .match .rest in
-    sym (List·getD-eq-default (namedPhases (c .before .args .t)) _
-    (up 13 n (up 12 n (up 11 n (up 10 n (up 9 n (up 8 n (up 7 n (up 6 n (up 5 n (up 4 n (up 3 n (up 2 n (up 1 n (up 0 n (omega arith) (r .0 .0 .0 .0 .0 .0 .0 .0 .0 .0 .0 .0 .0 .1)) (r .0 .0 .0 .0 .0 .0 .0 .0 .0 .0 .0 .0 .1)) (r .0 .0 .0 .0 .0 .0 .0 .0 .0 .0 .0 .1)) (r .0 .0 .0 .0 .0 .0 .0 .0 .0 .0 .1)) (r .0 .0 .0 .0 .0 .0 .0 .0 .0 .1)) (r .0 .0 .0 .0 .0 .0 .0 .0 .1)) (r .0 .0 .0 .0 .0 .0 .0 .1)) (r .0 .0 .0 .0 .0 .0 .1)) (r .0 .0 .0 .0 .0 .1)) (r .0 .0 .0 .0 .1)) (r .0 .0 .0 .1)) (r .0 .0 .1)) (r .0 .1)) (r .1)))
+    let r13 = c .match .rest in
+    let r12 = r13 .0 in
+    let r11 = r12 .0 in
+    let r10 = r11 .0 in
+    let r9 = r10 .0 in
+    let r8 = r9 .0 in
+    let r7 = r8 .0 in
+    let r6 = r7 .0 in
+    let r5 = r6 .0 in
+    let r4 = r5 .0 in
+    let r3 = r4 .0 in
+    let r2 = r3 .0 in
+    let r1 = r2 .0 in
+    let r0 = r1 .0 in
+    let u0 = up 0 n (omega arith) (r0 .1) in
+    let u1 = up 1 n u0 (r1 .1) in
+    let u2 = up 2 n u1 (r2 .1) in
+    let u3 = up 3 n u2 (r3 .1) in
+    let u4 = up 4 n u3 (r4 .1) in
+    let u5 = up 5 n u4 (r5 .1) in
+    let u6 = up 6 n u5 (r6 .1) in
+    let u7 = up 7 n u6 (r7 .1) in
+    let u8 = up 8 n u7 (r8 .1) in
+    let u9 = up 9 n u8 (r9 .1) in
+    let u10 = up 10 n u9 (r10 .1) in
+    let u11 = up 11 n u10 (r11 .1) in
+    let u12 = up 12 n u11 (r12 .1) in
+    let u13 = up 13 n u12 (r13 .1) in
+    sym (List·getD-eq-default (namedPhases (c .before .args .t)) _ u13)
   where
     up : (k m : ℕ) → k ≤ m → (m ≡ k → ⊥) → suc k ≤ m
     up k m h e = omega arith

@@ -74,26 +74,36 @@ put-bytes-at-requires-5 c κs = search needs
 
 returns : tie.Need-returns
 returns c =
-    let h = c .before .before .before .before .before .before .before .before .before .before .before .before .before .before .before .before .before .before .before .before .before .before .before .before .before .before .before .args .latch in
+    let at-put-bytes-at5 = c .before in
+    let at-number-bytes4 = at-put-bytes-at5 .before .before .before in
+    let at-put-bytes-at4 = at-number-bytes4 .before .before in
+    let at-number-bytes3 = at-put-bytes-at4 .before .before .before in
+    let at-put-bytes-at3 = at-number-bytes3 .before .before in
+    let at-number-bytes2 = at-put-bytes-at3 .before .before .before in
+    let at-put-bytes-at2 = at-number-bytes2 .before .before in
+    let at-number-bytes = at-put-bytes-at2 .before .before .before in
+    let at-put-bytes-at = at-number-bytes .before .before in
+    let start = at-put-bytes-at .before .before .before .before .before .before in
+    let h = start .args .latch in
     let w1 =
     next 19 (replicate 19 0) 0 3 [] (h .parties ∷ h .figures .count % 256 ∷ h .figures .waiters % 256 ∷ []) _ _
-    (nothing 19 _ refl) (omega arith) refl refl (c .before .before .before .before .before .before .before .before .before .before .before .before .before .before .before .before .before .before .before .before .before .put-bytes-at .ensures) in
-    let e2 = c .before .before .before .before .before .before .before .before .before .before .before .before .before .before .before .before .before .before .before .number-bytes .ensures in
+    (nothing 19 _ refl) (omega arith) refl refl (at-put-bytes-at .put-bytes-at .ensures) in
+    let e2 = at-number-bytes .number-bytes .ensures in
     let w2 =
     next 19 _ 3 4 _ _ _ _ w1 (omega arith) e2 (ap length e2)
-    (c .before .before .before .before .before .before .before .before .before .before .before .before .before .before .before .before .put-bytes-at2 .ensures) in
-    let e3 = c .before .before .before .before .before .before .before .before .before .before .before .before .before .before .number-bytes2 .ensures in
+    (at-put-bytes-at2 .put-bytes-at2 .ensures) in
+    let e3 = at-number-bytes2 .number-bytes2 .ensures in
     let w3 =
     next 19 _ 7 4 _ _ _ _ w2 (omega arith) e3 (ap length e3)
-    (c .before .before .before .before .before .before .before .before .before .before .before .put-bytes-at3 .ensures) in
-    let e4 = c .before .before .before .before .before .before .before .before .before .number-bytes3 .ensures in
+    (at-put-bytes-at3 .put-bytes-at3 .ensures) in
+    let e4 = at-number-bytes3 .number-bytes3 .ensures in
     let w4 =
     next 19 _ 11 4 _ _ _ _ w3 (omega arith) e4 (ap length e4)
-    (c .before .before .before .before .before .before .put-bytes-at4 .ensures) in
-    let e5 = c .before .before .before .before .number-bytes4 .ensures in
+    (at-put-bytes-at4 .put-bytes-at4 .ensures) in
+    let e5 = at-number-bytes4 .number-bytes4 .ensures in
     let w5 =
     next 19 _ 15 4 _ _ _ _ w4 (omega arith) e5 (ap length e5)
-    (c .before .put-bytes-at5 .ensures) in
+    (at-put-bytes-at5 .put-bytes-at5 .ensures) in
     all-written 19 _ 19 _ w5 (omega arith)
 
 pub figure-bytes-spec : {M : Type 1} → statement M

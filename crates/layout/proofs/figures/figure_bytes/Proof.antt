@@ -90,34 +90,47 @@ bits c = search needs
 
 returns : tie.Need-returns
 returns c =
-    let h = c .before .before .before .before .before .before .before .before .before .before .before .before .before .before .before .before .before .before .before .before .before .before .before .before .before .before .before .before .before .before .before .before .args .hub in
+    let at-put-bytes-at6 = c .before in
+    let at-number-bytes5 = at-put-bytes-at6 .before .before .before in
+    let at-put-bytes-at5 = at-number-bytes5 .before .before in
+    let at-number-bytes4 = at-put-bytes-at5 .before .before .before in
+    let at-put-bytes-at4 = at-number-bytes4 .before .before in
+    let at-number-bytes3 = at-put-bytes-at4 .before .before .before in
+    let at-put-bytes-at3 = at-number-bytes3 .before .before in
+    let at-number-bytes2 = at-put-bytes-at3 .before .before .before in
+    let at-put-bytes-at2 = at-number-bytes2 .before .before in
+    let at-number-bytes = at-put-bytes-at2 .before .before .before in
+    let at-twos-complement = at-number-bytes .before in
+    let at-put-bytes-at = at-twos-complement .before .before .before in
+    let start = at-put-bytes-at .before .before .before .before in
+    let h = start .args .hub in
     let w1 =
     next 22 (replicate 22 0) 0 2 [] (h .opening .permits ∷ h .opening .parties ∷ []) _ _ (nothing 22 _ refl)
-    (omega arith) refl refl (c .before .before .before .before .before .before .before .before .before .before .before .before .before .before .before .before .before .before .before .before .before .before .before .before .before .before .before .before .put-bytes-at .ensures) in
+    (omega arith) refl refl (at-put-bytes-at .put-bytes-at .ensures) in
     let counter =
-    c .before .before .before .before .before .before .before .before .before .before .before .before .before .before .before .before .before .before .before .before .before .before .before .before .number-bytes .ensures
+    at-number-bytes .number-bytes .ensures
     ∙ ap fourOf
-    (c .before .before .before .before .before .before .before .before .before .before .before .before .before .before .before .before .before .before .before .before .before .before .before .before .before .twos-complement .ensures
-    ∙ ap twosComplement (toZ-ofZ (bits (c .before .before .before .before .before .before .before .before .before .before .before .before .before .before .before .before .before .before .before .before .before .before .before .before .before .before .before .before .before .before .before .before)))) in
+    (at-twos-complement .twos-complement .ensures
+    ∙ ap twosComplement (toZ-ofZ (bits start))) in
     let w2 =
     next 22 _ 2 4 _ _ _ _ w1 (omega arith) counter (ap length counter)
-    (c .before .before .before .before .before .before .before .before .before .before .before .before .before .before .before .before .before .before .before .before .before .put-bytes-at2 .ensures) in
-    let e3 = c .before .before .before .before .before .before .before .before .before .before .before .before .before .before .before .before .before .before .before .number-bytes2 .ensures in
+    (at-put-bytes-at2 .put-bytes-at2 .ensures) in
+    let e3 = at-number-bytes2 .number-bytes2 .ensures in
     let w3 =
     next 22 _ 6 4 _ _ _ _ w2 (omega arith) e3 (ap length e3)
-    (c .before .before .before .before .before .before .before .before .before .before .before .before .before .before .before .before .put-bytes-at3 .ensures) in
-    let e4 = c .before .before .before .before .before .before .before .before .before .before .before .before .before .before .number-bytes3 .ensures in
+    (at-put-bytes-at3 .put-bytes-at3 .ensures) in
+    let e4 = at-number-bytes3 .number-bytes3 .ensures in
     let w4 =
     next 22 _ 10 4 _ _ _ _ w3 (omega arith) e4 (ap length e4)
-    (c .before .before .before .before .before .before .before .before .before .before .before .put-bytes-at4 .ensures) in
-    let e5 = c .before .before .before .before .before .before .before .before .before .number-bytes4 .ensures in
+    (at-put-bytes-at4 .put-bytes-at4 .ensures) in
+    let e5 = at-number-bytes4 .number-bytes4 .ensures in
     let w5 =
     next 22 _ 14 4 _ _ _ _ w4 (omega arith) e5 (ap length e5)
-    (c .before .before .before .before .before .before .put-bytes-at5 .ensures) in
-    let e6 = c .before .before .before .before .number-bytes5 .ensures in
+    (at-put-bytes-at5 .put-bytes-at5 .ensures) in
+    let e6 = at-number-bytes5 .number-bytes5 .ensures in
     let w6 =
     next 22 _ 18 4 _ _ _ _ w5 (omega arith) e6 (ap length e6)
-    (c .before .put-bytes-at6 .ensures) in
+    (at-put-bytes-at6 .put-bytes-at6 .ensures) in
     all-written 22 _ 22 _ w6 (omega arith)
 
 pub figure-bytes-spec : {M : Type 1} → statement M

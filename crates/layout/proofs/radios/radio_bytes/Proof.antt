@@ -24,7 +24,7 @@ returns c =
     let named = a .opening .named in
     sym (chosen named
     ((1 ∷ []) ++ a .opening .radios ++ handsShown (a .slots) (a .pool .hands) ++ laidShown (a .places) (a .pool .laid)
-    ++ (0 ∷ a .pool .stored % 256 ∷ []) ++ inOrder (a .pool .store) (a .pool .first) (a .pool .stored)) _
+    ++ (0 ∷ a .pool .stored % 256 ∷ []) ++ inOrder (a .pool .store) (a .pool .first) (a .pool .stored)) (replicate 355 0)
     (not-true named (c .if1 .taken)))
 
 slice-aggregate-put-bytes-at : tie.Need-slice-aggregate-put-bytes-at
@@ -86,28 +86,39 @@ put-few-requires-3 c κs = search needs
 
 returns-2 : tie.Need-returns-2
 returns-2 c =
-    let a = c .before .before .before .before .before .before .before .before .before .before .before .before .before .before .before .before .before .before .before .before .before .before .before .before .before .before .before .before .before .before .before .args in
+    let at-put-few3 = c .before in
+    let at-in-order = at-put-few3 .before in
+    let at-put-bytes-at3 = at-in-order .before .before .before .before in
+    let at-put-bytes-at2 = at-put-bytes-at3 .before .before .before .before .before in
+    let at-laid-shown = at-put-bytes-at2 .before .before .before in
+    let at-put-few2 = at-laid-shown .before .before .before in
+    let at-hands-shown = at-put-few2 .before in
+    let at-put-few = at-hands-shown .before .before .before .before in
+    let at-put-bytes-at = at-put-few .before .before .before .before in
+    let at-if1 = at-put-bytes-at .before .before .before in
+    let start = at-if1 .before .before in
+    let a = start .args in
     let q = a .pool in
     let w1 =
     next 355 (replicate 355 0) 0 1 [] (1 ∷ []) _ _ (nothing 355 _ refl) (omega arith) refl refl
-    (c .before .before .before .before .before .before .before .before .before .before .before .before .before .before .before .before .before .before .before .before .before .before .before .before .before .before .put-bytes-at .ensures) in
-    let radios = c .before .before .before .before .before .before .before .before .before .before .before .before .before .before .before .before .before .before .before .before .before .before .put-few .ensures in
+    (at-put-bytes-at .put-bytes-at .ensures) in
+    let radios = at-put-few .put-few .ensures in
     let w2 = next 355 _ 1 32 _ _ _ _ w1 (omega arith) refl (radios .1) (radios .0) in
-    let hands = c .before .before .before .before .before .before .before .before .before .before .before .before .before .before .before .before .before .put-few2 .ensures in
+    let hands = at-put-few2 .put-few2 .ensures in
     let w3 =
-    next 355 _ 33 32 _ _ _ _ w2 (omega arith) (c .before .before .before .before .before .before .before .before .before .before .before .before .before .before .before .before .before .before .hands-shown .ensures) (hands .1) (hands .0) in
+    next 355 _ 33 32 _ _ _ _ w2 (omega arith) (at-hands-shown .hands-shown .ensures) (hands .1) (hands .0) in
     let w4 =
-    next 355 _ 65 256 _ _ _ _ w3 (omega arith) (c .before .before .before .before .before .before .before .before .before .before .before .before .before .before .laid-shown .ensures) (lying (c .before .before .before .before .before .before .before .before .before .before .before .before .before .before))
-    (c .before .before .before .before .before .before .before .before .before .before .before .put-bytes-at2 .ensures) in
+    next 355 _ 65 256 _ _ _ _ w3 (omega arith) (at-laid-shown .laid-shown .ensures) (lying at-laid-shown)
+    (at-put-bytes-at2 .put-bytes-at2 .ensures) in
     let w5 =
     next 355 _ 321 2 _ (0 ∷ q .stored % 256 ∷ []) _ _ w4 (omega arith) refl refl
-    (c .before .before .before .before .before .before .put-bytes-at3 .ensures) in
-    let stored = c .before .put-few3 .ensures in
-    let w6 = next 355 _ 323 32 _ _ _ _ w5 (omega arith) (c .before .before .in-order .ensures) (stored .1) (stored .0) in
+    (at-put-bytes-at3 .put-bytes-at3 .ensures) in
+    let stored = at-put-few3 .put-few3 .ensures in
+    let w6 = next 355 _ 323 32 _ _ _ _ w5 (omega arith) (at-in-order .in-order .ensures) (stored .1) (stored .0) in
     all-written 355 _ 355 _ w6 (omega arith)
     ∙ six (1 ∷ []) (a .opening .radios) (handsShown (a .slots) (q .hands)) (laidShown (a .places) (q .laid))
     (0 ∷ q .stored % 256 ∷ []) (inOrder (q .store) (q .first) (q .stored))
-    ∙ sym (chosen (a .opening .named) _ (replicate 355 0) (not-false (a .opening .named) (c .before .before .before .before .before .before .before .before .before .before .before .before .before .before .before .before .before .before .before .before .before .before .before .before .before .before .before .before .before .if1 .left)))
+    ∙ sym (chosen (a .opening .named) _ (replicate 355 0) (not-false (a .opening .named) (at-if1 .if1 .left)))
 
 pub radio-bytes-spec : {M : Type 1} → statement M
 radio-bytes-spec =
