@@ -1,54 +1,38 @@
-// How the programs of cases print: an answer as a line of seven bytes, and what a record shows.
+// How the programs of cases print bytes, and an answer, as a line.
 
 use encoding::answer::print_of;
-use encoding::answer::put;
+use encoding::pairs::table;
 use hub::answers::Answer;
-use hub::record::Hub;
-use transition::counts::counts;
+use writer::text::put_line;
+ghost use Prim.Native.Nat.{_+_, _*_};
+ghost use mathlib.Core.Path.{_≡_};
+ghost use lib.ListN.{length};
+ghost use Rattle.hub.specs.Answers.{printed};
+ghost use Rattle.encoding.specs.Frame.{frameOf};
+ghost use Rattle.encoding.specs.Hex.{textOf};
 
-// A hexadecimal digit, in capitals.
-fn digit(n: u8) -> u8 {
-    let d = n % 16;
-    if d < 10 {
-        return 48 + d;
-    }
-    55 + d
-}
-
-pub fn print_byte(b: u8) {
-    io::write_all(1, &[digit(b / 16), digit(b)]);
-}
-
-// The first answers of a buffer, seven bytes each, one to a line.
-pub fn print_lines(answers: &[u8], count: usize) {
+// Bytes of any number as a line of two characters each.
+pub fn put_text(out: &mut [u8], bytes: &[u8])
+    requires { ⌜ length (now out) ≡ 2 * length (now bytes) + 1 ⌝ }
+    ensures { λ r. ⌜ now (out .exit) ≡ textOf (now (bytes .entry)) ⌝ }
+{
+    let pairs = table();
     let mut i: usize = 0;
-    while i < answers.len() {
-        if count <= i / 7 {
-            return;
-        }
-        print_byte(answers[i]);
-        if i % 7 == 6 {
-            io::write_all(1, b"\n");
-        }
+    let mut at: usize = 0;
+    while i < bytes.len() {
+        let said = pairs[bytes[i] as usize];
+        out[at] = (said % 256) as u8;
+        out[at + 1] = (said / 256 % 256) as u8;
+        at += 2;
         i += 1;
     }
+    out[at] = 0x0A;
 }
 
-pub fn print_answer(party: u8, answer: Answer) {
-    let mut line = [0u8; 7];
-    put(&mut line, party, print_of(answer));
-    print_lines(&line, 1);
-}
-
-// What a record shows: held, at the counter, on the way, waiting.
-pub fn print_counts(hub: Hub) {
-    let c = counts(hub);
-    io::print_decimal(1, c.held as u64);
-    io::write_all(1, b" held, ");
-    io::print_decimal(1, c.available as u64);
-    io::write_all(1, b" at the counter, ");
-    io::print_decimal(1, c.onway as u64);
-    io::write_all(1, b" on the way, ");
-    io::print_decimal(1, c.waiting as u64);
-    io::write_all(1, b" waiting\n");
+pub fn answer_line(party: u8, answer: Answer) -> [u8; 15]
+    ensures { λ r. ⌜ r ≡ textOf (frameOf party (printed answer)) ⌝ }
+{
+    let mut line = [0u8; 15];
+    put_line(&mut line, party, print_of(answer));
+    line
 }

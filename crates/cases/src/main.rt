@@ -2,13 +2,35 @@
 // Each run prints a line for its opening and one for each call: code, party, woken party, number.
 // The expected output, beside this program, was written by hand from the paper.
 
-use caselines::print_answer;
-use caselines::print_lines;
+use caselines::answer_line;
+use caselines::put_text;
 use hub::answers::Answer;
 use hub::opening::sized;
 use run::Ran;
 use run::hub_run;
 use run::run_calls;
+
+fn print_answer(party: u8, answer: Answer) {
+    let line = answer_line(party, answer);
+    io::write_all(1, &line);
+}
+
+// The first answers of a buffer, seven bytes each, one to a line.
+fn print_lines(answers: &[u8], count: usize) {
+    let mut at: usize = 0;
+    let mut i: usize = 0;
+    while i < count {
+        if answers.len() - at < 7 {
+            return;
+        }
+        let end = at + 7;
+        let mut line = [0u8; 15];
+        put_text(&mut line, &answers[at..end]);
+        io::write_all(1, &line);
+        at = end;
+        i += 1;
+    }
+}
 
 fn print_run(permits: u8, parties: u8, calls: &[u8]) {
     let mut out = [0u8; 224];
@@ -47,6 +69,7 @@ fn print_framed(opening: &[u8], calls: &[u8]) {
     }
     io::write_all(1, b"\n");
 }
+
 // Permits given back: to nobody, to a party that waits, to one that will.
 fn handed_on() {
     // the run of the paper
@@ -183,46 +206,62 @@ fn own_kinds() {
     );
 }
 
-// Refusals 15, 16 and 17, and those before them.
-fn refused_kinds() {
-    // 15: 1, 31 and 33 more bytes, and 1 more than the radios; 01 01 01 is K 1 and n 1
+// 15: 1, 31 and 33 more bytes, and 1 more than the radios; 01 01 01 is K 1 and n 1.
+fn miscounted_kinds() {
     print_framed(b"\x01\x01\x03\x00", b"");
     print_framed(&[1; 34], b"");
     print_framed(&[1; 36], b"");
     print_framed(b"\x02\x02\x03\x0A\x0B\x00", b"");
-    // 31 with an unknown kind and no desk: 15
+}
+
+// 31 bytes with an unknown kind and no desk, after an opening of this code and K.
+fn one_too_few(code: u8, permits: u8) {
     let mut few = [1u8; 34];
+    few[0] = code;
+    few[1] = permits;
     few[33] = 4;
     print_framed(&few, b"");
-    // 32 doors: 17; the last of an unknown kind: 16; the last a desk, from n up: opened
+}
+
+// 31 doors, and the last of this kind.
+fn among_doors(permits: u8, parties: u8, kind: u8) {
     let mut doors = [1u8; 35];
+    doors[1] = permits;
+    doors[2] = parties;
+    doors[34] = kind;
     print_framed(&doors, b"");
-    doors[34] = 4;
-    print_framed(&doors, b"");
-    doors[34] = 0;
-    print_framed(&doors, b"");
+}
+
+// The radio 04 and this one, and 32 unknown kinds.
+fn with_unknown(radio: u8) {
+    let mut unknown = [4u8; 37];
+    unknown[0] = 0x02;
+    unknown[1] = 2;
+    unknown[2] = 3;
+    unknown[4] = radio;
+    print_framed(&unknown, b"");
+}
+
+// Refusals 15, 16 and 17, and those before them.
+fn refused_kinds() {
+    miscounted_kinds();
+    // 15, whatever the kinds are
+    one_too_few(0x01, 1);
+    // 32 doors: 17; the last of an unknown kind: 16; the last a desk, from n up: opened
+    among_doors(1, 1, 1);
+    among_doors(1, 1, 4);
+    among_doors(1, 1, 0);
     // 2, 3 and 14 before 15
     print_framed(b"\x01\x21\x21\x04", b"");
     print_framed(b"\x01\x20\x21\x04", b"");
     print_framed(b"\x02\x02\x03\x0A\x0A\x04", b"");
     // 2, 3 and 14 before 16
-    doors[34] = 4;
-    doors[1] = 33;
-    print_framed(&doors, b"");
-    doors[1] = 32;
-    doors[2] = 0;
-    print_framed(&doors, b"");
-    let mut unknown = [4u8; 37];
-    unknown[0] = 0x02;
-    unknown[1] = 2;
-    unknown[2] = 3;
-    print_framed(&unknown, b"");
-    unknown[4] = 5;
-    print_framed(&unknown, b"");
+    among_doors(33, 1, 4);
+    among_doors(32, 0, 4);
+    with_unknown(4);
+    with_unknown(5);
     // 31 bytes are too few for 32 radios: 12
-    few[0] = 0x02;
-    few[1] = 32;
-    print_framed(&few, b"");
+    one_too_few(0x02, 32);
 }
 
 fn main() {

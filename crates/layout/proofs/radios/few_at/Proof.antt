@@ -1,50 +1,47 @@
--- `few_at` reads within its bytes and ends: a byte is behind the loop each turn.
+-- `few_at` meets its contract: the bytes are copied.
 use borrow.Author.Needs.{needs}
-use Prim.Native.Nat.{_-_}
+use Prim.Native.Nat.{ℕ, _+_, _-_}
+use mathlib.Core.Path.{_≡_, ap, _∙_}
+use native.Mathlib.Omega.{arith}
+use lib.ListN.{take, drop}
 use Rattle.layout.proofs.radios.few_at.Statement.{statement}
 use Rattle.layout.proofs.radios.few_at.Tie as tie
 
-abbrev Inv-loop : tie.InvT-loop
-Inv-loop bytes at few₀ i₀ few i = Unit {0}
+add-end : tie.Need-add-end
+add-end c = search needs
 
-abbrev μ-loop : tie.MeasureT-loop
-μ-loop bytes at few₀ i₀ few i = 32 - i
+slice-aggregate-put-bytes : tie.Need-slice-aggregate-put-bytes
+slice-aggregate-put-bytes c = search needs
 
-loop-holds : tie.Need-loop-holds Inv-loop μ-loop
-loop-holds c = tt
+sub-put-bytes : tie.Need-sub-put-bytes
+sub-put-bytes c = search needs
 
-add-few : tie.Need-add-few Inv-loop μ-loop
-add-few c = search needs
+part-put-bytes-start : tie.Need-part-put-bytes-start
+part-put-bytes-start c = search needs
 
-element-copy-out-few : tie.Need-element-copy-out-few Inv-loop μ-loop
-element-copy-out-few c = search needs
+part-put-bytes-end : tie.Need-part-put-bytes-end
+part-put-bytes-end c = search needs
 
-array-write-few : tie.Need-array-write-few Inv-loop μ-loop
-array-write-few c = search needs
+put-bytes-requires : tie.Need-put-bytes-requires
+put-bytes-requires c κs = search needs
 
-add-i : tie.Need-add-i Inv-loop μ-loop
-add-i c = search needs
-
-loop-less : tie.Need-loop-less Inv-loop μ-loop
-loop-less c = search needs
-
-loop-again : tie.Need-loop-again Inv-loop μ-loop
-loop-again c = tt
-
-returns : tie.Need-returns Inv-loop μ-loop
-returns c = search needs
+returns : tie.Need-returns
+returns c =
+    let s = c .before .before .before .before .before in
+    c .before .put-bytes .ensures
+    ∙ ap (λ (n : ℕ). take n (drop (s .args .at) (s .args .bytes .now))) (wide (s .args .at))
+  where
+    wide : (n : ℕ) → n + 32 - n ≡ 32
+    wide n = omega arith
 
 pub few-at-spec : {M : Type 1} → statement M
 few-at-spec =
     tie.close
     (tie.spec
-    Inv-loop
-    μ-loop
-    loop-holds
-    add-few
-    element-copy-out-few
-    array-write-few
-    add-i
-    loop-less
-    loop-again
+    add-end
+    slice-aggregate-put-bytes
+    sub-put-bytes
+    part-put-bytes-start
+    part-put-bytes-end
+    put-bytes-requires
     returns)

@@ -1,0 +1,1 @@
+pub mod Text  -- bytes written as characters, one after another
