@@ -2,7 +2,7 @@
 use Prim.Native.Nat.{ℕ, _+_, _*_, _/_}
 use mathlib.Core.Bool.{Bool}
 use mathlib.Core.List.{List, [], _∷_, _++_}
-use lib.ListN.{length, getD, take, drop}
+use lib.ListN.{length, take, drop}
 use Rattle.hub.specs.declared.moves.Call.{Call}
 use Rattle.hub.specs.declared.record.Hub.{Hub}
 use Rattle.hub.specs.Answers.{printed}
@@ -14,13 +14,6 @@ use Rattle.run.specs.Bytes.{callsOf}
 -- 10 ask, 12 give up, 13 give back.
 abbrev pub isOperationCode : ℕ → Bool
 isOperationCode c = among (0x10 ∷ 0x12 ∷ 0x13 ∷ []) c
-
--- The operation of the i-th two bytes.
-abbrev pub codeAt : List ℕ → ℕ → ℕ
-codeAt l i = getD l (2 * i) 0
-
-abbrev pub partyAt : List ℕ → ℕ → ℕ
-partyAt l i = getD l (2 * i + 1) 0
 
 -- The three bytes of an answer: 20 or the refusal, the party that was woken, the steps taken.
 abbrev pub answerBytes : Operated → List ℕ

@@ -2,16 +2,13 @@
 // takes until everybody is at rest again. The steps are not walked: what they come to is stored. The record's
 // arrays and figures are locals meanwhile, altered in place, as in the crate batch; and no record is checked.
 
-mod wire; // operations and answers as bytes
+mod wire; // answers as bytes
 
-use crate::wire::code_at;
-use crate::wire::party_at;
 use crate::wire::put_at;
 use hub::record::Hub;
 use hub::record::Phase;
 use hub::record::Place;
 use hub::record::PlaceSlot;
-use hub::record::Pool;
 use hub::slots::empty_seat;
 use hub::slots::with_phase;
 use hub::slots::with_place;
@@ -19,19 +16,17 @@ use plan::Seen;
 use plan::is_full_for;
 use plan::place_for;
 use plan::plan_for;
-use plan::radio_by;
-use pool::moving::move_radio;
+use plan::radios_after;
 use transition::tidy::can_retire;
 use transition::tidy::can_skip;
+use turn::wire::code_at;
+use turn::wire::party_at;
 ghost use mathlib.Core.Path.{_≡_};
 ghost use mathlib.Core.Bool.{true, _&&_};
 ghost use Prim.Native.Nat.{_*_, _/_, _≤_};
 ghost use lib.Dec.{ltb};
 ghost use lib.ListN.{length};
-ghost use Rattle.hub.specs.Answers.{printed};
 ghost use Rattle.hub.specs.Phases.{isCancelled};
-ghost use Rattle.hub.specs.Radios.{moved};
-ghost use Rattle.plan.specs.Plan.{radioBy};
 ghost use Rattle.run.specs.Bytes.{wellFormed};
 ghost use Rattle.perform.specs.Bytes.{isOperationCode, written};
 ghost use Rattle.perform.specs.Rested.{Rested};
@@ -44,14 +39,6 @@ fn may_skip(skips: u32, seat: PlaceSlot, resumed: u32, end: u32) -> bool
         return false;
     }
     can_skip(seat, resumed, end)
-}
-
-// The radios of a hub that has some, after the operation.
-fn radios_after(code: u8, steps: u8, woken: u32, party: u8, pool: Pool) -> Pool
-    requires { ⌜ pool .stored ≤ 32 ⌝ }
-    ensures { λ r. ⌜ r ≡ moved (printed (radioBy code steps woken)) party pool ⌝ }
-{
-    move_radio(radio_by(code, steps, woken), party, pool)
 }
 
 // Performs the operations, two bytes each, on a hub at rest.

@@ -1,26 +1,10 @@
-// Operations as bytes, two each, and their answers, three each.
+// Answers as bytes, three each.
 
 ghost use mathlib.Core.Path.{_≡_};
 ghost use mathlib.Core.List.{[], _∷_};
 ghost use Prim.Native.Nat.{_*_, _+_, _%_, _≤_};
 ghost use lib.ListN.{length};
-ghost use Rattle.perform.specs.Bytes.{codeAt, partyAt, withAnswer};
-
-// The code of operation i.
-pub(crate) fn code_at(operations: &[u8], i: usize) -> u8
-    requires { ⌜ 2 * i + 2 ≤ length (now operations) ⌝ }
-    ensures { λ r. ⌜ r ≡ codeAt (now (operations .entry)) i ⌝ }
-{
-    operations[2 * i]
-}
-
-// Its party.
-pub(crate) fn party_at(operations: &[u8], i: usize) -> u8
-    requires { ⌜ 2 * i + 2 ≤ length (now operations) ⌝ }
-    ensures { λ r. ⌜ r ≡ partyAt (now (operations .entry)) i ⌝ }
-{
-    operations[2 * i + 1]
-}
+ghost use Rattle.perform.specs.Bytes.{withAnswer};
 
 // The three bytes of one answer.
 fn put(out: &mut [u8], code: u8, woken: u32, steps: u8)

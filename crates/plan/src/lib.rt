@@ -11,15 +11,19 @@ use hub::record::PartySlot;
 use hub::record::Phase;
 use hub::record::Place;
 use hub::record::PlaceSlot;
+use hub::record::Pool;
 use hub::slots::with_phase;
 use hub::slots::with_place;
+use pool::moving::move_radio;
 use transition::room::full_for;
 ghost use mathlib.Core.Path.{_≡_};
 ghost use mathlib.Core.Bool.{cond};
 ghost use lib.Dec.{eqb, leb};
 ghost use Prim.Native.Nat.{_%_, _<_, _≤_};
+ghost use Rattle.hub.specs.Answers.{printed};
 ghost use Rattle.hub.specs.Calls.{isFull};
 ghost use Rattle.hub.specs.Phases.{byWaiter, isFree, isHolding, isWaiting};
+ghost use Rattle.hub.specs.Radios.{moved};
 ghost use Rattle.hub.specs.Record.{MAX-BEGUN, withPlace};
 ghost use Rattle.hub.specs.Ring.{PLACES};
 ghost use Rattle.hub.specs.Table.{aboveZero, belowZero};
@@ -277,7 +281,7 @@ pub fn plan_for(code: u8, full: bool, s: Seen) -> Plan
 }
 
 // On a hub with radios: the answer that the radio goes by.
-pub fn radio_by(code: u8, steps: u8, woken: u32) -> Answer
+fn radio_by(code: u8, steps: u8, woken: u32) -> Answer
     ensures { λ r. ⌜ r ≡ radioBy code steps woken ⌝ }
 {
     if code == 0x10 {
@@ -296,4 +300,12 @@ pub fn radio_by(code: u8, steps: u8, woken: u32) -> Answer
         return Answer::Stored;
     }
     Answer::Accepted
+}
+
+// Who has which radio after the operation, on a hub with radios.
+pub fn radios_after(code: u8, steps: u8, woken: u32, party: u8, pool: Pool) -> Pool
+    requires { ⌜ pool .stored ≤ 32 ⌝ }
+    ensures { λ r. ⌜ r ≡ moved (printed (radioBy code steps woken)) party pool ⌝ }
+{
+    move_radio(radio_by(code, steps, woken), party, pool)
 }

@@ -5,7 +5,7 @@ use mathlib.Core.Bool.{true, false, true≢false}
 use mathlib.Core.List.{List, [], _∷_, _++_, append-assoc, append-nil}
 use native.Mathlib.Omega.{arith}
 use borrow.Rule.Slice.PartMut.{putMid}
-use lib.ListN.{length, take, drop, take-append-drop, length-drop}
+use lib.ListN.{length, getD, take, drop, take-append-drop, length-drop}
 use lib.Seq.{drop-drop}
 use Rattle.hub.specs.declared.moves.Call.{Call}
 use Rattle.hub.specs.declared.record.Hub.{Hub}
@@ -15,14 +15,17 @@ use Rattle.encoding.proofs.Laws.Parts.{parts, put-length, put-take, put-drop}
 use Rattle.operations.specs.Operation.{operated}
 use Rattle.run.specs.Bytes.{callsOf, wellFormed}
 use Rattle.run.proofs.Laws.Pairs.{one-formed, pair}
-use Rattle.perform.specs.Bytes.{answerBytes, answersTo, codeAt, isOperationCode, partyAt, withAnswer, written}
+use Rattle.perform.specs.Bytes.{answerBytes, answersTo, isOperationCode, withAnswer, written}
 use Rattle.perform.specs.Rested.{Rested}
 use Rattle.perform.proofs.Laws.Codes.{an-operation}
 use Rattle.perform.proofs.Laws.Rested.{rested-again}
 
 -- The operation of the i-th two bytes, as a call.
+abbrev pub codeAt : List ℕ → ℕ → ℕ
+codeAt l i = getD l (2 * i) 0
+
 abbrev pub callAt : List ℕ → ℕ → Call
-callAt l i = record { op = opOf (codeAt l i); party = partyAt l i }
+callAt l i = record { op = opOf (codeAt l i); party = getD l (2 * i + 1) 0 }
 
 -- Its answer stands in front of those that are still to come.
 one-answer : (h : Hub) (l : List ℕ) (i : ℕ) → i < length l / 2

@@ -4,8 +4,8 @@ use mathlib.Core.Path.{ap, _∙_}
 use Rattle.hub.specs.declared.answers.Answer.{Answer}
 use Rattle.hub.specs.Answers.{printed}
 use Rattle.hub.specs.Radios.{moved}
-use Rattle.perform.proofs.radios_after.Statement.{statement}
-use Rattle.perform.proofs.radios_after.Tie as tie
+use Rattle.plan.proofs.radios_after.Statement.{statement}
+use Rattle.plan.proofs.radios_after.Tie as tie
 
 radio-by-requires : tie.Need-radio-by-requires
 radio-by-requires c κs = search needs
