@@ -32,9 +32,8 @@ fn print_lines(answers: &[u8], count: usize) {
     }
 }
 
-fn print_run(permits: u8, parties: u8, calls: &[u8]) {
-    let mut out = [0u8; 224];
-    let ran = run_calls(sized(permits, parties), calls, &mut out);
+// How a run ended: one line.
+fn print_end(ran: Ran) {
     match ran {
         Ran::BadOpening => {
             io::write_all(1, b"no opening\n");
@@ -50,8 +49,23 @@ fn print_run(permits: u8, parties: u8, calls: &[u8]) {
         }
         Ran::Done => {
             print_answer(255, Answer::Opened);
-            print_lines(&out, calls.len() / 2);
         }
+    }
+}
+
+fn is_done(ran: Ran) -> bool {
+    match ran {
+        Ran::Done => true,
+        _ => false,
+    }
+}
+
+fn print_run(permits: u8, parties: u8, calls: &[u8]) {
+    let mut out = [0u8; 224];
+    let ran = run_calls(sized(permits, parties), calls, &mut out);
+    print_end(ran);
+    if is_done(ran) {
+        print_lines(&out, calls.len() / 2);
     }
     io::write_all(1, b"\n");
 }
@@ -68,6 +82,11 @@ fn print_framed(opening: &[u8], calls: &[u8]) {
         io::write_all(1, b"\n");
     }
     io::write_all(1, b"\n");
+}
+
+// An opening's frame without a call.
+fn print_opening(opening: &[u8]) {
+    print_framed(opening, b"");
 }
 
 // Permits given back: to nobody, to a party that waits, to one that will.
@@ -168,11 +187,11 @@ fn radios() {
 // Frames of openings that are refused, or none.
 fn refused_frames() {
     // refusals 14, 3 before it, 2; frames that are no opening
-    print_framed(b"\x02\x02\x03\x0A\x0A", b"");
-    print_framed(b"\x02\x02\x00\x0A\x0A", b"");
-    print_framed(b"\x01\x00\x03", b"");
-    print_framed(b"\x02\x02\x03\x0A", b"");
-    print_framed(b"\x10\x00", b"");
+    print_opening(b"\x02\x02\x03\x0A\x0A");
+    print_opening(b"\x02\x02\x00\x0A\x0A");
+    print_opening(b"\x01\x00\x03");
+    print_opening(b"\x02\x02\x03\x0A");
+    print_opening(b"\x10\x00");
     // malformed calls
     print_framed(b"\x01\x01\x03", b"\x15\x00");
 }
@@ -208,10 +227,10 @@ fn own_kinds() {
 
 // 15: 1, 31 and 33 more bytes, and 1 more than the radios; 01 01 01 is K 1 and n 1.
 fn miscounted_kinds() {
-    print_framed(b"\x01\x01\x03\x00", b"");
-    print_framed(&[1; 34], b"");
-    print_framed(&[1; 36], b"");
-    print_framed(b"\x02\x02\x03\x0A\x0B\x00", b"");
+    print_opening(b"\x01\x01\x03\x00");
+    print_opening(&[1; 34]);
+    print_opening(&[1; 36]);
+    print_opening(b"\x02\x02\x03\x0A\x0B\x00");
 }
 
 // 31 bytes with an unknown kind and no desk, after an opening of this code and K.
@@ -220,7 +239,7 @@ fn one_too_few(code: u8, permits: u8) {
     few[0] = code;
     few[1] = permits;
     few[33] = 4;
-    print_framed(&few, b"");
+    print_opening(&few);
 }
 
 // 31 doors, and the last of this kind.
@@ -229,7 +248,7 @@ fn among_doors(permits: u8, parties: u8, kind: u8) {
     doors[1] = permits;
     doors[2] = parties;
     doors[34] = kind;
-    print_framed(&doors, b"");
+    print_opening(&doors);
 }
 
 // The radio 04 and this one, and 32 unknown kinds.
@@ -239,7 +258,7 @@ fn with_unknown(radio: u8) {
     unknown[1] = 2;
     unknown[2] = 3;
     unknown[4] = radio;
-    print_framed(&unknown, b"");
+    print_opening(&unknown);
 }
 
 // Refusals 15, 16 and 17, and those before them.
@@ -252,9 +271,9 @@ fn refused_kinds() {
     among_doors(1, 1, 4);
     among_doors(1, 1, 0);
     // 2, 3 and 14 before 15
-    print_framed(b"\x01\x21\x21\x04", b"");
-    print_framed(b"\x01\x20\x21\x04", b"");
-    print_framed(b"\x02\x02\x03\x0A\x0A\x04", b"");
+    print_opening(b"\x01\x21\x21\x04");
+    print_opening(b"\x01\x20\x21\x04");
+    print_opening(b"\x02\x02\x03\x0A\x0A\x04");
     // 2, 3 and 14 before 16
     among_doors(33, 1, 4);
     among_doors(32, 0, 4);
