@@ -60,12 +60,18 @@ int main(void) {
     expect("nine bytes", enter(0x40, 200, 5, 0, 9), 12);
     expect("eleven bytes", enter(0x40, 1, 5, 0, 11), 12);
     expect("another code", enter(0x41, 200, 5, 0, 10), 12);
+    expect("a code one too low", enter(0x3F, 1, 5, 0, 10), 12);
     expect("no byte", enter(0x40, 1, 5, 0, 0), 12);
     expect("door 200", enter(0x40, 200, 0, 0, 10), 19);
+    expect("door 255", enter(0x40, 255, 5, 0, 10), 19);
+    expect("door 200, a lock that stands, another superseded", enter(0x40, 200, 0xFFFEFDFC, 1, 10), 19);
     expect("lock 0", enter(0x40, 1, 0, 7, 10), 20);
     expect("a lock that stands", enter(0x40, 1, 0xFFFEFDFC, 0, 10), 20);
     expect("a lock that stands there", enter(0x40, 0, 0x01020304, 0x01020304, 10), 20);
+    expect("a lock that stands, another superseded", enter(0x40, 0, 0xFFFEFDFC, 9, 10), 20);
     expect("another superseded", enter(0x40, 0, 5, 6, 10), 21);
+    expect("its bytes turned round", enter(0x40, 0, 5, 0x04030201, 10), 21);
+    expect("one superseded where none stands", enter(0x40, 1, 5, 6, 10), 21);
     expect("none superseded", enter(0x40, 0, 5, 0, 10), 21);
 
     // a book that no frames lead to, with one lock at two doors

@@ -1,7 +1,8 @@
-//! Records that no opening reaches: the same record and call to the proved program and to the
-//! second one, and the answer and the record left must be equal byte for byte. Usage: records
+//! Records that no opening reaches: some answered by hand, then the same record and call to the proved program and to
+//! the second one, and the answer and the record left must be equal byte for byte. Usage: records
 //! PROVED SECOND RECORDS. `records --sample` writes the few cases of crates/probe/stdin.
 
+mod by_hand;
 mod clauses;
 // the comparisons of schedules use the rest of it
 #[allow(dead_code)]
@@ -112,14 +113,19 @@ impl Counts {
     }
 }
 
+/// What both print for the same input.
+fn printed(programs: [&str; 2], input: &[u8]) -> [Vec<u8>; 2] {
+    thread::scope(|scope| {
+        let proved = scope.spawn(|| process::output(programs[0], &[], input, input.len()));
+        let second = process::output(programs[1], &["--records"], input, input.len());
+        [proved.join().expect("the thread does not panic"), second]
+    })
+}
+
 /// What both print for the same cases.
 fn outputs(programs: [&str; 2], cases: &[Case]) -> [Vec<u8>; 2] {
     let input: Vec<u8> = cases.iter().flat_map(|case| case.bytes.iter().copied()).collect();
-    thread::scope(|scope| {
-        let proved = scope.spawn(|| process::output(programs[0], &[], &input, input.len()));
-        let second = process::output(programs[1], &["--records"], &input, input.len());
-        [proved.join().expect("the thread does not panic"), second]
-    })
+    printed(programs, &input)
 }
 
 /// Shows a case and what each program makes of it.
@@ -188,6 +194,10 @@ fn main() -> ExitCode {
         }
     };
     let records: u64 = records.parse().expect("RECORDS is a number");
+    let [ours, theirs] = printed(programs, &by_hand::input());
+    if !by_hand::holds("proved", &ours) || !by_hand::holds("second", &theirs) {
+        return ExitCode::FAILURE;
+    }
     let mut counts = Counts::nothing();
     let random = &mut Random::seeded(1);
     let mut maker = Maker::new(random);

@@ -3,11 +3,11 @@
 use encoding::answer::plain;
 use encoding::answer::print_of;
 use hub::Hub;
-use hub::opening::open_hub;
 use line::request::MALFORMED;
 use line::request::OPENING;
 use line::request::read_opening;
 use line::values;
+use openhub::open_hub;
 use reader::Reader;
 use reader::read_piece;
 use writer::text::put_line;

@@ -3,11 +3,11 @@
 use crate::number::number_at;
 use crate::number::put_cell;
 use crate::number::wide;
-use hub::phases::place_rank;
 use hub::record::Place;
 use hub::record::PlaceSlot;
 use hub::slots::empty_seat;
 use hub::slots::with_place;
+use phases::place_rank;
 ghost use Prim.Native.Nat.{_+_, _≤_};
 ghost use mathlib.Core.Path.{_≡_};
 ghost use lib.ListN.{length};

@@ -1,8 +1,8 @@
 // A phase by its name, its ticket and its mark.
 
-use hub::phases::phase_rank;
-use hub::phases::ticket;
 use hub::record::Phase;
+use phases::phase_rank;
+use phases::ticket;
 ghost use mathlib.Core.Path.{_≡_};
 ghost use Rattle.cells.specs.Phases.{markOf, marked, phaseName, phaseNamed};
 

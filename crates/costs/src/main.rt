@@ -3,13 +3,13 @@
 // the figures. Nothing else calls the by-value core here: so it is compiled as it is on a board.
 
 use board::call_on_board;
+use counts::counts;
 use encoding::answer::print_of;
 use hub::answers::Answer;
 use hub::moves::Op;
-use hub::opening::sized;
 use hub::record::Hub;
 use hub::record::Outcome;
-use transition::counts::counts;
+use openhub::sized;
 
 // The record after an ask and three steps: with the permit held, the party waits.
 fn waits(hub: Hub, party: u8) -> Hub {

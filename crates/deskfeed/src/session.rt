@@ -2,7 +2,7 @@
 
 use deskline::reply::respond;
 use deskline::text::put_line;
-use hub::opening::sized;
+use openhub::sized;
 use reader::KEPT;
 use reader::Reader;
 use screen::Line;

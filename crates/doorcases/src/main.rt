@@ -1,17 +1,9 @@
-// Every answer and every refusal of the door book, by value and in place over bytes. Each frame
-// prints the answer's code and the lock that then stands at a door, by value and in place. The
-// expected output, beside this program, was written by hand from the paper.
+// Every answer and every refusal of the door book by value; tests/c/doorbook.c has the book in place. Each frame prints
+// the answer's code and the lock that then stands at a door. The expected output, beside this program, was written by
+// hand from the paper.
 
 use doorbook::Book;
-use doorbook::book_enter;
-use doorbook::book_lock;
 use doorbook::code;
-
-// One book in its two forms.
-struct Both {
-    book: Book,
-    bytes: [u8; 800],
-}
 
 // A hexadecimal digit, in capitals.
 fn digit(n: u8) -> u8 {
@@ -34,48 +26,33 @@ fn print_lock(lock: u32) {
     print_byte((lock % 256) as u8);
 }
 
-// The locks at a door, in both forms.
-fn print_door(both: Both, door: u8) {
-    let book = both.book;
-    let bytes = both.bytes;
+fn print_door(book: Book, door: u8) {
     print_lock(book.lock(door));
-    print_lock(book_lock(&bytes, door));
     io::write_all(1, b"\n");
 }
 
-// Enters a frame in both forms, prints the answers and the locks at a door, and hands on the book.
-fn enter(both: Both, door: u8, frame: &[u8]) -> Both {
-    let book = both.book;
-    let mut bytes = both.bytes;
+// Enters a frame, prints the answer and the lock at a door, and hands on the book.
+fn enter(book: Book, door: u8, frame: &[u8]) -> Book {
     let entry = book.enter(frame);
     let answer = entry.answer;
     print_byte(code(answer));
-    io::write_all(1, b" ");
-    print_byte(book_enter(&mut bytes, frame));
-    let book = entry.book;
-    let left = Both { book, bytes };
+    let left = entry.book;
     print_door(left, door);
     left
 }
 
 // Enters a frame for a door: the new lock, and the one that it supersedes.
-fn fit(both: Both, door: u8, new: u8, old: u8) -> Both {
-    enter(both, door, &[0x40, door, 0, 0, 0, new, 0, 0, 0, old])
+fn fit(book: Book, door: u8, new: u8, old: u8) -> Book {
+    enter(book, door, &[0x40, door, 0, 0, 0, new, 0, 0, 0, old])
 }
 
 fn gap() {
     io::write_all(1, b"\n");
 }
 
-fn empty() -> Both {
-    let book = Book::empty();
-    let bytes = [0u8; 800];
-    Both { book, bytes }
-}
-
 // Fittings and replacements, from an empty book.
 fn accepted() {
-    let b = empty();
+    let b = Book::empty();
     print_door(b, 0);
     let b = fit(b, 0, 1, 0);
     let b = enter(b, 199, b"\x40\xC7\xDE\xAD\xBE\xEF\x00\x00\x00\x00");
@@ -98,7 +75,7 @@ fn accepted() {
 
 // Each refusal, and that it comes before those after it. Lock 7 stands at door 3, lock 8 at 4.
 fn refused() {
-    let b = empty();
+    let b = Book::empty();
     let b = fit(b, 3, 7, 0);
     let b = fit(b, 4, 8, 0);
     gap();
@@ -114,7 +91,7 @@ fn refused() {
 }
 
 // 12: no byte, nine, eleven; another code; also where the door is above 199.
-fn malformed(b: Both) -> Both {
+fn malformed(b: Book) -> Book {
     let b = enter(b, 3, b"");
     let b = enter(b, 3, b"\x40\x03\x00\x00\x00\x09\x00\x00\x00");
     let b = enter(b, 3, b"\x40\x03\x00\x00\x00\x09\x00\x00\x00\x07\x00");
@@ -127,7 +104,7 @@ fn malformed(b: Both) -> Both {
 }
 
 // 19: the doors 200 and 255; also where the new lock is 0, or stands.
-fn no_such_door(b: Both) -> Both {
+fn no_such_door(b: Book) -> Book {
     let b = fit(b, 200, 9, 0);
     let b = fit(b, 255, 9, 0);
     let b = fit(b, 200, 0, 0);
@@ -137,7 +114,7 @@ fn no_such_door(b: Both) -> Both {
 }
 
 // 20: the new lock is 0, stands at another door, or at that door; also where 21 would come.
-fn not_new(b: Both) -> Both {
+fn not_new(b: Book) -> Book {
     let b = fit(b, 3, 0, 7);
     let b = fit(b, 5, 7, 0);
     let b = fit(b, 4, 7, 8);
@@ -149,7 +126,7 @@ fn not_new(b: Both) -> Both {
 }
 
 // 21: none is superseded where one stands, one where none stands, another one, another byte.
-fn not_there(b: Both) -> Both {
+fn not_there(b: Book) -> Book {
     let b = fit(b, 3, 9, 0);
     let b = fit(b, 5, 9, 7);
     let b = fit(b, 3, 9, 8);
@@ -161,14 +138,9 @@ fn not_there(b: Both) -> Both {
 
 // A book that no frames lead to: lock 7 stands at the doors 3 and 4.
 fn at_two_doors() {
-    let made = empty();
-    let mut book = made.book;
-    let mut bytes = made.bytes;
-    book.locks[3] = 7;
-    book.locks[4] = 7;
-    bytes[15] = 7;
-    bytes[19] = 7;
-    let b = Both { book, bytes };
+    let mut b = Book::empty();
+    b.locks[3] = 7;
+    b.locks[4] = 7;
     let b = fit(b, 5, 7, 0);
     let b = fit(b, 4, 9, 7);
     print_door(b, 3);
@@ -179,28 +151,8 @@ fn at_two_doors() {
     gap();
 }
 
-// Bytes that are no book: 255 is answered, also to a frame that is none, and no lock stands.
-fn no_book() {
-    let mut short = [7u8; 799];
-    let mut long = [7u8; 801];
-    print_byte(book_enter(&mut short, b"\x40\x00\x00\x00\x00\x01\x07\x07\x07\x07"));
-    print_lock(book_lock(&short, 0));
-    io::write_all(1, b" ");
-    print_byte(short[0]);
-    io::write_all(1, b"\n");
-    print_byte(book_enter(&mut long, b"\x40"));
-    print_lock(book_lock(&long, 0));
-    io::write_all(1, b" ");
-    print_byte(long[0]);
-    io::write_all(1, b"\n");
-    print_byte(book_enter(&mut short[..0], b""));
-    print_lock(book_lock(&short[..0], 0));
-    io::write_all(1, b"\n");
-}
-
 fn main() {
     accepted();
     refused();
     at_two_doors();
-    no_book();
 }

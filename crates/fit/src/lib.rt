@@ -1,13 +1,13 @@
 // Does a record fit? The check of every clause, for any value of the type.
 
 use hub::opening::Opening;
-use hub::opening::kinds_fit;
-use hub::opening::up_to_32;
-use hub::phases::ticket;
 use hub::record::Figures;
 use hub::record::Hub;
 use hub::record::Phase;
 use hub::record::Place;
+use openhub::kinds_fit;
+use openhub::up_to_32;
+use phases::ticket;
 use pool::check::radios_fit;
 ghost use mathlib.Core.Path.{_≡_};
 ghost use mathlib.Core.Bool.{_&&_};

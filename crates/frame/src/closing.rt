@@ -1,10 +1,10 @@
 // The closing line: 7E, holders, parties waiting, counter.
 
+use counts::counts;
 use encoding::answer::Print;
 use encoding::signed::twos_complement;
 use hub::Figures;
 use hub::Hub;
-use transition::counts::counts;
 use writer::text::put_line;
 ghost use mathlib.Core.Path.{_≡_};
 ghost use lib.ListN.{length};

@@ -1,6 +1,5 @@
 -- Why the definitions of specs/ say what the paper claims of them, and why the code meets them.
 pub mod Laws  -- of single definitions
-pub mod Edges  -- the paper's marked cases
 pub mod Invariant  -- why the permits add up
 pub mod Radios  -- why no radio is lost or doubled
 pub mod Window  -- the record beside the unbounded queue

@@ -21,6 +21,5 @@ pub mod Counts  -- what a record shows
 pub mod Calm  -- how long until calm
 pub mod OwnKinds  -- "A house's own kinds"
 pub mod Widths  -- "Smaller records on the boards"
-pub mod Edges  -- "Edges"
 pub mod Queue  -- document 000's semaphore, and the hub beside it
 pub mod Refinement

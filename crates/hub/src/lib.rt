@@ -4,8 +4,6 @@
 
 pub mod record; // the record of a hub: phases, places, figures
 pub mod slots; // what the record keeps of a party and of a place
-pub mod phases; // what is asked of a phase
-pub mod kinds; // the kind of each party
 pub mod answers; // what a call answers
 pub mod moves; // a call, and what it looks at
 pub mod opening; // a fresh record

@@ -4,8 +4,6 @@
 use fit::party_fits;
 use fit::stands_at;
 use fit::ticket_at;
-use hub::opening::up_to_32;
-use hub::phases::ticket;
 use hub::record::Figures;
 use hub::record::Hub;
 use hub::record::Phase;
@@ -13,6 +11,8 @@ use hub::record::Place;
 use latch::record::Latch;
 use latch::record::LatchFigures;
 use latch::record::LatchSlot;
+use openhub::up_to_32;
+use phases::ticket;
 ghost use mathlib.Core.Path.{_≡_};
 ghost use mathlib.Core.Bool.{_&&_};
 ghost use Prim.Native.Nat.{_≤_};

@@ -1,11 +1,11 @@
 // What a call looks at, from what lies in the arrays.
 
-use hub::phases::has_ticket;
-use hub::phases::ticket;
 use hub::record::Hub;
 use hub::record::PlaceSlot;
 use latch::opening::free_slot;
 use latch::record::LatchSlot;
+use phases::has_ticket;
+use phases::ticket;
 ghost use mathlib.Core.Path.{_≡_};
 ghost use mathlib.Core.Bool.{cond};
 ghost use Prim.Native.Nat.{_%_};

@@ -3,8 +3,6 @@
 
 use hub::answers::Answer;
 use hub::answers::Refusal;
-use hub::kinds::built_in;
-use hub::kinds::kind_in;
 use hub::record::Hub;
 use hub::slots::empty_seat;
 use latch::moves::LatchOp;
@@ -16,6 +14,8 @@ use latchmove::effect::decide;
 use latchmove::sight::by_ticket;
 use latchmove::sight::seat_index;
 use latchmove::sight::slot_within;
+use openhub::kinds::built_in;
+use openhub::kinds::kind_in;
 use ring::PlaceRing;
 use ring::reclaim;
 use transition::sight::waiter_at;

@@ -1,9 +1,9 @@
 // Runs a whole list of operations on a hub just opened, and leaves the answers in the caller's buffer.
 
 use encoding::answer::print_of;
-use hub::opening::open_hub;
 use line::openings::is_opening_frame;
 use line::openings::opening_in;
+use openhub::open_hub;
 use perform::perform_operations;
 ghost use mathlib.Core.Path.{_≡_};
 ghost use Rattle.line.specs.Requests.{requested};

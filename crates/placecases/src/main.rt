@@ -6,13 +6,13 @@ use board::call_on_board;
 use boardrest::operate_on_board;
 use caselines::answer_line;
 use caselines::put_text;
+use counts::counts;
 use encoding::answer::print_of;
 use hub::moves::Op;
-use hub::opening::sized;
 use hub::record::Figures;
 use hub::record::Hub;
+use openhub::sized;
 use step::calls::acquire;
-use transition::counts::counts;
 
 // What a record shows: held, at the counter, on the way, waiting.
 fn print_counts(hub: Hub) {

@@ -1,14 +1,14 @@
 // Are the radios of a record those of its opening, each with one party, at one place or stored? They
 // are noted as they are met, and a table has those that are still to be met.
 
-use hub::opening::radio_index;
-use hub::opening::radios_differ;
-use hub::phases::has_radio;
-use hub::phases::place_rank;
 use hub::record::Hub;
 use hub::record::PartySlot;
 use hub::record::PlaceSlot;
 use hub::record::Pool;
+use openhub::radio_index;
+use openhub::radios_differ;
+use phases::has_radio;
+use phases::place_rank;
 ghost use mathlib.Core.Path.{_≡_};
 ghost use mathlib.Core.List.{[], _∷_, _++_};
 ghost use Prim.Native.Nat.{_≤_};

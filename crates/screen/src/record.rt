@@ -1,6 +1,9 @@
 // The plain line of the desk screen.
 
 use hub::Answer;
+use hub::Opening;
+ghost use mathlib.Core.Path.{_≡_};
+ghost use Rattle.screen.specs.Line.{openedLine};
 
 pub struct Line {
     pub permits: u8, // links, K
@@ -10,6 +13,24 @@ pub struct Line {
     pub holding: [bool; 32], // each party: does it hold?
     pub queue: [u8; 32], // the parties that wait, in their order; behind them 0
     pub waiting: u8, // how many wait
+}
+
+impl Line {
+    // The line of a hub that was just opened; nothing is checked here.
+    pub fn open(o: Opening) -> Line
+        ensures { λ r. ⌜ r ≡ openedLine o ⌝ }
+    {
+        let kinds = o.kinds;
+        Line {
+            permits: o.permits,
+            parties: o.parties,
+            named: o.named,
+            kinds,
+            holding: [false; 32],
+            queue: [0; 32],
+            waiting: 0,
+        }
+    }
 }
 
 // The clerks' operations: ask (10), give up (12), give back (13).

@@ -3,9 +3,9 @@
 use encoding::answer::print_of;
 use hub::answers::Answer;
 use hub::moves::Op;
-use hub::phases::phase_rank;
 use hub::record::Hub;
 use operations::Operated;
+use phases::phase_rank;
 use step::calls::call;
 use step::calls::step;
 ghost use mathlib.Core.Path.{_≡_};

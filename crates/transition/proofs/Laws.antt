@@ -1,9 +1,6 @@
 -- The laws of one call, however the record is held.
 pub mod Tests
 pub mod Ops
-pub mod Counting  -- a loop that counts
-pub mod Counter  -- the counter as the code reads it
-pub mod Shown  -- what a record shows
 pub mod Sight  -- what a call looks at
 pub mod Unseen  -- and what it does not
 pub mod Loops  -- the tidying's loops

@@ -6,5 +6,3 @@ pub mod sight; // what a call looks at
 pub mod effect; // what the table decides
 pub mod room; // refusal 7
 pub mod tidy; // the tests of the tidying
-pub mod counts; // what a record shows
-pub mod calm; // how many steps until all are at rest

@@ -1,6 +1,6 @@
 // Refusal 7: is there a place for one more ticket?
 
-use crate::counts::count_drawing;
+use counts::count_drawing;
 use hub::moves::Op;
 use hub::record::Hub;
 use hub::record::PartySlot;

@@ -1,12 +1,12 @@
 // What a call looks at, from what lies in the arrays. The place is read whether or not the party has a
 // ticket: one without looks at no place, whatever lies there.
 
-use hub::phases::ticket;
 use hub::record::Hub;
 use hub::record::PartySlot;
 use hub::record::Place;
 use hub::record::PlaceSlot;
 use hub::slots::free_slot;
+use phases::ticket;
 ghost use mathlib.Core.Path.{_≡_};
 ghost use mathlib.Core.Bool.{cond};
 ghost use Prim.Native.Nat.{_%_};

@@ -1,7 +1,7 @@
 // The tests of the tidying's loops.
 
-use hub::phases::place_rank;
 use hub::record::PlaceSlot;
+use phases::place_rank;
 ghost use mathlib.Core.Path.{_≡_};
 ghost use mathlib.Core.Bool.{_&&_, _||_};
 ghost use lib.Dec.{ltb};

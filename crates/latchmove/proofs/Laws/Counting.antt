@@ -9,7 +9,7 @@ use Rattle.hub.specs.Phases.{drawsTicket}
 use Rattle.hub.proofs.Laws.Lists.{weight-length, weight-map}
 use Rattle.latch.specs.declared.record.LatchSlot.{LatchSlot}
 use Rattle.latch.specs.Record.{phasesOf}
-use Rattle.transition.proofs.Laws.Counting.{bit-most}
+use Rattle.counts.proofs.Laws.Counting.{bit-most}
 
 pub by-slots : (l : List LatchSlot)
     → count drawsTicket (phasesOf l) ≡ count (λ (s : LatchSlot). drawsTicket (s .phase)) l

@@ -7,7 +7,7 @@ use lib.ListN.{getD}
 use Rattle.hub.specs.Phases.{drawsTicket}
 use Rattle.latch.specs.declared.record.LatchSlot.{LatchSlot}
 use Rattle.latch.specs.Record.{freeSlot}
-use Rattle.transition.proofs.Laws.Counting.{Counting, bit-most, counting-on, counting-all}
+use Rattle.counts.proofs.Laws.Counting.{Counting, bit-most, counting-on, counting-all}
 use Rattle.latchmove.proofs.Laws.Counting.{by-slots}
 use Rattle.latchmove.proofs.room.count_drawing.Statement.{statement}
 use Rattle.latchmove.proofs.room.count_drawing.Tie as tie

@@ -13,7 +13,7 @@ use Rattle.hub.specs.Calls.{isFull}
 use Rattle.hub.specs.Phases.{drawsTicket}
 use Rattle.hub.specs.Record.{phasesOf}
 use Rattle.transition.specs.Room.{fullFor}
-use Rattle.transition.proofs.Laws.Counting.{draws-few}
+use Rattle.counts.proofs.Laws.Counting.{draws-few}
 use Rattle.transition.proofs.Laws.Ops.{unasked}
 use Rattle.transition.proofs.room.full_for.Statement.{statement}
 use Rattle.transition.proofs.room.full_for.Tie as tie

@@ -1,0 +1,2 @@
+-- Single cases, held against the definitions of `latch`.
+pub mod Edges
