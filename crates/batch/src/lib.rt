@@ -1,6 +1,6 @@
 // Requests of an open hub answered one after the other, by lines of text or by bytes. The record's
-// arrays and figures are locals while they are, altered in place. A record that is reached from an
-// opening fits, and that is proved: so there is no check of the whole record here.
+// arrays and figures are parameters, altered in place. A record that is reached from an opening fits, and
+// that is proved: so there is no check of the whole record here. The crate `requests` hands a whole record over.
 
 use encoding::pairs;
 use hub::opening::Opening;
@@ -22,7 +22,6 @@ use turn::wire::code_at;
 use turn::wire::party_at;
 use turn::wire::put_answer;
 use turn::wire::put_refusal;
-use writer::form::reply_size;
 ghost use mathlib.Core.Path.{_≡_};
 ghost use Prim.Native.Nat.{_*_, _≤_};
 ghost use lib.ListN.{length};
@@ -30,41 +29,9 @@ ghost use Rattle.encoding.specs.Form.{formOf, replySize};
 ghost use Rattle.line.specs.Program.{after};
 ghost use Rattle.batch.specs.Batch.{Reachable, ofParts, replied, requestsIn};
 
-// Answers the first `count` requests, of two bytes each, in a form.
-pub fn answer_requests(hub: Hub, requests: &[u8], count: usize, form: bool, out: &mut [u8]) -> Hub
-    requires { ⌜ Reachable hub ⌝ }
-    requires { ⌜ 2 * count ≤ length (now requests) ⌝ }
-    requires { ⌜ replySize (formOf form) * count ≤ length (now out) ⌝ }
-    ensures { λ r. ⌜ (r ≡ after hub (requestsIn count (now (requests .entry))))
-        × (now (out .exit)
-        ≡ replied (formOf form) hub count (now (requests .entry)) (now (out .entry))) ⌝ }
-{
-    let opening = hub.opening;
-    let figures = hub.figures;
-    let places = hub.places;
-    let ring = PlaceRing {
-        resumed: hub.figures.resumed,
-        oldest: hub.oldest,
-        places,
-    };
-    let slots = hub.slots;
-    let pool = hub.pool;
-    answer_in_turn(
-        opening,
-        figures,
-        ring,
-        slots,
-        pool,
-        requests,
-        count,
-        form,
-        reply_size(form),
-        out,
-    )
-}
-
-// The loop. A record's parts are its parameters, so that nothing but the loop is in the function, which is dear to prove.
-fn answer_in_turn(
+// Answers the first `count` requests, of two bytes each, in a form whose replies have this width. A record's parts are its
+// parameters, so that nothing but the loop is in the function, which is dear to prove.
+pub fn answer_in_turn(
     opening: Opening,
     mut figures: Figures,
     mut ring: PlaceRing,

@@ -2,7 +2,7 @@
 
 ghost use Prim.Native.Nat.{_+_, _<_, _≤_};
 ghost use mathlib.Core.Path.{_≡_};
-ghost use mathlib.Core.List.{_∷_};
+ghost use mathlib.Core.List.{_∷_, _++_};
 ghost use lib.ListN.{length};
 ghost use Rattle.cells.specs.Bytes.{fourOf, numberAt, withBytes};
 
@@ -30,6 +30,30 @@ pub fn number_bytes(n: u32) -> [u8; 4]
         (n / 65536 % 256) as u8,
         (n / 256 % 256) as u8,
         (n % 256) as u8,
+    ]
+}
+
+// Four numbers, one after another.
+pub fn four_numbers(a: u32, b: u32, c: u32, d: u32) -> [u8; 16]
+    ensures { λ r. ⌜ r ≡ fourOf a ++ fourOf b ++ fourOf c ++ fourOf d ⌝ }
+{
+    [
+        (a / 16777216 % 256) as u8,
+        (a / 65536 % 256) as u8,
+        (a / 256 % 256) as u8,
+        (a % 256) as u8,
+        (b / 16777216 % 256) as u8,
+        (b / 65536 % 256) as u8,
+        (b / 256 % 256) as u8,
+        (b % 256) as u8,
+        (c / 16777216 % 256) as u8,
+        (c / 65536 % 256) as u8,
+        (c / 256 % 256) as u8,
+        (c % 256) as u8,
+        (d / 16777216 % 256) as u8,
+        (d / 65536 % 256) as u8,
+        (d / 256 % 256) as u8,
+        (d % 256) as u8,
     ]
 }
 

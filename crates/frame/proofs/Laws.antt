@@ -1,5 +1,4 @@
 -- What the proofs of this crate share.
 pub mod Lines
 pub mod Sessions
-pub mod Closing
 pub mod Feeding

@@ -1,7 +1,5 @@
 // A run over an input that comes in pieces.
 
-use crate::closing::put_closing;
-use batch::answer_requests;
 use beforeopen::opening::is_open;
 use beforeopen::opening::until_open;
 use hub::Hub;
@@ -10,6 +8,7 @@ use openhub::sized;
 use reader::KEPT;
 use reader::Reader;
 use reader::read_piece;
+use requests::answer_requests;
 use writer::form::TEXT;
 ghost use mathlib.Core.Path.{_≡_};
 ghost use mathlib.Core.List.{_++_};
@@ -114,27 +113,4 @@ pub fn feed(session: Session, piece: &[u8], requests: &mut [u8], out: &mut [u8])
         session: past,
         lines: lines + rest.lines,
     }
-}
-
-// Answers a line left without its end mark, as if it had one, and closes: one line is printed, or
-// two.
-pub fn finish(session: Session, out: &mut [u8]) -> usize
-    requires { ⌜ Sound session ⌝ }
-    requires { ⌜ 15 * suc (length (rest (session .reader))) ≤ length (now out) ⌝ }
-    ensures { λ r. ⌜ (r ≡ suc (length (rest (session .reader))))
-        × (now (out .exit) ≡ finished session
-        ++ drop (15 * suc (length (rest (session .reader)))) (now (out .entry))) ⌝ }
-{
-    let len = session.reader.len;
-    if len == 0 {
-        let hub = session.hub;
-        put_closing(hub, &mut out[0..15]);
-        return 1;
-    }
-    let mut requests = [0u8; 2];
-    let last = feed(session, b"\n", &mut requests, &mut out[0..15]);
-    let past = last.session;
-    let hub = past.hub;
-    put_closing(hub, &mut out[15..30]);
-    2
 }

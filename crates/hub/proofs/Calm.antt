@@ -21,7 +21,7 @@ use Rattle.hub.specs.declared.record.Phase.the-variants.{AcquiringMarked
 use Rattle.hub.specs.Answers.{printed}
 use Rattle.hub.specs.Basics.{bit, count, weight}
 use Rattle.hub.specs.Calls.{answerOf, called, checked, moveOf}
-use Rattle.hub.specs.Calm.{Busy, rests, stepBy, isRefused, drawnAndToDraw, stepsToCalm}
+use Rattle.hub.specs.Calm.{Busy, rests, stepBy, stepRefused, drawnAndToDraw, stepsToCalm}
 use Rattle.hub.specs.Calm.{BusySteps, stepped, NoneRefused, ReachesCalm, Settles, ComesToRest}
 use Rattle.hub.specs.Ledger.{phaseIn}
 use Rattle.hub.specs.Look.{look, seenBy}
@@ -120,7 +120,7 @@ module _ (k : ℕ) (k₁ : 1 ≤ k) (k₂ : k ≤ 32) where
 
   -- A busy party's step is not refused, and leads one step nearer.
   one-step : (h : Hub) (w : ℕ) → Within h w → (p : ℕ) → Busy h p
-      → (isRefused h p ≡ false) × (1 ≤ w) × Within (called h (stepBy p) .hub) (w - 1)
+      → (stepRefused h p ≡ false) × (1 ≤ w) × Within (called h (stepBy p) .hub) (w - 1)
   one-step h w x p b = (
     granted,
     omega (arith, s .1, x .near),
@@ -146,7 +146,7 @@ module _ (k : ℕ) (k₁ : 1 ≤ k) (k₂ : k ≤ 32) where
           (sym (ap (λ (v : Sight). atRest (v .slot .phase)) (look-same k h m (r .tracks) p))
           ∙ unfold seenBy in b)
 
-      granted : isRefused h p ≡ false
+      granted : stepRefused h p ≡ false
       granted = ap (λ (v : Move). ltb (printed (answerOf v) .code) 0x20) (move-same h m p r) ∙ s .0
 
       f : Follows k h m (stepBy p) (look h p) (moveOf h (stepBy p))

@@ -29,8 +29,8 @@ Busy h p = rests h p ≡ false
 abbrev pub stepBy : ℕ → Call
 stepBy p = record { op = Op.Step; party = p }
 
-abbrev pub isRefused : Hub → ℕ → Bool
-isRefused h p = ltb (printed (called h (stepBy p) .answer) .code) 0x20
+abbrev pub stepRefused : Hub → ℕ → Bool
+stepRefused h p = ltb (printed (called h (stepBy p) .answer) .code) 0x20
 
 -- Numbered + parties asked or unnumbered; of it handed is taken away. In a record that no schedule reaches
 -- handed may be more: then the bracket is 0.
@@ -56,7 +56,7 @@ stepped h (p ∷ ps) = stepped (called h (stepBy p) .hub) ps
 -- None of these steps is refused.
 unfoldable pub NoneRefused : Hub → List ℕ → Type 0
 NoneRefused h [] = Unit {0}
-NoneRefused h (p ∷ ps) = (isRefused h p ≡ false) × NoneRefused (called h (stepBy p) .hub) ps
+NoneRefused h (p ∷ ps) = (stepRefused h p ≡ false) × NoneRefused (called h (stepBy p) .hub) ps
 
 -- A claim C about records holds of each one that a schedule reaches from an accepted opening without radios,
 -- early give-ups included.
@@ -76,8 +76,8 @@ ReachesCalm =
 -- So everybody is at rest after at most so many steps: as long as somebody is busy its step can be made;
 -- where no step can be made all are at rest; and so they are once as many are made as the bound says.
 pub record Settles (h : Hub) (ps : List ℕ) : Type 0 where
-  pub onward : (p : ℕ) → Busy (stepped h ps) p → isRefused (stepped h ps) p ≡ false
-  pub atEnd : ((p : ℕ) → isRefused (stepped h ps) p ≡ true)
+  pub onward : (p : ℕ) → Busy (stepped h ps) p → stepRefused (stepped h ps) p ≡ false
+  pub atEnd : ((p : ℕ) → stepRefused (stepped h ps) p ≡ true)
       → (p : ℕ) → rests (stepped h ps) p ≡ true
   pub inTime : stepsToCalm h ≤ length ps → (p : ℕ) → rests (stepped h ps) p ≡ true
 

@@ -1,7 +1,7 @@
 // The numbers in front of a record: n, the figures, and the first ticket that has a place.
 
+use cells::number::four_numbers;
 use cells::number::number_at;
-use cells::number::number_bytes;
 use cells::number::put_bytes_at;
 use cells::number::wide;
 use latch::record::Latch;
@@ -34,19 +34,11 @@ pub(crate) fn figure_bytes(latch: Latch) -> [u8; 19]
 {
     let mut out = [0u8; 19];
     let figures = latch.figures;
-    let counts = [
-        latch.parties,
-        (figures.count % 256) as u8,
-        (figures.waiters % 256) as u8,
-    ];
+    let count = (figures.count % 256) as u8;
+    let waiters = (figures.waiters % 256) as u8;
+    let counts = [latch.parties, count, waiters];
     put_bytes_at(&mut out, 0, &counts);
-    let issued = number_bytes(figures.issued);
-    put_bytes_at(&mut out, 3, &issued);
-    let resumed = number_bytes(figures.resumed);
-    put_bytes_at(&mut out, 7, &resumed);
-    let begun = number_bytes(figures.begun);
-    put_bytes_at(&mut out, 11, &begun);
-    let oldest = number_bytes(latch.oldest);
-    put_bytes_at(&mut out, 15, &oldest);
+    let numbers = four_numbers(figures.issued, figures.resumed, figures.begun, latch.oldest);
+    put_bytes_at(&mut out, 3, &numbers);
     out
 }

@@ -1,5 +1,6 @@
 // The numbers in front of a record: K, n, the figures, and the first ticket that has a place.
 
+use cells::number::four_numbers;
 use cells::number::number_at;
 use cells::number::number_bytes;
 use cells::number::put_bytes_at;
@@ -47,13 +48,7 @@ pub(crate) fn figure_bytes(hub: Hub) -> [u8; 22]
     put_bytes_at(&mut out, 0, &size);
     let counter = number_bytes(twos_complement(figures.counter));
     put_bytes_at(&mut out, 2, &counter);
-    let issued = number_bytes(figures.issued);
-    put_bytes_at(&mut out, 6, &issued);
-    let resumed = number_bytes(figures.resumed);
-    put_bytes_at(&mut out, 10, &resumed);
-    let begun = number_bytes(figures.begun);
-    put_bytes_at(&mut out, 14, &begun);
-    let oldest = number_bytes(hub.oldest);
-    put_bytes_at(&mut out, 18, &oldest);
+    let numbers = four_numbers(figures.issued, figures.resumed, figures.begun, hub.oldest);
+    put_bytes_at(&mut out, 6, &numbers);
     out
 }

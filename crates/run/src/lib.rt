@@ -1,7 +1,6 @@
 // Runs a whole list of calls on a hub just opened, and leaves the answers in the caller's buffer.
 // What the third demand says of schedules it says of these answers.
 
-use batch::answer_requests;
 use encoding::answer::refusal_code;
 use hub::answers::Answer;
 use hub::answers::Refusal;
@@ -9,6 +8,7 @@ use hub::opening::Opening;
 use line::openings::is_opening_frame;
 use line::openings::opening_in;
 use openhub::open_hub;
+use requests::answer_requests;
 use writer::form::BYTES;
 ghost use mathlib.Core.Path.{_≡_};
 ghost use Rattle.hub.specs.Opening.{opening};

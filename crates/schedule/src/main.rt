@@ -1,9 +1,9 @@
 // The schedule program: standard input to standard output, in constant memory.
 
+use closing::finish;
 use frame::session::Session;
 use frame::session::begin;
 use frame::session::feed;
-use frame::session::finish;
 use libc::STDERR_FILENO;
 use libc::STDIN_FILENO;
 use libc::STDOUT_FILENO;

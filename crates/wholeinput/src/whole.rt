@@ -1,8 +1,8 @@
 // A whole input into a buffer.
 
+use closing::finish;
 use frame::session::begin;
 use frame::session::feed;
-use frame::session::finish;
 ghost use mathlib.Core.Path.{_≡_};
 ghost use mathlib.Core.List.{_++_};
 ghost use Prim.Native.Nat.{_-_, _≤_, _<_};

@@ -1,4 +1,4 @@
--- `figure_bytes` meets its contract: each number comes after what is written.
+-- `figure_bytes` meets its contract: each part comes after what is written.
 use borrow.Author.Needs.{needs}
 use lib.ListN.{length, replicate}
 use mir.Facts.{toZ-ofZ}
@@ -37,8 +37,8 @@ slice-aggregate-put-bytes-at-4 c = search needs
 put-bytes-at-requires-2 : tie.Need-put-bytes-at-requires-2
 put-bytes-at-requires-2 c κs = search needs
 
-number-bytes-requires-2 : tie.Need-number-bytes-requires-2
-number-bytes-requires-2 c κs = search needs
+four-numbers-requires : tie.Need-four-numbers-requires
+four-numbers-requires c κs = search needs
 
 slice-aggregate-put-bytes-at-5 : tie.Need-slice-aggregate-put-bytes-at-5
 slice-aggregate-put-bytes-at-5 c = search needs
@@ -49,56 +49,14 @@ slice-aggregate-put-bytes-at-6 c = search needs
 put-bytes-at-requires-3 : tie.Need-put-bytes-at-requires-3
 put-bytes-at-requires-3 c κs = search needs
 
-number-bytes-requires-3 : tie.Need-number-bytes-requires-3
-number-bytes-requires-3 c κs = search needs
-
-slice-aggregate-put-bytes-at-7 : tie.Need-slice-aggregate-put-bytes-at-7
-slice-aggregate-put-bytes-at-7 c = search needs
-
-slice-aggregate-put-bytes-at-8 : tie.Need-slice-aggregate-put-bytes-at-8
-slice-aggregate-put-bytes-at-8 c = search needs
-
-put-bytes-at-requires-4 : tie.Need-put-bytes-at-requires-4
-put-bytes-at-requires-4 c κs = search needs
-
-number-bytes-requires-4 : tie.Need-number-bytes-requires-4
-number-bytes-requires-4 c κs = search needs
-
-slice-aggregate-put-bytes-at-9 : tie.Need-slice-aggregate-put-bytes-at-9
-slice-aggregate-put-bytes-at-9 c = search needs
-
-slice-aggregate-put-bytes-at-10 : tie.Need-slice-aggregate-put-bytes-at-10
-slice-aggregate-put-bytes-at-10 c = search needs
-
-put-bytes-at-requires-5 : tie.Need-put-bytes-at-requires-5
-put-bytes-at-requires-5 c κs = search needs
-
-number-bytes-requires-5 : tie.Need-number-bytes-requires-5
-number-bytes-requires-5 c κs = search needs
-
-slice-aggregate-put-bytes-at-11 : tie.Need-slice-aggregate-put-bytes-at-11
-slice-aggregate-put-bytes-at-11 c = search needs
-
-slice-aggregate-put-bytes-at-12 : tie.Need-slice-aggregate-put-bytes-at-12
-slice-aggregate-put-bytes-at-12 c = search needs
-
-put-bytes-at-requires-6 : tie.Need-put-bytes-at-requires-6
-put-bytes-at-requires-6 c κs = search needs
-
 bits : (c : tie.Start) → SFits w32 (c .args .hub .figures .counter)
 bits c = search needs
 
 returns : tie.Need-returns
 returns c =
-    let at-put-bytes-at6 = c .before in
-    let at-number-bytes5 = at-put-bytes-at6 .before .before .before in
-    let at-put-bytes-at5 = at-number-bytes5 .before .before in
-    let at-number-bytes4 = at-put-bytes-at5 .before .before .before in
-    let at-put-bytes-at4 = at-number-bytes4 .before .before in
-    let at-number-bytes3 = at-put-bytes-at4 .before .before .before in
-    let at-put-bytes-at3 = at-number-bytes3 .before .before in
-    let at-number-bytes2 = at-put-bytes-at3 .before .before .before in
-    let at-put-bytes-at2 = at-number-bytes2 .before .before in
+    let at-put-bytes-at3 = c .before in
+    let at-four-numbers = at-put-bytes-at3 .before .before .before in
+    let at-put-bytes-at2 = at-four-numbers .before .before in
     let at-number-bytes = at-put-bytes-at2 .before .before .before in
     let at-twos-complement = at-number-bytes .before in
     let at-put-bytes-at = at-twos-complement .before .before .before in
@@ -115,23 +73,11 @@ returns c =
     let w2 =
     next 22 _ 2 4 _ _ _ _ w1 (omega arith) counter (ap length counter)
     (at-put-bytes-at2 .put-bytes-at2 .ensures) in
-    let e3 = at-number-bytes2 .number-bytes2 .ensures in
+    let numbers = at-four-numbers .four-numbers .ensures in
     let w3 =
-    next 22 _ 6 4 _ _ _ _ w2 (omega arith) e3 (ap length e3)
+    next 22 _ 6 16 _ _ _ _ w2 (omega arith) numbers (ap length numbers)
     (at-put-bytes-at3 .put-bytes-at3 .ensures) in
-    let e4 = at-number-bytes3 .number-bytes3 .ensures in
-    let w4 =
-    next 22 _ 10 4 _ _ _ _ w3 (omega arith) e4 (ap length e4)
-    (at-put-bytes-at4 .put-bytes-at4 .ensures) in
-    let e5 = at-number-bytes4 .number-bytes4 .ensures in
-    let w5 =
-    next 22 _ 14 4 _ _ _ _ w4 (omega arith) e5 (ap length e5)
-    (at-put-bytes-at5 .put-bytes-at5 .ensures) in
-    let e6 = at-number-bytes5 .number-bytes5 .ensures in
-    let w6 =
-    next 22 _ 18 4 _ _ _ _ w5 (omega arith) e6 (ap length e6)
-    (at-put-bytes-at6 .put-bytes-at6 .ensures) in
-    all-written 22 _ 22 _ w6 (omega arith)
+    all-written 22 _ 22 _ w3 (omega arith)
 
 pub figure-bytes-spec : {M : Type 1} → statement M
 figure-bytes-spec =
@@ -145,20 +91,8 @@ figure-bytes-spec =
     slice-aggregate-put-bytes-at-3
     slice-aggregate-put-bytes-at-4
     put-bytes-at-requires-2
-    number-bytes-requires-2
+    four-numbers-requires
     slice-aggregate-put-bytes-at-5
     slice-aggregate-put-bytes-at-6
     put-bytes-at-requires-3
-    number-bytes-requires-3
-    slice-aggregate-put-bytes-at-7
-    slice-aggregate-put-bytes-at-8
-    put-bytes-at-requires-4
-    number-bytes-requires-4
-    slice-aggregate-put-bytes-at-9
-    slice-aggregate-put-bytes-at-10
-    put-bytes-at-requires-5
-    number-bytes-requires-5
-    slice-aggregate-put-bytes-at-11
-    slice-aggregate-put-bytes-at-12
-    put-bytes-at-requires-6
     returns)

@@ -1,0 +1,46 @@
+// Requests of an open hub answered on a whole record: its parts are handed to the loop of `batch`, which makes the record
+// that is left of them.
+
+use batch::answer_in_turn;
+use hub::record::Hub;
+use ring::PlaceRing;
+use writer::form::reply_size;
+ghost use mathlib.Core.Path.{_≡_};
+ghost use Prim.Native.Nat.{_*_, _≤_};
+ghost use lib.ListN.{length};
+ghost use Rattle.encoding.specs.Form.{formOf, replySize};
+ghost use Rattle.line.specs.Program.{after};
+ghost use Rattle.batch.specs.Batch.{Reachable, replied, requestsIn};
+
+// Answers the first `count` requests, of two bytes each, in a form.
+pub fn answer_requests(hub: Hub, requests: &[u8], count: usize, form: bool, out: &mut [u8]) -> Hub
+    requires { ⌜ Reachable hub ⌝ }
+    requires { ⌜ 2 * count ≤ length (now requests) ⌝ }
+    requires { ⌜ replySize (formOf form) * count ≤ length (now out) ⌝ }
+    ensures { λ r. ⌜ (r ≡ after hub (requestsIn count (now (requests .entry))))
+        × (now (out .exit)
+        ≡ replied (formOf form) hub count (now (requests .entry)) (now (out .entry))) ⌝ }
+{
+    let opening = hub.opening;
+    let figures = hub.figures;
+    let places = hub.places;
+    let ring = PlaceRing {
+        resumed: hub.figures.resumed,
+        oldest: hub.oldest,
+        places,
+    };
+    let slots = hub.slots;
+    let pool = hub.pool;
+    answer_in_turn(
+        opening,
+        figures,
+        ring,
+        slots,
+        pool,
+        requests,
+        count,
+        form,
+        reply_size(form),
+        out,
+    )
+}
