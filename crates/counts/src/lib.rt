@@ -2,7 +2,7 @@
 
 pub mod calm; // how many steps until all are at rest
 
-use hub::counts::Counts;
+use hub::record::Counts;
 use hub::record::Hub;
 use hub::record::PartySlot;
 use hub::record::Phase;

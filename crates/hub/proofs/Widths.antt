@@ -51,7 +51,7 @@ module _ (n : ℕ) (room : (q : ℕ) → q ≤ 255 → q % n ≡ q) where
   same-places : (l : List PlaceSlot) → AllSmall l → map (λ s. withPlace (writtenIn n (s .place)) s) l ≡ l
   same-places [] s = refl
   same-places (x ∷ l) s =
-      ap₂ (λ (a : Place) (k : List PlaceSlot). record { place = a } ∷ k) (same-place (x .place) (s zero))
+      ap₂ (λ (a : Place) (k : List PlaceSlot). withPlace a x ∷ k) (same-place (x .place) (s zero))
       (same-places l (λ i. s (suc i)))
 
   same-hub : (h : Hub) → UpTo 255 h → keptIn n h ≡ h

@@ -3,7 +3,7 @@ use Prim.Native.Nat.{ℕ, _+_, _-_}
 use mathlib.Core.Path.{_≡_}
 use mathlib.Core.List.{List}
 use Rattle.hub.specs.declared.answers.Answer.{Answer}
-use Rattle.hub.specs.declared.counts.Counts.{Counts}
+use Rattle.hub.specs.declared.record.Counts.{Counts}
 use Rattle.hub.specs.declared.moves.Call.{Call}
 use Rattle.hub.specs.declared.opening.Opening.{Opening}
 use Rattle.hub.specs.declared.record.Hub.{Hub}

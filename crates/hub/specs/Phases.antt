@@ -80,8 +80,11 @@ isWaiting = isOneOf (Waiting 0 ∷ [])
 abbrev pub stands : Phase → Bool
 stands = isOneOf (Waiting 0 ∷ Aborting 0 ∷ Cancelling 0 ∷ Refusing 0 ∷ [])
 
+abbrev pub RESTING : List Phase
+RESTING = Free ∷ Holding ∷ Waiting 0 ∷ []
+
 abbrev pub atRest : Phase → Bool
-atRest = isOneOf (Free ∷ Holding ∷ Waiting 0 ∷ [])
+atRest = isOneOf RESTING
 
 -- A party holds a permit in phases holding, giving back and fetching.
 abbrev pub holds : Phase → Bool

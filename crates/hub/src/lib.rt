@@ -7,7 +7,6 @@ pub mod slots; // what the record keeps of a party and of a place
 pub mod answers; // what a call answers
 pub mod moves; // a call, and what it looks at
 pub mod opening; // a fresh record
-pub mod counts; // what a record shows
 
 pub use answers::Answer;
 pub use answers::Refusal;

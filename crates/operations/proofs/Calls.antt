@@ -27,7 +27,7 @@ use Rattle.hub.specs.Look.{look, seenBy}
 use Rattle.hub.specs.Moves.{Change, Move, Act, Put}
 use Rattle.hub.specs.Phases.{atRest, byTicket}
 use Rattle.hub.specs.Radios.{moved, poolAfter}
-use Rattle.hub.specs.Record.{emptySeat, freeSlot, readSlot, writeSlot}
+use Rattle.hub.specs.Record.{emptySeat, freeSlot, readSlot, withPhase, withPlace, writeSlot}
 use Rattle.hub.specs.Ring.{Ring, readSeat, writeSeat}
 use Rattle.hub.specs.Schedule.{run}
 use Rattle.hub.specs.Table.{decide, stepIn}
@@ -150,9 +150,9 @@ withPlaces l h =
       pool = h .pool;
     }
 
--- A party's phase, the figures and the answer.
-abbrev pub to : Phase → Figures → Answer → Change
-to x f y = record { slot = record { phase = x }; figures = f; answer = y }
+-- A party's slot s in phase x, the figures and the answer.
+abbrev pub to : PartySlot → Phase → Figures → Answer → Change
+to s x f y = record { slot = withPhase x s; figures = f; answer = y }
 
 module _ (h : Hub) (p : ℕ) (inside : p < length (h .slots)) (present : ltb p (h .opening .parties) ≡ true)
   where
@@ -164,8 +164,23 @@ module _ (h : Hub) (p : ℕ) (inside : p < length (h .slots)) (present : ltb p (
     abbrev pub radios : Answer → Pool
     radios y = poolAfter (h .opening .named) (printed y) p (h .pool)
 
-    pub phase-now : (f : Figures) (x : Phase) → readSlot (now f x .slots) p .phase ≡ x
-    phase-now f x = ap (λ (s : PartySlot). s .phase) (written-slot (h .slots) p _ inside)
+    -- Its slot there, which is as it was but for the phase.
+    abbrev pub slot-in : Figures → Phase → PartySlot
+    slot-in f x = readSlot (now f x .slots) p
+
+    pub slot-now : (f : Figures) (x : Phase) → slot-in f x ≡ withPhase x (readSlot (h .slots) p)
+    slot-now f x = written-slot (h .slots) p _ inside
+
+    pub phase-now : (f : Figures) (x : Phase) → slot-in f x .phase ≡ x
+    phase-now f x = ap (λ (s : PartySlot). s .phase) (slot-now f x)
+
+    -- Its phase changed again.
+    again : (f : Figures) (x x′ : Phase)
+        → writeSlot (now f x .slots) p (withPhase x′ (slot-in f x))
+        ≡ writeSlot (h .slots) p (withPhase x′ (readSlot (h .slots) p))
+    again f x x′ =
+        written-twice (h .slots) p _ _
+        ∙ ap (λ (s : PartySlot). writeSlot (h .slots) p (withPhase x′ s)) (slot-now f x)
 
     pub rests-now : (f : Figures) (x : Phase) {b : Bool} → atRest x ≡ b → rests (now f x) p ≡ b
     rests-now f x e = ap atRest (phase-now f x) ∙ e
@@ -177,7 +192,7 @@ module _ (h : Hub) (p : ℕ) (inside : p < length (h .slots)) (present : ltb p (
 
     -- The call that begins an operation, before the tidying.
     pub begins : (o : Op) (f : Figures) (x : Phase) (y : Answer)
-        → moveOf h (record { op = o; party = p }) ≡ Act (to x f y)
+        → moveOf h (record { op = o; party = p }) ≡ Act (to (readSlot (h .slots) p) x f y)
         → called h (record { op = o; party = p }) ≡ record { answer = y; hub = withPool (radios y) (tidied (now f x)) }
     unfolding apply seenBy
     begins o f x y e = called-by h (record { op = o; party = p }) _ e
@@ -185,7 +200,7 @@ module _ (h : Hub) (p : ℕ) (inside : p < length (h .slots)) (present : ltb p (
     module _ (f : Figures) (x : Phase) (fit : fits (now f x) ≡ true) where
       -- A step that changes the phase to x′, and the figures.
       pub acts : (f′ : Figures) (x′ : Phase) (y : Answer)
-          → stepIn x (look (now f x) p) ≡ Act (to x′ f′ y)
+          → stepIn x (look (now f x) p) ≡ Act (to (slot-in f x) x′ f′ y)
           → called (now f x) (stepBy p)
           ≡ record { answer = y; hub = withPool (radios y) (tidied (now f′ x′)) }
       unfolding apply seenBy
@@ -194,11 +209,11 @@ module _ (h : Hub) (p : ℕ) (inside : p < length (h .slots)) (present : ltb p (
           ∙ ap
           (λ (l : List PartySlot).
           record { answer = y; hub = withPool (radios y) (tidied (withSlots l (figuresTo f′ h))) })
-          (written-twice (h .slots) p (record { phase = x }) (record { phase = x′ }))
+          (again f x x′)
 
       -- One that changes the place of its ticket t, too.
-      pub puts : (t : ℕ) (a : Place) (x′ : Phase) (y : Answer) → ((g : ℕ → List PlaceSlot) → byTicket (h .places) g x ≡ g t)
-          → stepIn x (look (now f x) p) ≡ Put (record { place = a }) (to x′ f y)
+      pub puts : (t : ℕ) (a : Place) (x′ : Phase) (y : Answer) → ((A : Type 0) (d : A) (g : ℕ → A) → byTicket d g x ≡ g t)
+          → stepIn x (look (now f x) p) ≡ Put (withPlace a (look (now f x) p .seat)) (to (slot-in f x) x′ f y)
           → called (now f x) (stepBy p)
           ≡ record { answer = y; hub = withPool (radios y) (tidied (placeTo t a (now f x′))) }
       unfolding apply seenBy
@@ -210,11 +225,16 @@ module _ (h : Hub) (p : ℕ) (inside : p < length (h .slots)) (present : ltb p (
             hub = withPool (radios y)
                 (tidied
                 (withPlaces
-                ((ap (byTicket (h .places) (λ u. writeSeat (h .places) u (record { place = a }))) (phase-now f x)
-                ∙ b (λ u. writeSeat (h .places) u (record { place = a }))) i)
-                (withSlots (written-twice (h .slots) p (record { phase = x }) (record { phase = x′ }) i)
+                ((ap (λ (g : Phase). byTicket (h .places) (put g) g) (phase-now f x)
+                ∙ b (List PlaceSlot) (h .places) (put x)
+                ∙ ap (λ (s : PlaceSlot). writeSeat (h .places) t (withPlace a s)) (b PlaceSlot emptySeat (readSeat (h .places)))) i)
+                (withSlots (again f x x′ i)
                 (figuresTo f h))));
           })
+        where
+          -- the place of a ticket u, by what party p sees in phase g
+          put : Phase → ℕ → List PlaceSlot
+          put g u = writeSeat (h .places) u (withPlace a (byTicket emptySeat (readSeat (h .places)) g))
 
     -- Where nothing is drawn to resume the tidying does nothing; and where no radio moves either, that is all.
     module _ (tidy : Tidy (ringOf h)) (f : Figures) (x : Phase) (same : f .resumed ≡ h .figures .resumed) where

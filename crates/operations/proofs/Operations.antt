@@ -162,7 +162,7 @@ module _ (h : Hub) (a : AtRest h) where
     gives-up true true i e = refused _ Refusal.NotCancellable e
     gives-up true false i e =
         give-up h a p present (ticketOf phase) (can-wait i)
-        (e ∙ ap (λ (f : Phase). Act (to (givenUp f) (h .figures) Answer.Accepted)) (can-wait i))
+        (e ∙ ap (λ (f : Phase). Act (to (readSlot (h .slots) p) (givenUp f) (h .figures) Answer.Accepted)) (can-wait i))
 
     gives-back : (x : Bool) → isHolding phase ≡ x
         → By (record { op = Op.Release; party = p }) (release x (look h p))

@@ -175,7 +175,8 @@ module _ (t : ℕ) (r : Ring) (d : Drawn t r) where
           resumed = r .resumed + 1;
           oldest = r .oldest;
           places = set-comm (r .places) (t % PLACES) (r .resumed % PLACES)
-              (record { place = Place.Done }) (record { place = Place.Done })
+              (withPlace Place.Done (readSeat (r .places) t))
+              (withPlace Place.Done (readSeat (r .places) (r .resumed)))
               (apart (r .oldest) t (r .resumed) (d .above) (d .below) within) i;
         }
 

@@ -28,7 +28,7 @@ use Rattle.hub.specs.Look.{look, seenBy}
 use Rattle.hub.specs.Moves.{Act, Move, Wake}
 use Rattle.hub.specs.Phases.{atRest, byTicket, byWaiter, isCancelled, isDone, isOneOf, isPlaceOf, isWaiting, ticketOf}
 use Rattle.hub.specs.Radios.{handOf, handTo, moved, poolAfter}
-use Rattle.hub.specs.Record.{emptySeat, freeSlot, readSlot, writeSlot}
+use Rattle.hub.specs.Record.{emptySeat, freeSlot, readSlot, withPhase, withPlace, writeSlot}
 use Rattle.hub.specs.Ring.{PLACES, Ring, readPlace, readSeat, writeSeat}
 use Rattle.hub.specs.Table.{aboveZero, belowZero, stepAborting, stepAcquiring, stepCancelling, stepFetching}
 use Rattle.hub.specs.Table.{resumeWaiter, stepIn, stepReleasing, stepResuming, stepResumingAt, stepStoring}
@@ -40,7 +40,7 @@ use Rattle.operations.specs.AtRest.{acquired, came, cancelled, figuresTo
 use Rattle.operations.specs.AtRest.{radiosBy, released}
 use Rattle.operations.specs.Operation.{operated}
 use Rattle.operations.proofs.Calls.{Fit, acts, begins, called-by, fits-now, now, onward, puts, quiet, radios}
-use Rattle.operations.proofs.Calls.{other-slot, phase-now, rests-now, seat-now, step-by, still, tidied-now}
+use Rattle.operations.proofs.Calls.{other-slot, phase-now, rests-now, seat-now, slot-in, slot-now, step-by, still, tidied-now}
 use Rattle.operations.proofs.Calls.{tidied-same, to, written-around, written-length, written-rests}
 use Rattle.operations.proofs.Rest.{AtRest, above-zero}
 use Rattle.operations.proofs.Ring.{Drawn, Tidy, done-between, drawn-stays, read-not}
@@ -72,7 +72,7 @@ module _ (h : Hub) (a : AtRest h) (p : ℕ) (present : ltb p (h .opening .partie
 
   -- The call, and steps that move nothing else.
   call : (o : Op) (f : Figures) (x : Phase) → f .resumed ≡ figures .resumed
-      → moveOf h (record { op = o; party = p }) ≡ Act (to x f Answer.Accepted)
+      → moveOf h (record { op = o; party = p }) ≡ Act (to (readSlot (h .slots) p) x f Answer.Accepted)
       → called h (record { op = o; party = p }) ≡ record { answer = Answer.Accepted; hub = here f x }
   unfolding moved
   call o f x e m =
@@ -82,7 +82,7 @@ module _ (h : Hub) (a : AtRest h) (p : ℕ) (present : ltb p (h .opening .partie
 
   step : (f : Figures) (x : Phase) (f′ : Figures) (x′ : Phase) (y : Answer) → Fit (here f x)
       → f′ .resumed ≡ figures .resumed → moved (printed y) p (h .pool) ≡ h .pool
-      → stepIn x (look (here f x) p) ≡ Act (to x′ f′ y)
+      → stepIn x (look (here f x) p) ≡ Act (to (slot-in h p inside present f x) x′ f′ y)
       → called (here f x) (stepBy p) ≡ record { answer = y; hub = here f′ x′ }
   step f x f′ x′ y fit e m s =
       acts h p inside present f x (fits-now (here f x) fit) f′ x′ y s
@@ -90,7 +90,7 @@ module _ (h : Hub) (a : AtRest h) (p : ℕ) (present : ltb p (h .opening .partie
 
   -- A step that moves a radio.
   step-radio : (f : Figures) (x : Phase) (f′ : Figures) (x′ : Phase) (y : Answer) → Fit (here f x)
-      → f′ .resumed ≡ figures .resumed → stepIn x (look (here f x) p) ≡ Act (to x′ f′ y)
+      → f′ .resumed ≡ figures .resumed → stepIn x (look (here f x) p) ≡ Act (to (slot-in h p inside present f x) x′ f′ y)
       → called (here f x) (stepBy p)
       ≡ record { answer = y; hub = withPool (radios h p inside present y) (here f′ x′) }
   step-radio f x f′ x′ y fit e s =
@@ -159,7 +159,7 @@ module _ (h : Hub) (a : AtRest h) (p : ℕ) (present : ltb p (h .opening .partie
 
   -- Ask.
   module _ (m : moveOf h (record { op = Op.Acquire; party = p })
-      ≡ Act (to Phase.Acquiring (withBegun (figures .begun + 1) figures) Answer.Accepted)) where
+      ≡ Act (to (readSlot (h .slots) p) Phase.Acquiring (withBegun (figures .begun + 1) figures) Answer.Accepted)) where
     abbrev asked : Figures
     asked = withBegun (figures .begun + 1) figures
 
@@ -240,10 +240,10 @@ module _ (h : Hub) (a : AtRest h) (p : ℕ) (present : ltb p (h .opening .partie
             size = written-size (h .places) (a .places) ticket _;
             unskipped =
                 and-false (ltb (figures .resumed) (h .oldest + PLACES)) _
-                (read-not (h .places) (a .places) ticket (figures .resumed) (record { place = Place.Waiting p })
+                (read-not (h .places) (a .places) ticket (figures .resumed) (withPlace (Place.Waiting p) (readSeat (h .places) ticket))
                 isCancelled refl (not-cancelled h a));
             unretired =
-                read-not (h .places) (a .places) ticket (h .oldest) (record { place = Place.Waiting p })
+                read-not (h .places) (a .places) ticket (h .oldest) (withPlace (Place.Waiting p) (readSeat (h .places) ticket))
                 isDone refl (a .unretired);
           }
         where
@@ -258,7 +258,7 @@ module _ (h : Hub) (a : AtRest h) (p : ℕ) (present : ltb p (h .opening .partie
           puts h p inside present drew (Phase.Ticketed ticket)
           (fits-now (here drew (Phase.Ticketed ticket))
           (onward _ _ _ _ (onward _ _ _ _ (onward h _ _ _ (a .fit) ask-call) wait-22) wait-23))
-          ticket (Place.Waiting p) (Phase.Waiting ticket) (Answer.Parked ticket) (λ g. refl)
+          ticket (Place.Waiting p) (Phase.Waiting ticket) (Answer.Parked ticket) (λ A d g. refl)
           (ap
           (λ (b : Place).
           stepTicketed (Phase.Waiting ticket) ticket b (look (here drew (Phase.Ticketed ticket)) p))
@@ -284,7 +284,7 @@ module _ (h : Hub) (a : AtRest h) (p : ℕ) (present : ltb p (h .opening .partie
   -- Give up: 2E, 30.
   module _ (t : ℕ) (waits : readSlot (h .slots) p .phase ≡ Phase.Waiting t)
       (m : moveOf h (record { op = Op.Cancel; party = p })
-      ≡ Act (to (Phase.Aborting t) figures Answer.Accepted)) where
+      ≡ Act (to (readSlot (h .slots) p) (Phase.Aborting t) figures Answer.Accepted)) where
     up-call : called h (record { op = Op.Cancel; party = p })
         ≡ record { answer = Answer.Accepted; hub = here figures (Phase.Aborting t) }
     up-call = call Op.Cancel figures (Phase.Aborting t) refl m
@@ -308,7 +308,7 @@ module _ (h : Hub) (a : AtRest h) (p : ℕ) (present : ltb p (h .opening .partie
         puts h p inside present told-more (Phase.Cancelling t)
         (fits-now (here told-more (Phase.Cancelling t))
         (onward _ _ _ _ (onward h _ _ _ (a .fit) up-call) up-2E))
-        t Place.Cancelled Phase.Free (Answer.MarkedCancelled t) (λ g. refl)
+        t Place.Cancelled Phase.Free (Answer.MarkedCancelled t) (λ A d g. refl)
         (ap (λ (b : Place). stepCancelling t b (look (here told-more (Phase.Cancelling t)) p))
         (seat-now h p inside present told-more (Phase.Cancelling t) ∙ a .waits p t waits .0))
         ∙ ap (λ (k : Hub). record { answer = Answer.MarkedCancelled t; hub = k })
@@ -331,7 +331,7 @@ module _ (h : Hub) (a : AtRest h) (p : ℕ) (present : ltb p (h .opening .partie
 
   -- Give back.
   module _ (m : moveOf h (record { op = Op.Release; party = p })
-      ≡ Act (to Phase.Releasing figures Answer.Accepted)) where
+      ≡ Act (to (readSlot (h .slots) p) Phase.Releasing figures Answer.Accepted)) where
     give-call : called h (record { op = Op.Release; party = p })
         ≡ record { answer = Answer.Accepted; hub = here figures Phase.Releasing }
     give-call = call Op.Release figures Phase.Releasing refl m
@@ -427,18 +427,20 @@ module _ (h : Hub) (a : AtRest h) (p : ℕ) (present : ltb p (h .opening .partie
           ∙ ap (λ (x : PlaceSlot). x .place) (drawn-stays turn ring ring-drawn (a .oldest) undone)
           ∙ waited
 
+      waiter-seen : look handing p .waiter ≡ readSlot (h .slots) q
+      unfolding seenBy tidied
+      waiter-seen =
+          ap (byWaiter freeSlot (readSlot (handing .slots))) handing-place
+          ∙ other-slot (h .slots) p _ q (λ z. other (sym z))
+
       handing-waiter : isWaiting (look handing p .waiter .phase) ≡ true
-      unfolding seenBy tidied isOneOf
-      handing-waiter =
-          ap (λ (b : Place). isWaiting (byWaiter freeSlot (readSlot (handing .slots)) b .phase)) handing-place
-          ∙ ap (λ (x : PartySlot). isWaiting (x .phase))
-          (other-slot (h .slots) p (record { phase = Phase.ResumingAt turn }) q (λ z. other (sym z)))
-          ∙ ap isWaiting next
+      unfolding isOneOf
+      handing-waiter = ap (λ (x : PartySlot). isWaiting (x .phase)) waiter-seen ∙ ap isWaiting next
 
       abbrev wakes : Move
       wakes =
-          Wake q (record { phase = Phase.Holding }) (record { place = Place.Done })
-          (to Phase.Free (handing .figures) (Answer.Woke q turn))
+          Wake q (withPhase Phase.Holding (look handing p .waiter)) (withPlace Place.Done (look handing p .seat))
+          (to (look handing p .slot) Phase.Free (handing .figures) (Answer.Woke q turn))
 
       handing-row : stepIn (Phase.ResumingAt turn) (look handing p) ≡ wakes
       unfolding stepIn stepResumingAt resumeWaiter seenBy
@@ -465,6 +467,21 @@ module _ (h : Hub) (a : AtRest h) (p : ℕ) (present : ltb p (h .opening .partie
             pool = h .pool;
           }
 
+      -- the waiter holds, and the party is free
+      slots-left : writeSlot (writeSlot (handing .slots) q (withPhase Phase.Holding (look handing p .waiter))) p
+          (withPhase Phase.Free (look handing p .slot))
+          ≡ phaseTo p Phase.Free (phaseTo q Phase.Holding (figuresTo taken h)) .slots
+      unfolding seenBy tidied
+      slots-left =
+          written-around (h .slots) p _ q _ _ other
+          ∙ (λ i.
+          writeSlot (writeSlot (h .slots) q (withPhase Phase.Holding (waiter-seen i))) p
+          (withPhase Phase.Free (slot-now h p inside present taken (Phase.ResumingAt turn) i)))
+          ∙ ap
+          (λ (s : PartySlot).
+          writeSlot (writeSlot (h .slots) q (withPhase Phase.Holding (readSlot (h .slots) q))) p (withPhase Phase.Free s))
+          (sym (other-slot (h .slots) q (withPhase Phase.Holding (readSlot (h .slots) q)) p other))
+
       abbrev woke : Hub → Outcome
       woke k =
           record {
@@ -484,9 +501,12 @@ module _ (h : Hub) (a : AtRest h) (p : ℕ) (present : ltb p (h .opening .partie
           woke
           (tidied
           (leaving
-          (byTicket (handing .places) (λ u. writeSeat (handing .places) u (record { place = Place.Done })) (handing-phase i))
-          (written-around (h .slots) p (record { phase = Phase.ResumingAt turn }) q
-          (record { phase = Phase.Holding }) (record { phase = Phase.Free }) other i))))
+          (byTicket (handing .places)
+          (λ u.
+          writeSeat (handing .places) u
+          (withPlace Place.Done (byTicket emptySeat (readSeat (handing .places)) (handing-phase i))))
+          (handing-phase i))
+          (slots-left i))))
           ∙ ap
           (λ (r : Ring).
           woke
@@ -498,9 +518,9 @@ module _ (h : Hub) (a : AtRest h) (p : ℕ) (present : ltb p (h .opening .partie
       served-rests : (r : ℕ) → rests served r ≡ true
       unfolding tidied isOneOf
       served-rests =
-          written-rests (writeSlot (h .slots) q (record { phase = Phase.Holding })) p (record { phase = Phase.Free })
-          (omega (arith, inside, written-length (h .slots) q (record { phase = Phase.Holding }))) refl
-          (written-rests (h .slots) q (record { phase = Phase.Holding })
+          written-rests _ p _
+          (omega (arith, inside, written-length (h .slots) q (withPhase Phase.Holding (readSlot (h .slots) q)))) refl
+          (written-rests (h .slots) q _
           (waiter-inside h a q turn next) refl (a .calm))
 
       woken-shown : cond (eqb q 0xFF) 0xFF q ≡ q

@@ -1,5 +1,5 @@
 // Calls in place, and whole operations. A call prints code, party, woken party, number; a whole operation code, party,
-// woken party, steps; and between them is what the record shows.
+// woken party, steps; and after each list of them is what the record shows.
 // The expected output, beside this program, was written by hand from the paper.
 
 use board::call_on_board;
@@ -12,7 +12,6 @@ use hub::moves::Op;
 use hub::record::Figures;
 use hub::record::Hub;
 use openhub::sized;
-use step::calls::acquire;
 
 // What a record shows: held, at the counter, on the way, waiting.
 fn print_counts(hub: Hub) {
@@ -32,66 +31,42 @@ fn opened(permits: u8, parties: u8) -> Hub {
     Hub::open(sized(permits, parties))
 }
 
+fn op_of(code: u8) -> Op {
+    match code {
+        0x10 => Op::Acquire,
+        0x11 => Op::Step,
+        0x12 => Op::Cancel,
+        0x13 => Op::Release,
+        _ => Op::Radio,
+    }
+}
+
 // A call in place.
-fn called(hub: Hub, op: Op, party: u8) -> Hub {
-    let o = call_on_board(hub, op, party);
+fn call(hub: Hub, code: u8, party: u8) -> Hub {
+    let o = call_on_board(hub, op_of(code), party);
     let answer = o.answer;
     let line = answer_line(party, answer);
     io::write_all(1, &line);
     o.hub
 }
 
-fn asked_and_stepped(h: Hub, party: u8) -> Hub {
-    let h = called(h, Op::Acquire, party);
-    called(h, Op::Step, party)
-}
-
-fn stepped_twice(h: Hub, party: u8) -> Hub {
-    let h = called(h, Op::Step, party);
-    called(h, Op::Step, party)
-}
-
-// Two of three parties take both permits, and the third waits.
-fn all_taken() -> Hub {
-    let h = opened(2, 3);
-    print_counts(h);
-    let h = asked_and_stepped(h, 0);
-    let h = asked_and_stepped(h, 1);
-    let h = asked_and_stepped(h, 2);
-    let h = stepped_twice(h, 2);
+// Calls, each its code and its party.
+fn play(hub: Hub, calls: &[u8]) -> Hub {
+    let total = calls.len() / 2;
+    let mut h = hub;
+    let mut i: usize = 0;
+    while i < total {
+        let next = call(h, calls[2 * i], calls[2 * i + 1]);
+        h = next;
+        i += 1;
+    }
     print_counts(h);
     h
 }
 
-// One gives back, and its permit is on the way to the third.
-fn one_given_back(h: Hub) -> Hub {
-    let h = called(h, Op::Release, 0);
-    let h = called(h, Op::Step, 0);
-    print_counts(h);
-    h
-}
-
-// Which gives up, once, and refuses it.
-fn given_up(h: Hub) -> Hub {
-    let h = called(h, Op::Cancel, 2);
-    let h = called(h, Op::Cancel, 2);
-    let h = called(h, Op::Step, 2);
-    print_counts(h);
-    let h = called(h, Op::Step, 2);
-    print_counts(h);
-    h
-}
-
-// The one that gave back comes to rest.
-fn brought_to_rest(h: Hub) {
-    let h = stepped_twice(h, 0);
-    let h = called(h, Op::Radio, 0);
-    print_counts(h);
-}
-
-// A whole operation in place: code, party, woken party, steps.
-fn whole(hub: Hub, op: Op, party: u8) -> Hub {
-    let o = operate_on_board(hub, op, party);
+// A whole operation in place.
+fn operate(hub: Hub, code: u8, party: u8) -> Hub {
+    let o = operate_on_board(hub, op_of(code), party);
     let answer = o.answer;
     let told = [
         print_of(answer).code,
@@ -105,66 +80,59 @@ fn whole(hub: Hub, op: Op, party: u8) -> Hub {
     o.hub
 }
 
-// One holds, and two wait.
-fn two_wait() -> Hub {
-    let h = opened(1, 3);
-    let h = whole(h, Op::Acquire, 0);
-    let h = whole(h, Op::Acquire, 1);
-    let h = whole(h, Op::Acquire, 2);
+// Operations, each its code and its party.
+fn to_rest(hub: Hub, operations: &[u8]) -> Hub {
+    let total = operations.len() / 2;
+    let mut h = hub;
+    let mut i: usize = 0;
+    while i < total {
+        let next = operate(h, operations[2 * i], operations[2 * i + 1]);
+        h = next;
+        i += 1;
+    }
     print_counts(h);
     h
 }
 
-// One of them gives up and waits again, and the other is served.
-fn one_served(h: Hub) -> Hub {
-    let h = whole(h, Op::Cancel, 1);
-    let h = whole(h, Op::Acquire, 1);
-    let h = whole(h, Op::Release, 0);
-    print_counts(h);
-    h
+fn in_place() {
+    let h = play(opened(2, 3), b"");
+    // two of three parties take both permits, and the third waits
+    let h = play(
+        h,
+        b"\x10\x00\x11\x00\x10\x01\x11\x01\x10\x02\x11\x02\x11\x02\x11\x02",
+    );
+    // one gives back, and its permit is on the way to the third
+    let h = play(h, b"\x13\x00\x11\x00");
+    // which gives up, once, and refuses it
+    let h = play(h, b"\x12\x02\x12\x02\x11\x02");
+    let h = play(h, b"\x11\x02");
+    // the one that gave back comes to rest
+    play(h, b"\x11\x00\x11\x00\x14\x00");
 }
 
-// The one that gave up is served last.
-fn both_served(h: Hub) -> Hub {
-    let h = whole(h, Op::Acquire, 2);
-    let h = whole(h, Op::Release, 2);
-    whole(h, Op::Release, 1)
+// Whole operations on a hub at rest.
+fn at_rest() {
+    // one holds, and two wait
+    let h = to_rest(opened(1, 3), b"\x10\x00\x10\x01\x10\x02");
+    // one of them gives up and waits again, and the other is served
+    let h = to_rest(h, b"\x12\x01\x10\x01\x13\x00");
+    // the one that gave up is served last; then nothing changes
+    to_rest(
+        h,
+        b"\x10\x02\x13\x02\x13\x01\x13\x01\x12\x01\x10\x03\x10\xFF",
+    );
+    // the waits of party 30 stay
+    to_rest(opened(1, 31), b"\x10\x00\x10\x1E\x12\x1E");
 }
 
-fn nothing_changed(h: Hub) {
-    let h = whole(h, Op::Release, 1);
-    let h = whole(h, Op::Cancel, 1);
-    let h = whole(h, Op::Acquire, 3);
-    let h = whole(h, Op::Acquire, 255);
-    print_counts(h);
-}
-
-// The waits of party 30 stay.
-fn built_in_kinds() {
-    let h = whole(opened(1, 31), Op::Acquire, 0);
-    let h = whole(h, Op::Acquire, 30);
-    let h = whole(h, Op::Cancel, 30);
-    print_counts(h);
-}
-
-// A hub of one permit where party 0 is of kind 3 and party 30 a door.
-fn opened_with_kinds() -> Hub {
+// Where party 0 is of kind 3 and party 30 a door, the waits of 0 stay and those of 30 do not.
+fn own_kinds() {
     let mut kinds = [0u8; 32];
     kinds[0] = 3;
     kinds[30] = 1;
     let mut o = sized(1, 31);
     o.kinds = kinds;
-    Hub::open(o)
-}
-
-// There the waits of party 0 stay and those of 30 do not.
-fn own_kinds(h: Hub) {
-    let h = whole(h, Op::Acquire, 1);
-    let h = whole(h, Op::Acquire, 0);
-    let h = whole(h, Op::Acquire, 30);
-    let h = whole(h, Op::Cancel, 0);
-    let h = whole(h, Op::Cancel, 30);
-    print_counts(h);
+    to_rest(Hub::open(o), b"\x10\x01\x10\x00\x10\x1E\x12\x00\x12\x1E");
 }
 
 // Party 0 asks on a hub of so many permits with these figures.
@@ -177,45 +145,37 @@ fn asked_at(permits: u8, counter: i32, issued: u32, begun: u32) {
         begun,
     };
     h.figures = figures;
-    whole(h, Op::Acquire, 0);
+    to_rest(h, b"\x10\x00");
 }
 
-// Party 0 has asked: one more ask is refused and makes no step of the first; a give-up is remembered, and forgotten with
-// the permit that the next step gets.
-fn asked_before() -> Hub {
-    let o = acquire(opened(1, 3), 0);
-    let h = whole(o.hub, Op::Acquire, 0);
-    print_counts(h);
-    let h = whole(h, Op::Cancel, 0);
-    print_counts(h);
-    h
+// Kinds that were not 32 in number do not fit.
+fn miscounted() {
+    let mut h = opened(1, 3);
+    h.opening.counted = false;
+    to_rest(h, b"\x13\x00");
 }
 
-// Where there is none an early give-up takes five steps; three are made, and a second is refused.
-fn given_up_early(h: Hub) {
-    let o = acquire(h, 1);
-    let h = whole(o.hub, Op::Cancel, 1);
-    let h = whole(h, Op::Cancel, 1);
-    print_counts(h);
-}
-
-// Whole operations on a hub at rest.
-fn to_rest() {
-    let h = one_served(two_wait());
-    nothing_changed(both_served(h));
-    built_in_kinds();
-    own_kinds(opened_with_kinds());
+// A party that has asked: one more ask is refused and makes no step of the first; a give-up is remembered, and forgotten
+// with the permit that the next step gets. Where there is none an early give-up takes five steps; three are made, and a
+// second is refused.
+fn asked_before() {
+    let h = play(opened(1, 3), b"\x10\x00");
+    let h = to_rest(h, b"\x10\x00");
+    let h = to_rest(h, b"\x12\x00");
+    let h = play(h, b"\x10\x01");
+    to_rest(h, b"\x12\x01\x12\x01");
 }
 
 fn main() {
-    let h = one_given_back(all_taken());
-    brought_to_rest(given_up(h));
+    in_place();
     io::write_all(1, b"\n");
-    to_rest();
+    at_rest();
+    own_kinds();
     io::write_all(1, b"\n");
     // a record that does not fit, a million asks begun, 256 tickets issued
     asked_at(32, 33, 0, 0);
     asked_at(1, 1, 0, 1000000);
     asked_at(1, 1, 256, 0);
-    given_up_early(asked_before());
+    miscounted();
+    asked_before();
 }

@@ -1,7 +1,7 @@
 -- The closing line shows what the record's counts are.
 use Prim.Native.Nat.{ℕ}
 use mathlib.Core.Path.{_≡_}
-use Rattle.hub.specs.declared.counts.Counts.{Counts}
+use Rattle.hub.specs.declared.record.Counts.{Counts}
 use Rattle.hub.specs.declared.record.Hub.{Hub}
 use Rattle.hub.specs.Counts.{countsOf}
 use Rattle.encoding.specs.Frame.{frameOf, twosComplement}

@@ -10,13 +10,13 @@ use native.Mathlib.Omega.{arith}
 use borrow.Author.Tests.{eqb-true}
 use lib.Dec.{eqb}
 use Rattle.hub.specs.declared.record.Phase.{Phase}
-use Rattle.hub.specs.declared.record.Phase.the-variants.{Free, Holding, Waiting, Suspending}
+use Rattle.hub.specs.declared.record.Phase.the-variants.{Free, Waiting, Suspending}
 use Rattle.hub.specs.declared.record.Phase.the-variants.{ResumingAt, Fetching, SuspendingMarked}
 use Rattle.hub.specs.declared.record.Place.{Place}
 use Rattle.hub.specs.declared.record.Place.the-variants.{Permit}
 use Rattle.hub.specs.Basics.{among, bit, weight}
 use Rattle.hub.specs.Ledger.{phaseIn}
-use Rattle.hub.specs.Phases.{isOneOf, isPermit, isPlaceOf, rank, ticketOf, atRest}
+use Rattle.hub.specs.Phases.{RESTING, isOneOf, isPermit, isPlaceOf, rank, ticketOf, atRest}
 use Rattle.hub.proofs.Laws.Lists.{weight-scale}
 use Rattle.hub.proofs.Laws.Phases.{every-phase, every-place, place-of}
 use Rattle.hub.proofs.Laws.Ranges.{sum-zero}
@@ -26,7 +26,7 @@ use Rattle.hub.proofs.Invariant.Weights.{stage, permitCell, spent, serv
 use Rattle.hub.proofs.Invariant.Tickets.{Tickets, one-in, permit-below, resumed-most}
 
 abbrev pub quiet : List Phase
-quiet = Free ∷ Holding ∷ Waiting 0 ∷ Fetching ∷ []
+quiet = Fetching ∷ RESTING
 
 abbrev pub settled : Phase → Bool
 settled = isOneOf quiet
@@ -36,7 +36,7 @@ Settled l = (p : ℕ) → settled (phaseIn l p) ≡ true
 
 pub rest-settled : (f : Phase) → atRest f ≡ true → settled f ≡ true
 unfolding isOneOf
-rest-settled f e = in-longer (Free ∷ Holding ∷ Waiting 0 ∷ []) quiet (rank f) refl e
+rest-settled f e = in-longer RESTING quiet (rank f) refl e
 
 -- A phase of one list is in no other that has none of its phases.
 abbrev apart : List Phase → List Phase → Bool

@@ -1,10 +1,10 @@
 -- `slot_of` meets its contract: the phase is that of its name, its ticket and its mark.
 use borrow.Author.Needs.{needs}
 use Prim.Native.Nat.{ℕ, _+_, _*_, _%_}
-use mathlib.Core.Path.{ap, _∙_}
+use mathlib.Core.Path.{ap, ap₂, _∙_}
 use lib.ListN.{getD}
 use Rattle.hub.specs.declared.record.Phase.{Phase}
-use Rattle.hub.specs.Record.{freeSlot, withPhase}
+use Rattle.hub.specs.Record.{withPhase}
 use Rattle.cells.specs.Phases.{marked, phaseNamed}
 use Rattle.layout.proofs.parties.slot_of.Statement.{statement}
 use Rattle.layout.proofs.parties.slot_of.Tie as tie
@@ -51,11 +51,12 @@ returns c =
     let b = s .args .bytes .now in
     let p = s .args .p in
     c .with-phase .ensures
-    ∙ ap (λ (f : Phase). withPhase f freeSlot)
+    ∙ ap₂ withPhase
     (c .before .before .marked .ensures
     ∙ ap (λ (f : Phase). marked f (getD b (1817 + p) 0))
     (c .before .before .before .before .phase-named .ensures
     ∙ ap (phaseNamed (getD b (1302 + 5 * p) 0 % 14)) (c .before .before .before .before .before .number-at .ensures)))
+    (c .before .free-slot .ensures)
 
 pub slot-of-spec : {M : Type 1} → statement M
 slot-of-spec =
