@@ -1,8 +1,8 @@
 -- What is decided, once it is stored and tidied, is what the operation comes to.
-use Prim.Native.Nat.{ℕ, _+_, _≤_}
+use Prim.Native.Nat.{ℕ, zero, suc, _+_, _≤_}
 use mathlib.Core.Path.{_≡_, refl, sym, ap, subst, _∙_}
 use mathlib.Core.Bool.{Bool, true, false, cond, _&&_}
-use mathlib.Core.List.{List}
+use mathlib.Core.List.{List, [], _∷_}
 use native.Mathlib.Omega.{arith}
 use lib.Dec.{eqb, ltb}
 use lib.ListN.{length}
@@ -46,6 +46,16 @@ gives-up x e =
     ap (λ (b : Bool). b && canCancel x) (sym e)
     ∙ phases-alike (λ y. atRest y && canCancel y) (λ y. atRest y && isWaiting y) (λ t. refl) x
     ∙ ap (λ (b : Bool). b && isWaiting x) e
+
+-- A party's slot with another phase is the same whether or not somebody's phase was changed before.
+phase-alone : (x y : Phase) (l : List PartySlot) (p q : ℕ)
+    → withPhase x (readSlot (writeSlot l q (withPhase y (readSlot l q))) p) ≡ withPhase x (readSlot l p)
+unfolding readSlot writeSlot
+phase-alone x y [] p q = refl
+phase-alone x y (s ∷ l) zero zero = refl
+phase-alone x y (s ∷ l) zero (suc q) = refl
+phase-alone x y (s ∷ l) (suc p) zero = refl
+phase-alone x y (s ∷ l) (suc p) (suc q) = phase-alone x y l p q
 
 -- The radios: a refusal, a wait and a give-up move none; one more step fetches, or puts back; a hand-over hands on.
 module _ (p : ℕ) (r : Pool) where
@@ -255,7 +265,10 @@ module _ (h : Hub) (p : ℕ) where
           hub =
               tidied-all _
               ∙ ap tidied
-              (λ i. made (e .figures) (placesBy 0x13 e) (slotsBy e)
+              (λ i. made (e .figures) (placesBy 0x13 e)
+              (writeSlot
+              (writeSlot (h .slots) (e .woken) (withPhase Phase.Holding (readSlot (h .slots) (e .woken)))) p
+              (sym (phase-alone Phase.Free Phase.Holding (h .slots) p (e .woken)) i))
               (handed p (h .pool) (h .opening .named) (e .woken) i));
         }
 
