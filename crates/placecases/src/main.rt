@@ -1,5 +1,5 @@
 // Calls in place, and whole operations. A call prints code, party, woken party, number; a whole operation code, party,
-// woken party, steps; and after each list of them is what the record shows.
+// woken party, steps; and between them is what the record shows.
 // The expected output, beside this program, was written by hand from the paper.
 
 use board::call_on_board;
@@ -50,20 +50,6 @@ fn call(hub: Hub, code: u8, party: u8) -> Hub {
     o.hub
 }
 
-// Calls, each its code and its party.
-fn play(hub: Hub, calls: &[u8]) -> Hub {
-    let total = calls.len() / 2;
-    let mut h = hub;
-    let mut i: usize = 0;
-    while i < total {
-        let next = call(h, calls[2 * i], calls[2 * i + 1]);
-        h = next;
-        i += 1;
-    }
-    print_counts(h);
-    h
-}
-
 // A whole operation in place.
 fn operate(hub: Hub, code: u8, party: u8) -> Hub {
     let o = operate_on_board(hub, op_of(code), party);
@@ -80,49 +66,57 @@ fn operate(hub: Hub, code: u8, party: u8) -> Hub {
     o.hub
 }
 
-// Operations, each its code and its party.
-fn to_rest(hub: Hub, operations: &[u8]) -> Hub {
-    let total = operations.len() / 2;
+// One entry of a list: 00 shows the record, 10 to 14 is a call, 50, 52 and 53 are whole operations.
+fn enter(hub: Hub, code: u8, party: u8) -> Hub {
+    if code == 0 {
+        print_counts(hub);
+        return hub;
+    }
+    if 0x40 <= code {
+        return operate(hub, code - 0x40, party);
+    }
+    call(hub, code, party)
+}
+
+// A list of entries, each its code and its party.
+fn play(hub: Hub, list: &[u8]) {
+    let total = list.len() / 2;
     let mut h = hub;
     let mut i: usize = 0;
     while i < total {
-        let next = operate(h, operations[2 * i], operations[2 * i + 1]);
+        let next = enter(h, list[2 * i], list[2 * i + 1]);
         h = next;
         i += 1;
     }
-    print_counts(h);
-    h
 }
 
+// Two of three parties take both permits, and the third waits. One gives back, and its permit is on the way to the
+// third; which gives up, once, and refuses it. The one that gave back comes to rest.
 fn in_place() {
-    let h = play(opened(2, 3), b"");
-    // two of three parties take both permits, and the third waits
-    let h = play(
-        h,
-        b"\x10\x00\x11\x00\x10\x01\x11\x01\x10\x02\x11\x02\x11\x02\x11\x02",
+    play(
+        opened(2, 3),
+        b"\x00\x00\
+          \x10\x00\x11\x00\x10\x01\x11\x01\x10\x02\x11\x02\x11\x02\x11\x02\x00\x00\
+          \x13\x00\x11\x00\x00\x00\
+          \x12\x02\x12\x02\x11\x02\x00\x00\x11\x02\x00\x00\
+          \x11\x00\x11\x00\x14\x00\x00\x00",
     );
-    // one gives back, and its permit is on the way to the third
-    let h = play(h, b"\x13\x00\x11\x00");
-    // which gives up, once, and refuses it
-    let h = play(h, b"\x12\x02\x12\x02\x11\x02");
-    let h = play(h, b"\x11\x02");
-    // the one that gave back comes to rest
-    play(h, b"\x11\x00\x11\x00\x14\x00");
 }
 
-// Whole operations on a hub at rest.
-fn at_rest() {
-    // one holds, and two wait
-    let h = to_rest(opened(1, 3), b"\x10\x00\x10\x01\x10\x02");
-    // one of them gives up and waits again, and the other is served
-    let h = to_rest(h, b"\x12\x01\x10\x01\x13\x00");
-    // the one that gave up is served last; then nothing changes
-    to_rest(
-        h,
-        b"\x10\x02\x13\x02\x13\x01\x13\x01\x12\x01\x10\x03\x10\xFF",
+// One holds, and two wait; one of them gives up and waits again, and the other is served; the one that gave up is served
+// last. Then nothing changes.
+fn to_rest() {
+    play(
+        opened(1, 3),
+        b"\x50\x00\x50\x01\x50\x02\x00\x00\
+          \x52\x01\x50\x01\x53\x00\x00\x00\
+          \x50\x02\x53\x02\x53\x01\x53\x01\x52\x01\x50\x03\x50\xFF\x00\x00",
     );
-    // the waits of party 30 stay
-    to_rest(opened(1, 31), b"\x10\x00\x10\x1E\x12\x1E");
+}
+
+// The waits of party 30 stay.
+fn built_in_kinds() {
+    play(opened(1, 31), b"\x50\x00\x50\x1E\x52\x1E\x00\x00");
 }
 
 // Where party 0 is of kind 3 and party 30 a door, the waits of 0 stay and those of 30 do not.
@@ -132,7 +126,10 @@ fn own_kinds() {
     kinds[30] = 1;
     let mut o = sized(1, 31);
     o.kinds = kinds;
-    to_rest(Hub::open(o), b"\x10\x01\x10\x00\x10\x1E\x12\x00\x12\x1E");
+    play(
+        Hub::open(o),
+        b"\x50\x01\x50\x00\x50\x1E\x52\x00\x52\x1E\x00\x00",
+    );
 }
 
 // Party 0 asks on a hub of so many permits with these figures.
@@ -145,31 +142,32 @@ fn asked_at(permits: u8, counter: i32, issued: u32, begun: u32) {
         begun,
     };
     h.figures = figures;
-    to_rest(h, b"\x10\x00");
+    play(h, b"\x50\x00\x00\x00");
 }
 
 // Kinds that were not 32 in number do not fit.
 fn miscounted() {
     let mut h = opened(1, 3);
     h.opening.counted = false;
-    to_rest(h, b"\x13\x00");
+    play(h, b"\x53\x00\x00\x00");
 }
 
 // A party that has asked: one more ask is refused and makes no step of the first; a give-up is remembered, and forgotten
 // with the permit that the next step gets. Where there is none an early give-up takes five steps; three are made, and a
 // second is refused.
 fn asked_before() {
-    let h = play(opened(1, 3), b"\x10\x00");
-    let h = to_rest(h, b"\x10\x00");
-    let h = to_rest(h, b"\x12\x00");
-    let h = play(h, b"\x10\x01");
-    to_rest(h, b"\x12\x01\x12\x01");
+    play(
+        opened(1, 3),
+        b"\x10\x00\x00\x00\x50\x00\x00\x00\x52\x00\x00\x00\
+          \x10\x01\x00\x00\x52\x01\x52\x01\x00\x00",
+    );
 }
 
 fn main() {
     in_place();
     io::write_all(1, b"\n");
-    at_rest();
+    to_rest();
+    built_in_kinds();
     own_kinds();
     io::write_all(1, b"\n");
     // a record that does not fit, a million asks begun, 256 tickets issued

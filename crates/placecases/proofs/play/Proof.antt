@@ -6,31 +6,31 @@ use Rattle.placecases.proofs.play.Statement.{statement}
 use Rattle.placecases.proofs.play.Tie as tie
 
 abbrev Inv-loop : tie.InvT-loop
-Inv-loop calls total h₀ i₀ h i = i ≤ total
+Inv-loop list total h₀ i₀ h i = i ≤ total
 
 abbrev μ-loop : tie.MeasureT-loop
-μ-loop calls total h₀ i₀ h i = total - i
+μ-loop list total h₀ i₀ h i = total - i
 
 loop-holds : tie.Need-loop-holds Inv-loop μ-loop
 loop-holds c = omega arith
 
-mul-call : tie.Need-mul-call Inv-loop μ-loop
-mul-call c = search needs
+mul-enter : tie.Need-mul-enter Inv-loop μ-loop
+mul-enter c = search needs
 
-shared-slice-read-call : tie.Need-shared-slice-read-call Inv-loop μ-loop
-shared-slice-read-call c = search needs
+shared-slice-read-enter : tie.Need-shared-slice-read-enter Inv-loop μ-loop
+shared-slice-read-enter c = search needs
 
-mul-call-2 : tie.Need-mul-call-2 Inv-loop μ-loop
-mul-call-2 c = search needs
+mul-enter-2 : tie.Need-mul-enter-2 Inv-loop μ-loop
+mul-enter-2 c = search needs
 
-add-call : tie.Need-add-call Inv-loop μ-loop
-add-call c = search needs
+add-enter : tie.Need-add-enter Inv-loop μ-loop
+add-enter c = search needs
 
-shared-slice-read-call-2 : tie.Need-shared-slice-read-call-2 Inv-loop μ-loop
-shared-slice-read-call-2 c = search needs
+shared-slice-read-enter-2 : tie.Need-shared-slice-read-enter-2 Inv-loop μ-loop
+shared-slice-read-enter-2 c = search needs
 
-call-requires : tie.Need-call-requires Inv-loop μ-loop
-call-requires c κs = search needs
+enter-requires : tie.Need-enter-requires Inv-loop μ-loop
+enter-requires c κs = search needs
 
 add-i : tie.Need-add-i Inv-loop μ-loop
 add-i c = search needs
@@ -40,9 +40,6 @@ loop-less c = omega arith
 
 loop-again : tie.Need-loop-again Inv-loop μ-loop
 loop-again c = omega arith
-
-print-counts-requires : tie.Need-print-counts-requires Inv-loop μ-loop
-print-counts-requires c κs = search needs
 
 returns : tie.Need-returns Inv-loop μ-loop
 returns c = search needs
@@ -54,14 +51,13 @@ play-spec =
     Inv-loop
     μ-loop
     loop-holds
-    mul-call
-    shared-slice-read-call
-    mul-call-2
-    add-call
-    shared-slice-read-call-2
-    call-requires
+    mul-enter
+    shared-slice-read-enter
+    mul-enter-2
+    add-enter
+    shared-slice-read-enter-2
+    enter-requires
     add-i
     loop-less
     loop-again
-    print-counts-requires
     returns)
