@@ -9,4 +9,5 @@ pub mod Fits  -- a record that fits
 pub mod Calls  -- what is refused, and what a call leaves
 pub mod Schedule  -- a list of calls
 pub mod Ledger  -- what the calls and their answers tell
+pub mod Edges  -- single cases
 pub mod Queue  -- the latch over an unbounded queue

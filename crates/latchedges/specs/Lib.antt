@@ -1,2 +1,0 @@
--- Single cases, held against the definitions of `latch`.
-pub mod Edges
