@@ -1811,7 +1811,7 @@ mod record_mode {
             let t = if numbered { 0xA1B2_C3D4 } else { 0 };
             set(&mut record, PHASE + 5 * party, phase, t);
             record[MARK + party] = u8::from(matches!(phase, 3..=5) && party < 14);
-            record[KIND + party] = 0xE1 + party as u8;
+            record[KIND + party] = 0xE0 + party as u8;
         }
         let calls = [(0x10, 0), (0x11, 31), (0x12, 32), (0x13, 255), (0x14, 0)];
         let mut with_radios = record.clone();

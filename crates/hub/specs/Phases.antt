@@ -95,8 +95,11 @@ abbrev pub hasRadio : Phase → Bool
 hasRadio = isOneOf (Holding ∷ Releasing ∷ Storing ∷ Resuming ∷ ResumingAt 0 ∷ [])
 
 -- Fetching and putting back are phases of a hub with radios alone.
+abbrev pub RADIO-PHASES : List Phase
+RADIO-PHASES = Fetching ∷ Storing ∷ []
+
 abbrev pub ofRadios : Phase → Bool
-ofRadios = isOneOf (Fetching ∷ Storing ∷ [])
+ofRadios = isOneOf RADIO-PHASES
 
 -- Asked or unnumbered: it may yet draw a ticket.
 abbrev pub drawsTicket : Phase → Bool

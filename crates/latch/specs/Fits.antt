@@ -6,10 +6,10 @@ use lib.Dec.{leb, ltb}
 use Rattle.hub.specs.declared.record.Phase.{Phase}
 use Rattle.hub.specs.declared.record.Phase.the-variants.{Holding, Waiting, Suspending, Ticketed, Aborting}
 use Rattle.hub.specs.declared.record.Phase.the-variants.{Cancelling, Refusing, Resuming, ResumingAt}
-use Rattle.hub.specs.declared.record.Phase.the-variants.{Fetching, Storing, SuspendingMarked, TicketedMarked}
+use Rattle.hub.specs.declared.record.Phase.the-variants.{SuspendingMarked, TicketedMarked}
 use Rattle.hub.specs.Basics.{allFrom, allOf, implies, upTo32}
 use Rattle.hub.specs.Fits.{inWindow, placeListed, standsAt}
-use Rattle.hub.specs.Phases.{byWaiter, isFree, isOneOf, resumes, ticketOf}
+use Rattle.hub.specs.Phases.{RADIO-PHASES, byWaiter, isFree, isOneOf, resumes, ticketOf}
 use Rattle.hub.specs.Record.{PARTIES, MAX-BEGUN}
 use Rattle.hub.specs.Ring.{PLACES, readPlace}
 use Rattle.latch.specs.declared.record.Latch.{Latch}
@@ -51,10 +51,14 @@ ticketFits f o x =
     ∷ implies (isOneOf (Resuming ∷ []) x) (ltb (f .resumed) (o + PLACES))
     ∷ [])
 
--- Nobody holds, and no phase of radios is one of a latch; whoever carries or hands has 1 to 32 hand-overs left.
+-- At a latch nobody holds, and nobody is at a radio.
+abbrev pub HUB-ONLY : List Phase
+HUB-ONLY = Holding ∷ RADIO-PHASES
+
+-- Whoever carries or hands has 1 to 32 hand-overs left.
 unfoldable pub slotFits : LatchSlot → Bool
 slotFits s =
-    not (isOneOf (Holding ∷ Fetching ∷ Storing ∷ []) (s .phase))
+    not (isOneOf HUB-ONLY (s .phase))
     && implies (resumes (s .phase)) (upTo32 (s .left))
 
 -- Parties from n up are free; slots and tickets fit; places are listed.

@@ -5,6 +5,8 @@
 mod wire; // answers as bytes
 
 use crate::wire::put_at;
+use exchange::wire::code_at;
+use exchange::wire::party_at;
 use hub::record::Hub;
 use hub::record::Phase;
 use hub::record::Place;
@@ -19,8 +21,6 @@ use plan::plan_for;
 use plan::radios_after;
 use transition::tidy::can_retire;
 use transition::tidy::can_skip;
-use turn::wire::code_at;
-use turn::wire::party_at;
 ghost use mathlib.Core.Path.{_≡_};
 ghost use mathlib.Core.Bool.{true, _&&_};
 ghost use Prim.Native.Nat.{_*_, _/_, _≤_};

@@ -1,7 +1,8 @@
-// Requests of an open hub answered on a whole record: its parts are handed to the loop of `batch`, which makes the record
-// that is left of them.
+// Requests of an open hub answered on a whole record: its parts are handed to the loop of `batch`, and the record made of
+// those that are left.
 
 use batch::answer_in_turn;
+use encoding::pairs;
 use hub::record::Hub;
 use ring::PlaceRing;
 use writer::form::reply_size;
@@ -31,16 +32,31 @@ pub fn answer_requests(hub: Hub, requests: &[u8], count: usize, form: bool, out:
     };
     let slots = hub.slots;
     let pool = hub.pool;
-    answer_in_turn(
+    let pairs = pairs::table();
+    let left = answer_in_turn(
         opening,
         figures,
         ring,
         slots,
         pool,
+        &pairs,
         requests,
         count,
         form,
         reply_size(form),
         out,
-    )
+    );
+    let figures = left.figures;
+    let ring = left.ring;
+    let places = ring.places;
+    let slots = left.slots;
+    let pool = left.pool;
+    Hub {
+        opening,
+        figures,
+        oldest: ring.oldest,
+        places,
+        slots,
+        pool,
+    }
 }

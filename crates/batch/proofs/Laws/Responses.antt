@@ -14,7 +14,7 @@ use Rattle.line.specs.Program.{repliesIn}
 use Rattle.line.specs.Requests.{Request}
 use Rattle.encoding.specs.Frame.{frameOf}
 use Rattle.encoding.proofs.Laws.Parts.{parts, put-length, put-take, put-drop}
-use Rattle.turn.specs.Wire.{withReply}
+use Rattle.exchange.specs.Wire.{withReply}
 use Rattle.batch.specs.Batch.{requestFor, requestsIn, replied, Reachable}
 use Rattle.batch.proofs.Laws.Reachable.{response-reachable}
 
@@ -105,11 +105,6 @@ module _ (form : Form) where
       abbrev at : ℕ
       at = width * i
 
-      pub reply-part : length (take (at + width - at) (drop at out)) ≡ replySize form
-      reply-part =
-          length-take-le (at + width - at) (drop at out) (simp length-drop (omega (arith, whole-reply)))
-          ∙ omega (arith, u .width-is)
-
       abbrev here : List ℕ
       here = drop (2 * i) l
 
@@ -122,11 +117,11 @@ module _ (form : Form) where
       fewer : n - i ≡ suc (n - (i + 1))
       fewer = omega arith
 
-      -- One more response t, whose reply was written and whose record is h′.
-      pub responded : (text : List ℕ) (h′ : Hub) (t : Response)
+      -- One more response t, whose reply was put into the buffer and whose record is h′.
+      put-in : (text : List ℕ) (h′ : Hub) (t : Response)
           → respond h (requestAt l (2 * i)) ≡ t → text ≡ replyIn form (t .reply) → h′ ≡ t .hub
           → Upto width h₀ n l out₀ h′ (putMid at (at + width - at) out text) (i + 1)
-      responded text h′ t e f g =
+      put-in text h′ t e f g =
           let fits : length text ≡ width =
           ap length f ∙ reply-size form (t .reply) ∙ sym (u .width-is) in
           let long = put-length out text at width whole-reply fits in
@@ -166,11 +161,11 @@ module _ (form : Form) where
                 ∙ u .same;
           }
 
-      -- The same of a reply that was written into the buffer, which is out′ then.
-      pub refused-one : (out′ : List ℕ) (h′ : Hub) (t : Response) → respond h (requestAt l (2 * i)) ≡ t
+      -- The same of a buffer out′ that has the reply.
+      pub responded : (out′ : List ℕ) (h′ : Hub) (t : Response) → respond h (requestAt l (2 * i)) ≡ t
           → out′ ≡ withReply form at (frameOf (t .reply .party) (t .reply .answer)) out → h′ ≡ t .hub
           → Upto width h₀ n l out₀ h′ out′ (i + 1)
-      refused-one out′ h′ t e f g =
+      responded out′ h′ t e f g =
           let text = replyIn form (t .reply) in
           let wide : (take at out ++ text) ++ drop (at + replySize form) out
           ≡ (take at out ++ text) ++ drop (at + width) out =
@@ -178,7 +173,7 @@ module _ (form : Form) where
           let size = reply-size form (t .reply) ∙ sym (u .width-is) in
           subst (λ (o : List ℕ). Upto width h₀ n l out₀ h′ o (i + 1))
           (sym (f ∙ wide ∙ sym (parts out text at width whole-reply size)))
-          (responded text h′ t e refl g)
+          (put-in text h′ t e refl g)
 
     pub ended : n ≤ i → (h ≡ after h₀ (requestsIn n l)) × (out ≡ replied form h₀ n l out₀)
     unfolding after replies rendered requestsIn

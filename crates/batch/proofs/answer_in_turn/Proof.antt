@@ -2,7 +2,7 @@
 -- far, and what is written with what is still to come is the whole.
 use borrow.Author.Needs.{needs}
 use borrow.Author.Tests.{not-true, not-false}
-use mathlib.Core.Path.{_≡_, refl, sym, ap, ap₂, _∙_}
+use mathlib.Core.Path.{_≡_, refl, sym, ap, _∙_}
 use mathlib.Core.Bool.{Bool, cond}
 use mathlib.Core.List.{List, map}
 use mathlib.Core.Logic.{⊎-elim}
@@ -27,36 +27,36 @@ use Rattle.hub.specs.Record.{PARTIES, emptySeat, freeSlot, readSlot, writeSlot}
 use Rattle.hub.specs.Ring.{PLACES, readSeat}
 use Rattle.hub.specs.Table.{decide}
 use Rattle.encoding.specs.Frame.{opOf, frameOf}
-use Rattle.encoding.specs.Form.{formOf, inForm}
+use Rattle.encoding.specs.Form.{formOf, replySize}
+use Rattle.encoding.specs.Tables.{Pairs}
 use Rattle.line.specs.Program.{respond}
 use Rattle.effects.specs.declared.effect.Effect.{Effect}
 use Rattle.effects.specs.Effect.{effectOf}
-use Rattle.transition.specs.Room.{fullFor}
 use Rattle.transition.specs.Tidied.{tidiedBy}
 use Rattle.transition.proofs.Laws.Called.{radiosAfter, said, left}
 use Rattle.transition.proofs.Laws.Indexed.{reads, stores}
 use Rattle.transition.proofs.Laws.Loops.{tidy}
-use Rattle.transition.proofs.Laws.Ops.{as-asked}
 use Rattle.transition.proofs.Laws.Radios.{with-radios, without-radios}
 use Rattle.transition.proofs.Laws.Sight.{Reads, sightOf}
 use Rattle.transition.proofs.Laws.Stored.{nobody, still, few-turns}
-use Rattle.turn.specs.Decision.{waiterBy}
+use Rattle.exchange.specs.Decision.{waiterBy}
+use Rattle.exchange.specs.Wire.{withReply}
 use Rattle.batch.specs.Batch.{ofParts, requestFor}
 use Rattle.batch.proofs.Laws.Answered.{Admitted, is-admitted, refused-response, LetIn}
-use Rattle.batch.proofs.Laws.Answered.{let-in, call-response}
+use Rattle.batch.proofs.Laws.Answered.{effect-asked, let-in, call-response}
 use Rattle.batch.proofs.Laws.Responses.{Upto, requestAt, start, whole-request}
-use Rattle.batch.proofs.Laws.Responses.{whole-reply, reply-part, refused-one, responded, ended}
+use Rattle.batch.proofs.Laws.Responses.{whole-reply, responded, ended}
 use Rattle.batch.proofs.answer_in_turn.Statement.{statement}
 use Rattle.batch.proofs.answer_in_turn.Tie as tie
 
 abbrev Inv-loop : tie.InvT-loop
-Inv-loop opening f₀ requests count form width out₀ ring₀ slots₀ pool₀ _ _ _ f out ring slots pool i =
+Inv-loop opening f₀ _ requests count form width out₀ ring₀ slots₀ pool₀ _ _ f out ring slots pool i =
     Upto (formOf form) width (ofParts opening f₀ ring₀ slots₀ pool₀) count requests out₀
     (ofParts opening f ring slots pool) out i
     × (length slots ≡ 32)
 
 abbrev μ-loop : tie.MeasureT-loop
-μ-loop _ _ _ count _ _ _ _ _ _ _ _ _ _ _ _ _ _ i = count - i
+μ-loop _ _ _ _ count _ _ _ _ _ _ _ _ _ _ _ _ _ i = count - i
 
 -- A state or a need of the function, with this invariant and this measure.
 abbrev At : (tie.InvT-loop → tie.MeasureT-loop → Type 0) → Type 0
@@ -64,18 +64,18 @@ At f = f Inv-loop μ-loop
 
 -- The way back along the code. Only these know how many steps lie between.
 abbrev begun : At tie.At-loop → At tie.Start
-begun c = c .before .before .before .before .before
+begun c = c .before .before .before .before
 
-abbrev asked : At tie.Else1 → At tie.After-party-at
-asked c = c .before .before .before
+abbrev asked : At tie.Else1 → At tie.After-admit-at
+asked c = c .before .before
 
-abbrev turning : At tie.After-party-at → At tie.In-loop
-turning c = c .before .before
+abbrev turning : At tie.After-admit-at → At tie.In-loop
+turning c = c .before
 
-abbrev entered : At tie.After-near → At tie.Else1
-entered c = c .before .before .before .before .before
+abbrev entered : At tie.After-waiter-at → At tie.Else1
+entered c = c .before .before .before .before
 
-abbrev seen : At tie.After-decide-for → At tie.After-near
+abbrev seen : At tie.After-decide-for → At tie.After-waiter-at
 seen c = c .before .before .before .before
 
 abbrev decided : At tie.Joined2 → At tie.After-decide-for
@@ -85,7 +85,7 @@ abbrev woken : At tie.After-put → At tie.Joined2
 woken c = c .before .before .before
 
 abbrev filled : At tie.After-put-answer → At tie.After-put
-filled c = c .before .before .before
+filled c = c .before .before
 
 abbrev replying : At tie.Joined3 → At tie.After-put-answer
 replying c = c .before .before .before
@@ -125,16 +125,11 @@ bytes c = begun c .args .requests .now
 abbrev width : At tie.At-loop → ℕ
 width c = begun c .args .width
 
-abbrev code : At tie.After-party-at → ℕ
-code c = c .before .code-at .result
+abbrev code : At tie.After-admit-at → ℕ
+code c = c .admit-at .result .code
 
-abbrev party : At tie.After-party-at → ℕ
-party c = c .party-at .result
-
-request-is : (c : At tie.After-party-at)
-    → let h = turning c .before in
-    requestAt (bytes h) (2 * h .loop .i) ≡ requestFor (code c) (party c)
-request-is c = sym (λ j. requestFor (c .before .code-at .ensures j) (c .party-at .ensures j))
+abbrev party : At tie.After-admit-at → ℕ
+party c = c .admit-at .result .party
 
 -- There is still a request to read, and room for its reply.
 asks : (c : At tie.In-loop) → 2 * c .before .loop .i + 2 ≤ length (bytes (c .before))
@@ -145,44 +140,55 @@ room : (c : At tie.In-loop)
 room c = whole-reply _ _ _ _ _ _ _ _ _ (c .before .loop .inv .0) (c .loop-test .taken)
 
 room-fits : (c : At tie.In-loop) → width (c .before) * c .before .loop .i + width (c .before) < 2 ^ 64
-room-fits c = omega (arith, room c)
+room-fits c =
+    let h = c .before in
+    omega (arith, room c, h .loop .inv .0 .length, begun h .good .1 .1 .1 .1 .1 .1 .1 .1 .1 .1)
+
+reply-fits : (c : At tie.In-loop)
+    → let h = c .before in
+    Pairs (begun h .args .pairs .now)
+    × (width h * h .loop .i + replySize (formOf (begun h .args .form)) ≤ length (h .loop .out))
+reply-fits c =
+    let h = c .before in (begun h .pre .1 .0, omega (arith, room c, h .loop .inv .0 .width-is))
 
 -- The call is admitted.
 pass : (c : At tie.Else1)
-    → Admitted (code (asked c)) (party (asked c)) (hub (head c) .opening .parties)
-pass c = is-admitted _ _ _ _ (c .before .before .admit .ensures) (not-false _ (c .if1 .left))
+    → let h = head c in
+    Admitted (code (asked c)) (party (asked c)) (hub h .opening .parties)
+    × (requestAt (bytes h) (2 * h .loop .i) ≡ requestFor (code (asked c)) (party (asked c)))
+pass c = is-admitted _ _ _ _ (asked c .admit-at .ensures) (not-false _ (c .if1 .left))
 
 admitted : (c : At tie.Else1) → LetIn (hub (head c)) (party (asked c))
-admitted c = let-in _ _ _ (head c .loop .inv .0 .reachable) (pass c)
+admitted c = let-in _ _ _ (head c .loop .inv .0 .reachable) (pass c .0)
 
 -- What the code read for it.
-abbrev ticketAt : At tie.After-near → ℕ
-ticketAt c = c .before .before .before .seat-index .result
+abbrev ticketAt : At tie.After-waiter-at → ℕ
+ticketAt c = c .before .before .seat-index .result
 
-abbrev seat : At tie.After-near → PlaceSlot
+abbrev seat : At tie.After-waiter-at → PlaceSlot
 seat c = getD (hub (head (entered c)) .places) (ticketAt c) emptySeat
 
-abbrev near : At tie.After-near → PartySlot
-near c = getD (head (entered c) .loop .slots) (c .before .waiter-at .result % PARTIES) freeSlot
+abbrev near : At tie.After-waiter-at → PartySlot
+near c = getD (head (entered c) .loop .slots) (c .waiter-at .result % PARTIES) freeSlot
 
-abbrev waiter : At tie.After-near → PartySlot
+abbrev waiter : At tie.After-waiter-at → PartySlot
 waiter c = waiterBy (seat c) (near c)
 
-index : (c : At tie.After-near)
+index : (c : At tie.After-waiter-at)
     → let e = entered c in
     ticketAt c ≡ ticketOf (readSlot (hub (head e) .slots) (party (asked e)) .phase) % PLACES
 unfolding readSlot
-index c = c .before .before .before .seat-index .ensures
+index c = c .before .before .seat-index .ensures
 
-reading : (c : At tie.After-near)
+reading : (c : At tie.After-waiter-at)
     → let e = entered c in
-    Reads (hub (head e)) (party (asked e)) (seat c) (c .before .waiter-at .result) (waiter c)
+    Reads (hub (head e)) (party (asked e)) (seat c) (c .waiter-at .result) (waiter c)
 unfolding readSlot
 reading c =
     let e = entered c in
     reads (hub (head e)) (party (asked e)) _ (index c) _ _
-    (head e .loop .inv .1) (c .before .waiter-at .ensures)
-    (ap (λ (q : ℕ). cond (ltb q PARTIES) (near c) freeSlot) (sym (c .before .waiter-at .ensures)))
+    (head e .loop .inv .1) (c .waiter-at .ensures)
+    (ap (λ (q : ℕ). cond (ltb q PARTIES) (near c) freeSlot) (sym (c .waiter-at .ensures)))
 
 -- The effect is that of the call.
 abbrev op : At tie.Else1 → Op
@@ -191,7 +197,7 @@ op e = opOf (code (asked e))
 abbrev full : At tie.At-loop → Bool
 full h = isFull (h .loop .ring .oldest) (h .loop .figures .issued) (h .loop .slots)
 
-abbrev sight : At tie.After-near → Sight
+abbrev sight : At tie.After-waiter-at → Sight
 sight c = sightOf (hub (head (entered c))) (party (asked (entered c))) (seat c) (waiter c)
 
 effect-is : (c : At tie.After-decide-for)
@@ -200,12 +206,8 @@ effect-is : (c : At tie.After-decide-for)
 unfolding readSlot kindIn handOf
 effect-is c =
     let e = entering c in
-    let h = head e in
-    let s = sight (seen c) in
-    c .decide-for .ensures
-    ∙ ap₂ (λ (o : Op) (b : Bool). effectOf (decide o b s) s) (c .before .before .op-of .ensures)
-    (c .before .full-for .ensures ∙ ap (λ (o : Op). fullFor o (full h)) (c .before .before .op-of .ensures))
-    ∙ ap (λ (m : Sight → Move). effectOf (m s) s) (λ i. λ z. as-asked (full h) z (op e) i)
+    effect-asked (op e) (full (head e)) _ (sight (seen c)) _ (c .decide-for .ensures)
+    (c .before .before .before .full-by .ensures)
 
 abbrev move : At tie.Else1 → Move
 move e = decide (op e) (full (head e)) (look (hub (head e)) (party (asked e)))
@@ -224,8 +226,8 @@ answered : (c : At tie.Else1)
       hub = leaving c;
     }
 answered c =
-    ap (respond (hub (head c))) (request-is (asked c))
-    ∙ call-response _ _ _ (head c .loop .inv .0 .reachable) (pass c)
+    ap (respond (hub (head c))) (pass c .1)
+    ∙ call-response _ _ _ (head c .loop .inv .0 .reachable) (pass c .0)
 
 long-unmapped : (X Y : Type 0) (f : X → Y) (l : List X) (n : ℕ) → length (map f l) ≡ n
     → length l ≡ n
@@ -302,44 +304,37 @@ still-32 s =
 -- What was written is what the call answers.
 replied-with : (s : At tie.After-is-untidy)
     → let b = within s in
+    let h = head b in
     replying (moving s) .put-answer .last .1 .0
-    ≡ inForm (formOf (begun (head b) .args .form)) (frameOf (party (asked b)) (printed (answerOf (move b))))
+    ≡ withReply (formOf (begun h .args .form)) (width h * h .loop .i)
+    (frameOf (party (asked b)) (printed (answerOf (move b)))) (h .loop .out)
 replied-with s =
     let d = effected s in
     let b = within s in
+    let h = head b in
     replying (moving s) .put-answer .ensures
-    ∙ ap (λ (a : Answer). inForm (formOf (begun (head b) .args .form)) (frameOf (party (asked b)) (printed a)))
+    ∙ ap (λ (a : Answer). withReply (formOf (begun h .args .form)) (width h * h .loop .i)
+    (frameOf (party (asked b)) (printed a)) (h .loop .out))
     (said _ _ _ _ _ (reading (seen d)) (op b) (effect s) (effect-is d))
-
-table-requires : At tie.Need-table-requires
-table-requires c κs = search needs
 
 loop-holds : At tie.Need-loop-holds
 loop-holds c =
-    let a = c .before .before .before .before in
-    (start _ _ _ _ _ _ (a .pre .1 .1 .0) (a .pre .0) (a .pre .1 .0) (a .pre .1 .1 .1), full-slots a)
+    let a = c .before .before .before in
+    let q = a .pre .1 .1 in
+    (start _ _ _ _ _ _ (q .1 .0) (a .pre .0) (q .0) (q .1 .1), full-slots a)
 
-code-at-requires : At tie.Need-code-at-requires
-code-at-requires c κs = asks c
-
-party-at-requires : At tie.Need-party-at-requires
-party-at-requires c κs = asks (c .before)
-
-admit-requires : At tie.Need-admit-requires
-admit-requires c κs = search needs
+admit-at-requires : At tie.Need-admit-at-requires
+admit-at-requires c κs = asks c
 
 mul-put-refusal : At tie.Need-mul-put-refusal
-mul-put-refusal c = omega (arith, room-fits (turning (c .before .before .before .before .before)))
+mul-put-refusal c = omega (arith, room-fits (turning (c .before .before .before)))
 
 put-refusal-requires : At tie.Need-put-refusal-requires
-put-refusal-requires c κs =
-    let t = turning (c .before .before .before .before .before) in
-    let h = t .before in
-    (h .before .table .ensures, omega (arith, room t, h .loop .inv .0 .width-is))
+put-refusal-requires c κs = reply-fits (turning (c .before .before .before))
 
 add-i : At tie.Need-add-i
 add-i c =
-    let t = turning (c .before .before .before .before .before .before .before .before) in
+    let t = turning (c .before .before .before .before .before .before) in
     omega (arith, t .loop-test .taken, begun (t .before) .fits .count)
 
 loop-less : At tie.Need-loop-less
@@ -347,14 +342,13 @@ loop-less c = search needs
 
 loop-again : At tie.Need-loop-again
 loop-again c =
-    let p = c .before .before .before .before .before in
+    let p = c .before .before .before .before in
     let d = p .before .before in
-    let t = turning (d .before) in
+    let t = turning d in
     let h = t .before in
     let u = h .loop .inv .0 in (
-      refused-one _ _ _ _ _ _ _ _ _ u (t .loop-test .taken) _ _ _
-          (ap (respond (hub h)) (request-is (d .before))
-          ∙ refused-response _ _ _ (u .reachable) _ (d .admit .ensures) (not-true _ (p .if1 .taken)))
+      responded _ _ _ _ _ _ _ _ _ u (t .loop-test .taken) _ _ _
+          (refused-response _ _ _ (u .reachable) _ (d .admit-at .ensures) (not-true _ (p .if1 .taken)))
           (c .before .before .put-refusal .ensures) refl,
       h .loop .inv .1,
     )
@@ -380,26 +374,23 @@ element-copy-out-seat c = search needs
 waiter-at-requires : At tie.Need-waiter-at-requires
 waiter-at-requires c κs = search needs
 
-cast-near : At tie.Need-cast-near
-cast-near c = search needs
+full-by-requires : At tie.Need-full-by-requires
+full-by-requires c κs = let n = admitted (entered c) .counts in (n .oldest, n .issued)
 
-mul-near : At tie.Need-mul-near
-mul-near c = search needs
+array-read-decide-for : At tie.Need-array-read-decide-for
+array-read-decide-for c = omega (arith, admitted (entered (c .before)) .party)
 
-array-copy-out-near : At tie.Need-array-copy-out-near
-array-copy-out-near c = search needs
+cast-decide-for : At tie.Need-cast-decide-for
+cast-decide-for c = search needs
 
-array-read-kind : At tie.Need-array-read-kind
-array-read-kind c = omega (arith, admitted (entered c) .party)
+mul-decide-for : At tie.Need-mul-decide-for
+mul-decide-for c = search needs
 
-element-copy-out-radio : At tie.Need-element-copy-out-radio
-element-copy-out-radio c = omega (arith, admitted (entered c) .party)
+array-copy-out-decide-for : At tie.Need-array-copy-out-decide-for
+array-copy-out-decide-for c = search needs
 
-op-of-requires : At tie.Need-op-of-requires
-op-of-requires c κs = search needs
-
-full-for-requires : At tie.Need-full-for-requires
-full-for-requires c κs = let n = admitted (entered (c .before .before)) .counts in (n .oldest, n .issued)
+element-copy-out-decide-for : At tie.Need-element-copy-out-decide-for
+element-copy-out-decide-for c = omega (arith, admitted (entered (c .before .before)) .party)
 
 decide-for-requires : At tie.Need-decide-for-requires
 decide-for-requires c κs =
@@ -427,27 +418,11 @@ mul-put c = omega (arith, index (seen (effecting c)))
 element-set-from-put : At tie.Need-element-set-from-put
 element-set-from-put c = omega (arith, index (seen (effecting c)))
 
-mul-at : At tie.Need-mul-at
-mul-at c = omega (arith, room-fits (turning (asked (entering (effecting c)))))
-
-add-end : At tie.Need-add-end
-add-end c = omega (arith, room-fits (turning (asked (entering (effecting c)))))
-
-sub-put-answer : At tie.Need-sub-put-answer
-sub-put-answer c = search needs
-
-part-put-answer-start : At tie.Need-part-put-answer-start
-part-put-answer-start c = search needs
-
-part-put-answer-end : At tie.Need-part-put-answer-end
-part-put-answer-end c = omega (arith, room (turning (asked (entering (effecting (c .before))))))
+mul-put-answer : At tie.Need-mul-put-answer
+mul-put-answer c = omega (arith, room-fits (turning (asked (entering (effecting (c .before))))))
 
 put-answer-requires : At tie.Need-put-answer-requires
-put-answer-requires c κs =
-    let e = turning (asked (entering (effecting (c .before .before)))) in (
-      e .before .before .table .ensures,
-      reply-part _ _ _ _ _ _ _ _ _ (e .before .loop .inv .0) (e .loop-test .taken),
-    )
+put-answer-requires c κs = reply-fits (turning (asked (entering (effecting (c .before)))))
 
 add-i-2 : At tie.Need-add-i-2
 add-i-2 c =
@@ -515,8 +490,7 @@ same-length c = search needs
 
 returns : At tie.Need-returns
 returns c =
-    let l = c .before in
-    let e = ended _ _ _ _ _ _ _ _ _ (l .before .loop .inv .0) (l .loop-test .left) in
+    let e = ended _ _ _ _ _ _ _ _ _ (c .before .loop .inv .0) (c .loop-test .left) in
     (e .0, e .1)
 
 pub answer-in-turn-spec : {M : Type 1} → statement M
@@ -525,11 +499,8 @@ answer-in-turn-spec =
     (tie.spec
     Inv-loop
     μ-loop
-    table-requires
     loop-holds
-    code-at-requires
-    party-at-requires
-    admit-requires
+    admit-at-requires
     mul-put-refusal
     put-refusal-requires
     add-i
@@ -542,13 +513,12 @@ answer-in-turn-spec =
     mul-seat
     element-copy-out-seat
     waiter-at-requires
-    cast-near
-    mul-near
-    array-copy-out-near
-    array-read-kind
-    element-copy-out-radio
-    op-of-requires
-    full-for-requires
+    full-by-requires
+    array-read-decide-for
+    cast-decide-for
+    mul-decide-for
+    array-copy-out-decide-for
+    element-copy-out-decide-for
     decide-for-requires
     cast-slots
     mul-slots
@@ -557,11 +527,7 @@ answer-in-turn-spec =
     array-set-from-slots-2
     mul-put
     element-set-from-put
-    mul-at
-    add-end
-    sub-put-answer
-    part-put-answer-start
-    part-put-answer-end
+    mul-put-answer
     put-answer-requires
     add-i-2
     radios-after-requires

@@ -14,13 +14,13 @@ use Rattle.hub.specs.declared.record.Phase.{Phase}
 use Rattle.hub.specs.declared.record.Phase.the-variants.{Holding, Waiting, Acquiring}
 use Rattle.hub.specs.declared.record.Phase.the-variants.{Suspending, Ticketed, Aborting}
 use Rattle.hub.specs.declared.record.Phase.the-variants.{Cancelling, Refusing, Releasing}
-use Rattle.hub.specs.declared.record.Phase.the-variants.{Resuming, ResumingAt, Fetching, Storing}
+use Rattle.hub.specs.declared.record.Phase.the-variants.{Resuming, ResumingAt, Fetching}
 use Rattle.hub.specs.declared.record.Phase.the-variants.{AcquiringMarked, SuspendingMarked, TicketedMarked}
 use Rattle.hub.specs.declared.record.Place.{Place}
 use Rattle.hub.specs.declared.record.Place.the-variants.{Empty, Waiting as WaitedBy, Permit}
 use Rattle.hub.specs.declared.record.Place.the-variants.{Cancelled, Refused, Done}
 use Rattle.hub.specs.Basics.{among, bit, count, weight}
-use Rattle.hub.specs.Phases.{byWaiter, isOneOf, isWaiting, rank, ticketOf}
+use Rattle.hub.specs.Phases.{RADIO-PHASES, byWaiter, isOneOf, isWaiting, rank, ticketOf}
 use Rattle.hub.specs.Phases.{isPermit, isCancelled, isRefused, isDone}
 use Rattle.hub.specs.Queue.{Queue, phases, places}
 use Rattle.hub.specs.Table.{aboveZero, belowZero}
@@ -213,7 +213,7 @@ cancelling = pick (Cancelling 0 ∷ []) one
 
 -- Who is about to fetch a radio, or to put one back.
 abbrev pub radioed : Phase → ℕ
-radioed = pick (Fetching ∷ Storing ∷ []) one
+radioed = pick RADIO-PHASES one
 
 -- Of ticket t: its owner, its hand, who stands at its place, who refuses it.
 abbrev pub own : ℕ → Phase → ℕ

@@ -8,7 +8,7 @@ use native.Mathlib.Omega.{arith}
 use borrow.Author.Tests.{eqb-true, eq-eqb, ne-eqb}
 use lib.Dec.{eqb}
 use Rattle.hub.specs.declared.record.Phase.{Phase}
-use Rattle.hub.specs.declared.record.Phase.the-variants.{Holding, Acquiring, Fetching, Storing, AcquiringMarked}
+use Rattle.hub.specs.declared.record.Phase.the-variants.{Acquiring, AcquiringMarked}
 use Rattle.hub.specs.declared.record.Place.{Place}
 use Rattle.hub.specs.Basics.{weight}
 use Rattle.hub.specs.Phases.{isOneOf}
@@ -18,6 +18,7 @@ use Rattle.hub.proofs.Laws.Ranges.{sum-set}
 use Rattle.hub.proofs.Invariant.Weights.{one, pick, suspending, live, total, TICKETS}
 use Rattle.latch.specs.declared.record.LatchFigures.{LatchFigures}
 use Rattle.latch.specs.declared.record.LatchSlot.{LatchSlot}
+use Rattle.latch.specs.Fits.{HUB-ONLY}
 use Rattle.latch.specs.Queue.{Queue, phases, places}
 
 -- While the count is above 0 each waiter is due a hand-over that nobody carries yet.
@@ -50,7 +51,7 @@ spare s = s .left - 1
 
 -- Who holds, or is at a radio: nobody at a latch. Who has asked.
 abbrev pub holding : Phase → ℕ
-holding = pick (Holding ∷ Fetching ∷ Storing ∷ []) one
+holding = pick HUB-ONLY one
 
 abbrev pub asked : Phase → ℕ
 asked = pick (Acquiring ∷ AcquiringMarked ∷ []) one

@@ -30,7 +30,7 @@ use Rattle.latch.specs.declared.moves.LatchSight.{LatchSight}
 use Rattle.latch.specs.declared.record.Latch.{Latch}
 use Rattle.latch.specs.declared.record.LatchFigures.{LatchFigures}
 use Rattle.latch.specs.declared.record.LatchSlot.{LatchSlot}
-use Rattle.latch.specs.Fits.{figuresFit, ticketFits, slotFits, partyFits, placeFits, fits}
+use Rattle.latch.specs.Fits.{HUB-ONLY, figuresFit, ticketFits, slotFits, partyFits, placeFits, fits}
 use Rattle.latch.specs.Ledger.{slotIn}
 use Rattle.latch.specs.Look.{look, seenBy}
 use Rattle.latch.specs.Moves.{Move}
@@ -117,9 +117,9 @@ up-to-32 : (n : ℕ) → 1 ≤ n → n ≤ 32 → upTo32 n ≡ true
 up-to-32 n a b = both _ _ (le-leb 1 n a) (le-leb n 32 b)
 
 -- Who does not hold in the count does not in the test.
-not-held : (f : Phase) → holding f ≡ 0 → not (isOneOf (Holding ∷ Fetching ∷ Storing ∷ []) f) ≡ true
+not-held : (f : Phase) → holding f ≡ 0 → not (isOneOf HUB-ONLY f) ≡ true
 unfolding pick
-not-held f = go (isOneOf (Holding ∷ Fetching ∷ Storing ∷ []) f)
+not-held f = go (isOneOf HUB-ONLY f)
   where
     go : (b : Bool) → _≡_ {A = ℕ} (cond b 1 0) 0 → not b ≡ true
     go true e = let z : ⊥ = omega arith in absurd z

@@ -2,26 +2,25 @@
 use borrow.Author.Needs.{needs}
 use mathlib.Core.Path.{refl, _∙_}
 use mathlib.Core.Bool.{Bool, not, _&&_}
-use mathlib.Core.List.{[], _∷_}
+use mathlib.Core.List.{[], _∷_, map}
 use Rattle.hub.specs.declared.record.Phase.{Phase}
-use Rattle.hub.specs.declared.record.Phase.the-variants.{Holding, Fetching, Storing}
 use Rattle.hub.specs.Basics.{implies, upTo32}
-use Rattle.hub.specs.Phases.{isOneOf, resumes}
+use Rattle.hub.specs.Phases.{isOneOf, rank, resumes}
 use Rattle.hub.proofs.Laws.Phases.{allBut, phase-arm}
 use Rattle.latch.specs.declared.record.LatchSlot.{LatchSlot}
-use Rattle.latch.specs.Fits.{slotFits}
+use Rattle.latch.specs.Fits.{HUB-ONLY, slotFits}
 use Rattle.latchfit.proofs.slot_fits.Statement.{statement}
 use Rattle.latchfit.proofs.slot_fits.Tie as tie
 
 -- What the definition says of a phase, beside what is left.
 abbrev of-phase : LatchSlot → Phase → Bool
-of-phase s f = not (isOneOf (Holding ∷ Fetching ∷ Storing ∷ []) f) && implies (resumes f) (upTo32 (s .left))
+of-phase s f = not (isOneOf HUB-ONLY f) && implies (resumes f) (upTo32 (s .left))
 
 returns : tie.Need-returns
 unfolding slotFits isOneOf
 returns c =
     let s = c .before .args .slot in
-    phase-arm (1 ∷ 12 ∷ 13 ∷ []) (of-phase s) (s .phase) refl (c .match .keys1)
+    phase-arm (map rank HUB-ONLY) (of-phase s) (s .phase) refl (c .match .keys1)
 
 left-fits-requires : tie.Need-left-fits-requires
 left-fits-requires c κs = search needs
@@ -37,7 +36,7 @@ returns-3 : tie.Need-returns-3
 unfolding slotFits isOneOf
 returns-3 c =
     let s = c .before .args .slot in
-    phase-arm (allBut (1 ∷ 10 ∷ 11 ∷ 12 ∷ 13 ∷ [])) (of-phase s) (s .phase) refl (c .match .keys3)
+    phase-arm (allBut (10 ∷ 11 ∷ map rank HUB-ONLY)) (of-phase s) (s .phase) refl (c .match .keys3)
 
 pub slot-fits-spec : {M : Type 1} → statement M
 slot-fits-spec = tie.close (tie.spec left-fits-requires returns returns-2 returns-3)

@@ -2,9 +2,9 @@
 use borrow.Author.Needs.{needs}
 use mathlib.Core.Path.{refl, _∙_}
 use mathlib.Core.Bool.{cond}
-use mathlib.Core.List.{[], _∷_}
+use mathlib.Core.List.{[], _∷_, map}
 use Rattle.hub.specs.declared.record.Phase.the-variants.{Acquiring, AcquiringMarked}
-use Rattle.hub.specs.Phases.{isOneOf, ofRadios}
+use Rattle.hub.specs.Phases.{RADIO-PHASES, isOneOf, ofRadios, rank}
 use Rattle.hub.proofs.Laws.Phases.{allBut, phase-arm}
 use Rattle.cells.specs.Phases.{phaseName}
 use Rattle.latchlayout.proofs.parties.name_of.Statement.{statement}
@@ -28,16 +28,16 @@ returns-2 : tie.Need-returns-2
 unfolding isOneOf
 returns-2 c =
     let a = c .before .args in
-    let asked = phase-arm (12 ∷ 13 ∷ []) (isOneOf (Acquiring ∷ AcquiringMarked ∷ [])) (a .phase) refl (c .match .keys2) in
-    let radio = phase-arm (12 ∷ 13 ∷ []) ofRadios (a .phase) refl (c .match .keys2) in
+    let asked = phase-arm (map rank RADIO-PHASES) (isOneOf (Acquiring ∷ AcquiringMarked ∷ [])) (a .phase) refl (c .match .keys2) in
+    let radio = phase-arm (map rank RADIO-PHASES) ofRadios (a .phase) refl (c .match .keys2) in
     λ j. cond (asked j) (cond (a .raising) 14 3) (cond (radio j) 1 (phaseName (a .phase)))
 
 returns-3 : tie.Need-returns-3
 unfolding isOneOf
 returns-3 c =
     let a = c .before .before .args in
-    let asked = phase-arm (allBut (3 ∷ 12 ∷ 13 ∷ 14 ∷ [])) (isOneOf (Acquiring ∷ AcquiringMarked ∷ [])) (a .phase) refl (c .before .match .keys3) in
-    let radio = phase-arm (allBut (3 ∷ 12 ∷ 13 ∷ 14 ∷ [])) ofRadios (a .phase) refl (c .before .match .keys3) in
+    let asked = phase-arm (allBut (3 ∷ 14 ∷ map rank RADIO-PHASES)) (isOneOf (Acquiring ∷ AcquiringMarked ∷ [])) (a .phase) refl (c .before .match .keys3) in
+    let radio = phase-arm (allBut (3 ∷ 14 ∷ map rank RADIO-PHASES)) ofRadios (a .phase) refl (c .before .match .keys3) in
     c .phase-name .ensures ∙ (λ j. cond (asked j) (cond (a .raising) 14 3) (cond (radio j) 1 (phaseName (a .phase))))
 
 pub name-of-spec : {M : Type 1} → statement M

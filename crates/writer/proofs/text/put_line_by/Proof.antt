@@ -1,13 +1,21 @@
 -- `put_line_by` meets its contract: what it writes fills its part of the buffer.
 use borrow.Author.Needs.{needs}
 use native.Mathlib.Omega.{arith}
-use lib.ListN.{length-set}
+use Prim.Native.Nat.{ℕ, _+_, _<_}
+use mathlib.Core.List.{List, [], _∷_}
+use lib.ListN.{length, length-set}
+use lib.Seq.{sets, lt-length-sets}
 use Rattle.encoding.proofs.Laws.Filled.{all-set}
 use Rattle.encoding.proofs.Laws.Tables.{line-by-pairs}
 use Rattle.encoding.specs.Frame.{paper}
-use mathlib.Core.Path.{_∙_}
+use mathlib.Core.Path.{_≡_, _∙_}
 use Rattle.writer.proofs.text.put_line_by.Statement.{statement}
 use Rattle.writer.proofs.text.put_line_by.Tie as tie
+
+-- With the characters vs written, and d more to come, there is one behind them.
+has : (s : tie.Start) (vs : List ℕ) (d : ℕ) → length (s .args .out .now) ≡ length vs + d + 1
+    → length vs < length (sets (s .args .out .now) 0 vs)
+has s vs d e = lt-length-sets (s .args .out .now) 0 vs (omega arith)
 
 cast-said : tie.Need-cast-said
 cast-said c = search needs
@@ -61,13 +69,13 @@ cast-out-5 : tie.Need-cast-out-5
 cast-out-5 c = search needs
 
 slice-write-out-5 : tie.Need-slice-write-out-5
-slice-write-out-5 c = simp length-set (omega arith)
+slice-write-out-5 c = has (c .before .before .before .before) (_ ∷ _ ∷ _ ∷ _ ∷ []) 10 (c .before .before .before .before .pre .1)
 
 cast-out-6 : tie.Need-cast-out-6
 cast-out-6 c = search needs
 
 slice-write-out-6 : tie.Need-slice-write-out-6
-slice-write-out-6 c = simp length-set (omega arith)
+slice-write-out-6 c = has (c .before .before .before .before) (_ ∷ _ ∷ _ ∷ _ ∷ _ ∷ []) 9 (c .before .before .before .before .pre .1)
 
 cast-first : tie.Need-cast-first
 cast-first c = search needs
@@ -82,13 +90,13 @@ cast-out-7 : tie.Need-cast-out-7
 cast-out-7 c = search needs
 
 slice-write-out-7 : tie.Need-slice-write-out-7
-slice-write-out-7 c = simp length-set (omega arith)
+slice-write-out-7 c = has (c .before .before .before .before .before) (_ ∷ _ ∷ _ ∷ _ ∷ _ ∷ _ ∷ []) 8 (c .before .before .before .before .before .pre .1)
 
 cast-out-8 : tie.Need-cast-out-8
 cast-out-8 c = search needs
 
 slice-write-out-8 : tie.Need-slice-write-out-8
-slice-write-out-8 c = simp length-set (omega arith)
+slice-write-out-8 c = has (c .before .before .before .before .before) (_ ∷ _ ∷ _ ∷ _ ∷ _ ∷ _ ∷ _ ∷ []) 7 (c .before .before .before .before .before .pre .1)
 
 cast-second : tie.Need-cast-second
 cast-second c = search needs
@@ -103,13 +111,13 @@ cast-out-9 : tie.Need-cast-out-9
 cast-out-9 c = search needs
 
 slice-write-out-9 : tie.Need-slice-write-out-9
-slice-write-out-9 c = simp length-set (omega arith)
+slice-write-out-9 c = has (c .before .before .before .before .before .before) (_ ∷ _ ∷ _ ∷ _ ∷ _ ∷ _ ∷ _ ∷ _ ∷ []) 6 (c .before .before .before .before .before .before .pre .1)
 
 cast-out-10 : tie.Need-cast-out-10
 cast-out-10 c = search needs
 
 slice-write-out-10 : tie.Need-slice-write-out-10
-slice-write-out-10 c = simp length-set (omega arith)
+slice-write-out-10 c = has (c .before .before .before .before .before .before) (_ ∷ _ ∷ _ ∷ _ ∷ _ ∷ _ ∷ _ ∷ _ ∷ _ ∷ []) 5 (c .before .before .before .before .before .before .pre .1)
 
 cast-third : tie.Need-cast-third
 cast-third c = search needs
@@ -124,13 +132,13 @@ cast-out-11 : tie.Need-cast-out-11
 cast-out-11 c = search needs
 
 slice-write-out-11 : tie.Need-slice-write-out-11
-slice-write-out-11 c = simp length-set (omega arith)
+slice-write-out-11 c = has (c .before .before .before .before .before .before .before) (_ ∷ _ ∷ _ ∷ _ ∷ _ ∷ _ ∷ _ ∷ _ ∷ _ ∷ _ ∷ []) 4 (c .before .before .before .before .before .before .before .pre .1)
 
 cast-out-12 : tie.Need-cast-out-12
 cast-out-12 c = search needs
 
 slice-write-out-12 : tie.Need-slice-write-out-12
-slice-write-out-12 c = simp length-set (omega arith)
+slice-write-out-12 c = has (c .before .before .before .before .before .before .before) (_ ∷ _ ∷ _ ∷ _ ∷ _ ∷ _ ∷ _ ∷ _ ∷ _ ∷ _ ∷ _ ∷ []) 3 (c .before .before .before .before .before .before .before .pre .1)
 
 cast-fourth : tie.Need-cast-fourth
 cast-fourth c = search needs
@@ -145,16 +153,16 @@ cast-out-13 : tie.Need-cast-out-13
 cast-out-13 c = search needs
 
 slice-write-out-13 : tie.Need-slice-write-out-13
-slice-write-out-13 c = simp length-set (omega arith)
+slice-write-out-13 c = has (c .before .before .before .before .before .before .before .before) (_ ∷ _ ∷ _ ∷ _ ∷ _ ∷ _ ∷ _ ∷ _ ∷ _ ∷ _ ∷ _ ∷ _ ∷ []) 2 (c .before .before .before .before .before .before .before .before .pre .1)
 
 cast-out-14 : tie.Need-cast-out-14
 cast-out-14 c = search needs
 
 slice-write-out-14 : tie.Need-slice-write-out-14
-slice-write-out-14 c = simp length-set (omega arith)
+slice-write-out-14 c = has (c .before .before .before .before .before .before .before .before) (_ ∷ _ ∷ _ ∷ _ ∷ _ ∷ _ ∷ _ ∷ _ ∷ _ ∷ _ ∷ _ ∷ _ ∷ _ ∷ []) 1 (c .before .before .before .before .before .before .before .before .pre .1)
 
 slice-write-out-15 : tie.Need-slice-write-out-15
-slice-write-out-15 c = simp length-set (omega arith)
+slice-write-out-15 c = has (c .before .before .before .before .before .before .before .before) (_ ∷ _ ∷ _ ∷ _ ∷ _ ∷ _ ∷ _ ∷ _ ∷ _ ∷ _ ∷ _ ∷ _ ∷ _ ∷ _ ∷ []) 0 (c .before .before .before .before .before .before .before .before .pre .1)
 
 same-length : tie.Need-same-length
 same-length c = simp length-set

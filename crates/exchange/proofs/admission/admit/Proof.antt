@@ -1,9 +1,9 @@
 -- `admit` meets its contract: its tests, in order, are those of the definition.
 use borrow.Author.Needs.{needs}
 use mathlib.Core.Path.{refl}
-use Rattle.turn.proofs.Laws.Admission.{low, high, no-call, an-opening, no-request, no-party, a-call}
-use Rattle.turn.proofs.admission.admit.Statement.{statement}
-use Rattle.turn.proofs.admission.admit.Tie as tie
+use Rattle.exchange.proofs.Laws.Admission.{low, high, no-call, an-opening, no-request, no-party, a-call}
+use Rattle.exchange.proofs.admission.admit.Statement.{statement}
+use Rattle.exchange.proofs.admission.admit.Tie as tie
 
 wrapping-sub-u8-requires : tie.Need-wrapping-sub-u8-requires
 wrapping-sub-u8-requires c κs = search needs

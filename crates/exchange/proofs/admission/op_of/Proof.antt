@@ -1,7 +1,7 @@
 -- `op_of` meets its contract: its tests, in order, are those of the definition.
 use borrow.Author.Tests.{eq-eqb, ne-eqb}
-use Rattle.turn.proofs.admission.op_of.Statement.{statement}
-use Rattle.turn.proofs.admission.op_of.Tie as tie
+use Rattle.exchange.proofs.admission.op_of.Statement.{statement}
+use Rattle.exchange.proofs.admission.op_of.Tie as tie
 
 returns : tie.Need-returns
 returns c = simp (eq-eqb _ _ (c .if1 .taken))

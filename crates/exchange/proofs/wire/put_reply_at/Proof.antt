@@ -1,15 +1,15 @@
--- `put_refusal` meets its contract: the part that it writes lies between what stays.
+-- `put_reply_at` meets its contract: the part that it writes lies between what stays.
 use borrow.Author.Needs.{needs}
 use borrow.Rule.Slice.PartMut.{putMid}
 use mathlib.Core.Path.{_≡_, refl, ap, _∙_}
 use Prim.Native.Nat.{ℕ, _+_, _-_}
 use lib.ListN.{length}
-use Rattle.hub.specs.Answers.{Printed, plain}
+use Rattle.hub.specs.Answers.{Printed}
 use Rattle.encoding.specs.Form.{Form, asText, asBytes, formOf, inForm, replySize}
-use Rattle.encoding.specs.Frame.{frameOf}
+use Rattle.encoding.specs.Frame.{frameOf, paper}
 use Rattle.encoding.proofs.Laws.Parts.{parts}
-use Rattle.turn.proofs.wire.put_refusal.Statement.{statement}
-use Rattle.turn.proofs.wire.put_refusal.Tie as tie
+use Rattle.exchange.proofs.wire.put_reply_at.Statement.{statement}
+use Rattle.exchange.proofs.wire.put_reply_at.Tie as tie
 
 size : (form : Form) (party : ℕ) (p : Printed) → length (inForm form (frameOf party p)) ≡ replySize form
 size asText party p = refl
@@ -30,9 +30,6 @@ part-put-reply-start c = search needs
 part-put-reply-end : tie.Need-part-put-reply-end
 part-put-reply-end c = search needs
 
-plain-requires : tie.Need-plain-requires
-plain-requires c κs = search needs
-
 put-reply-requires : tie.Need-put-reply-requires
 put-reply-requires c κs = search needs
 
@@ -41,22 +38,19 @@ same-length c = search needs
 
 returns : tie.Need-returns
 returns c =
-    let w = c .before .before .before in
-    let z = w .before .before in
+    let z = c .before .before .before .before in
     let s = z .before .before in
     let out = s .args .out .now in
     let at = s .args .at in
     let form = formOf (s .args .form) in
-    let a = s .args .a in
-    ap (putMid at (at + z .reply-size .result - at) out)
-    (c .before .before .put-reply .ensures
-    ∙ ap (λ (q : Printed). inForm form (frameOf (a .party) q)) (w .plain .ensures))
-    ∙ ap (λ (k : ℕ). putMid at (at + k - at) out (inForm form (frameOf (a .party) (plain (a .code)))))
-    (z .reply-size .ensures)
-    ∙ parts out _ at (replySize form) (s .pre .1) (size form (a .party) (plain (a .code)))
+    let party = s .args .party in
+    let print = paper (s .args .print) in
+    ap (putMid at (at + z .reply-size .result - at) out) (c .before .before .put-reply .ensures)
+    ∙ ap (λ (k : ℕ). putMid at (at + k - at) out (inForm form (frameOf party print))) (z .reply-size .ensures)
+    ∙ parts out _ at (replySize form) (s .pre .1) (size form party print)
 
-pub put-refusal-spec : {M : Type 1} → statement M
-put-refusal-spec =
+pub put-reply-at-spec : {M : Type 1} → statement M
+put-reply-at-spec =
     tie.close
     (tie.spec
     reply-size-requires
@@ -64,7 +58,6 @@ put-refusal-spec =
     sub-put-reply
     part-put-reply-start
     part-put-reply-end
-    plain-requires
     put-reply-requires
     same-length
     returns)

@@ -6,8 +6,8 @@ use borrow.Author.Tests.{eq-eqb, ne-eqb, le-ltb, lt-ltb}
 use native.Mathlib.Omega.{arith}
 use Rattle.encoding.specs.Frame.{isCall}
 use Rattle.line.proofs.Laws.Codes.{no-code, under, a-code}
-use Rattle.turn.specs.declared.admission.Admission.{Admission}
-use Rattle.turn.specs.Admission.{admitted, admissionOf, refused}
+use Rattle.exchange.specs.declared.admission.Admission.{Admission}
+use Rattle.exchange.specs.Admission.{admitted, admissionOf, refused}
 
 -- How far a code c is past the first of the five calls, counted round the 256 bytes, says whether it is one.
 module _ (c r : ℕ) (w : (r + 16) % 256 ≡ c) where
@@ -33,6 +33,6 @@ module _ (c p n : ℕ) {d : Admission} where
   unfolding admissionOf
   no-party l m e s = rw (a-code c l m, le-ltb p n e) s
 
-  pub a-call : 16 ≤ c → c ≤ 20 → p < n → d ≡ admitted p → d ≡ admissionOf c p n
+  pub a-call : 16 ≤ c → c ≤ 20 → p < n → d ≡ admitted c p → d ≡ admissionOf c p n
   unfolding admissionOf
   a-call l m e s = rw (a-code c l m, lt-ltb p n e) s

@@ -5,12 +5,12 @@ use line::request::OPENING;
 use std::num::wrapping_sub_u8;
 ghost use mathlib.Core.Path.{_≡_};
 ghost use Rattle.encoding.specs.Frame.{opOf};
-ghost use Rattle.turn.specs.Admission.{admissionOf, refused};
+ghost use Rattle.exchange.specs.Admission.{admissionOf, refused};
 
 pub struct Admission {
     pub admitted: bool, // a call of a party that there is: the table answers it
     pub party: u8,
-    pub code: u8,
+    pub code: u8, // of the call; of the refusal, where it is not admitted
 }
 
 fn refused(party: u8, code: u8) -> Admission
@@ -32,7 +32,7 @@ pub fn admit(code: u8, party: u8, parties: u8) -> Admission
             return Admission {
                 admitted: true,
                 party,
-                code: 0,
+                code,
             };
         }
         return refused(party, 4);
