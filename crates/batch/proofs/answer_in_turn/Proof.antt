@@ -139,6 +139,7 @@ room : (c : At tie.In-loop)
     → width (c .before) * c .before .loop .i + width (c .before) ≤ length (c .before .loop .out)
 room c = whole-reply _ _ _ _ _ _ _ _ _ (c .before .loop .inv .0) (c .loop-test .taken)
 
+-- What the kit knows of the arguments ends with the buffer's own bound.
 room-fits : (c : At tie.In-loop) → width (c .before) * c .before .loop .i + width (c .before) < 2 ^ 64
 room-fits c =
     let h = c .before in

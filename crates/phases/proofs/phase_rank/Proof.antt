@@ -11,6 +11,7 @@ pub phase-rank-spec : {M : Type 1} → statement M
 phase-rank-spec =
     tie.close
     (tie.spec
+    -- each arm is told its phase
     (λ c. search needs)
     (λ c. search needs)
     (λ c. search needs)
@@ -28,6 +29,7 @@ phase-rank-spec =
     (λ c. search needs)
     (λ c. search needs)
     (λ c. search needs)
+    -- what the arms return, in the code's order
     (λ c. phase-arm (0 ∷ []) rank (c .before .before .args .phase) refl (c .before .match .keys1))
     (λ c. phase-arm (1 ∷ []) rank (c .before .before .args .phase) refl (c .before .match .keys2))
     (λ c. phase-arm (2 ∷ []) rank (c .before .before .args .phase) refl (c .before .match .keys3))

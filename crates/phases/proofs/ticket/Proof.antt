@@ -11,6 +11,7 @@ pub ticket-spec : {M : Type 1} → statement M
 ticket-spec =
     tie.close
     (tie.spec
+    -- each arm is told its phase
     (λ c. search needs)
     (λ c. search needs)
     (λ c. search needs)
@@ -18,6 +19,7 @@ ticket-spec =
     (λ c. search needs)
     (λ c. search needs)
     (λ c. search needs)
+    -- what the arms return: the last first, then the others in the code's order
     (λ c. phase-arm (allBut (2 ∷ 5 ∷ 6 ∷ 7 ∷ 8 ∷ 11 ∷ 16 ∷ [])) ticketOf (c .before .args .phase) refl (c .match .keys8))
     (λ c. sym (ap ticketOf (c .before .phase .given .1)))
     (λ c. sym (ap ticketOf (c .before .phase2 .given .1)))

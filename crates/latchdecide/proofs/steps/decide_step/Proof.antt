@@ -23,6 +23,7 @@ unfolding stepIn
 decide-step-spec =
     tie.close
     (tie.spec
+    -- each arm is told its phase, and calls its row
     (λ c κs. search needs)
     (λ c. search needs)
     (λ c κs. search needs)
@@ -49,6 +50,7 @@ decide-step-spec =
     (λ c. search needs)
     (λ c κs. search needs)
     (λ c κs. search needs)
+    -- what the arms return, in the code's order
     (λ c.
     let s = c .before .before .before .args .s in
     c .refused .ensures

@@ -21,6 +21,7 @@ unfolding stepIn
 decide-step-spec =
     tie.close
     (tie.spec
+    -- each arm is told its phase, and calls its row
     (λ c. search needs)
     (λ c κs. search needs)
     (λ c. search needs)
@@ -50,6 +51,7 @@ decide-step-spec =
     (λ c. search needs)
     (λ c κs. search needs)
     (λ c κs. search needs)
+    -- what the arms return, in the code's order
     (λ c. in-phase _ (c .before .enum-told .given .1) (c .step-acquiring .ensures))
     (λ c. in-phase _ (c .before .enum-told2 .given .1) (c .step-suspending .ensures))
     (λ c. in-phase _ (c .before .before .phase .given .1) (c .step-ticketed .ensures))
