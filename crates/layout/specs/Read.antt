@@ -1,20 +1,18 @@
 -- The record that 1881 bytes are. Every list of bytes is one.
 use Prim.Native.Nat.{ℕ, _+_, _-_, _*_, _%_}
-use mathlib.Core.Bool.{true, cond}
+use mathlib.Core.Bool.{cond}
 use mathlib.Core.List.{List}
-use lib.Dec.{eqb, leb}
+use lib.Dec.{leb}
 use lib.IntN.{ℤ, pos, negsuc}
 use lib.ListN.{getD}
-use Rattle.hub.specs.declared.opening.Opening.{Opening}
 use Rattle.hub.specs.declared.record.Figures.{Figures}
 use Rattle.hub.specs.declared.record.Hub.{Hub}
 use Rattle.hub.specs.declared.record.PartySlot.{PartySlot}
-use Rattle.hub.specs.declared.record.Pool.{Pool}
-use Rattle.hub.specs.Radios.{STORE}
 use Rattle.hub.specs.Record.{PARTIES, freeSlot, withPhase}
-use Rattle.cells.specs.Bytes.{bytesAt, each, numberAt}
+use Rattle.cells.specs.Bytes.{each, numberAt}
 use Rattle.cells.specs.Phases.{marked, phaseNamed}
 use Rattle.cells.specs.Places.{placesAt}
+use Rattle.radiobytes.specs.Read.{openingIn, poolIn}
 
 -- A number from its two's complement.
 abbrev pub signed : ℕ → ℤ
@@ -39,33 +37,6 @@ slotIn b p =
 
 abbrev pub slotsIn : List ℕ → List PartySlot
 slotsIn b = each PARTIES (slotIn b)
-
--- What it was opened with: K, n, whether there are radios, those of the opening, the kinds.
-abbrev pub openingIn : List ℕ → Opening
-openingIn b =
-    record {
-      permits = getD b 0 0;
-      parties = getD b 1 0;
-      named = eqb (getD b 1462 0 % 2) 1;
-      radios = bytesAt b 1463 32;
-      kinds = bytesAt b 1849 32;
-      counted = true;
-    }
-
--- A ring that begins at `first`, from its radios in order.
-abbrev pub turned : List ℕ → ℕ → List ℕ
-turned rs first = each STORE (λ j. getD rs ((j + 32 - first % 32) % 32) 0)
-
--- With parties, at places, and stored.
-abbrev pub poolIn : List ℕ → Pool
-poolIn b =
-    record {
-      hands = bytesAt b 1495 32;
-      laid = bytesAt b 1527 256;
-      store = turned (bytesAt b 1785 32) (getD b 1783 0);
-      first = getD b 1783 0;
-      stored = getD b 1784 0 % 33;
-    }
 
 abbrev pub recordIn : List ℕ → Hub
 recordIn b =

@@ -3,7 +3,6 @@
 
 mod figures; // the numbers in front
 mod parties; // phases and marks
-mod radios; // what it was opened with, and the radios
 
 use cells::cell::place_bytes;
 use cells::cell::places_at;
@@ -16,9 +15,9 @@ use hub::record::Hub;
 use parties::marks_of;
 use parties::phase_bytes;
 use parties::slots_of;
-use radios::opening_of;
-use radios::pool_of;
-use radios::radio_bytes;
+use radiobytes::opening_of;
+use radiobytes::pool_of;
+use radiobytes::radio_bytes;
 ghost use mathlib.Core.Path.{_≡_};
 ghost use lib.ListN.{length};
 ghost use Rattle.layout.specs.Read.{recordIn};

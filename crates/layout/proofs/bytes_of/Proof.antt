@@ -6,7 +6,8 @@ use native.Mathlib.Omega.{arith}
 use lib.ListN.{length, replicate}
 use Rattle.cells.specs.Places.{placeBytes}
 use Rattle.cells.proofs.Laws.Cells.{nothing, next, all-written, six}
-use Rattle.layout.specs.Written.{figureBytes, markBytes, phaseBytes, radioBytes}
+use Rattle.radiobytes.specs.Written.{radioBytes}
+use Rattle.layout.specs.Written.{figureBytes, markBytes, phaseBytes}
 use Rattle.layout.proofs.bytes_of.Statement.{statement}
 use Rattle.layout.proofs.bytes_of.Tie as tie
 

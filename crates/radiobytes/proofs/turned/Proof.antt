@@ -4,8 +4,8 @@ use Prim.Native.Nat.{ℕ, _+_, _-_, _%_}
 use mathlib.Core.Path.{refl}
 use lib.ListN.{getD}
 use Rattle.cells.proofs.Laws.Each.{Filled, start, onward, full}
-use Rattle.layout.proofs.radios.turned.Statement.{statement}
-use Rattle.layout.proofs.radios.turned.Tie as tie
+use Rattle.radiobytes.proofs.turned.Statement.{statement}
+use Rattle.radiobytes.proofs.turned.Tie as tie
 
 abbrev Inv-loop : tie.InvT-loop
 Inv-loop first radios begin ring₀ j₀ ring j =

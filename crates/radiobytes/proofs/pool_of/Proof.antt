@@ -1,9 +1,9 @@
 -- `pool_of` meets its contract: each field is read where it stands.
 use borrow.Author.Needs.{needs}
 use mathlib.Core.Path.{_∙_}
-use Rattle.layout.specs.Read.{turned}
-use Rattle.layout.proofs.radios.pool_of.Statement.{statement}
-use Rattle.layout.proofs.radios.pool_of.Tie as tie
+use Rattle.radiobytes.specs.Read.{turned}
+use Rattle.radiobytes.proofs.pool_of.Statement.{statement}
+use Rattle.radiobytes.proofs.pool_of.Tie as tie
 
 shared-slice-read-wide : tie.Need-shared-slice-read-wide
 shared-slice-read-wide c = search needs

@@ -8,9 +8,9 @@ use native.Mathlib.Omega.{arith}
 use borrow.Author.Tests.{not-false, not-true}
 use lib.ListN.{length, replicate}
 use Rattle.cells.proofs.Laws.Cells.{nothing, next, all-written, six}
-use Rattle.layout.specs.Written.{handsShown, inOrder, laidShown}
-use Rattle.layout.proofs.radios.radio_bytes.Statement.{statement}
-use Rattle.layout.proofs.radios.radio_bytes.Tie as tie
+use Rattle.radiobytes.specs.Written.{handsShown, inOrder, laidShown}
+use Rattle.radiobytes.proofs.radio_bytes.Statement.{statement}
+use Rattle.radiobytes.proofs.radio_bytes.Tie as tie
 
 lying : (c : tie.After-laid-shown) → length (c .laid-shown .result) ≡ 256
 lying c = search needs

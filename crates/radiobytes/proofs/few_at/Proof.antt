@@ -4,8 +4,8 @@ use Prim.Native.Nat.{ℕ, _+_, _-_}
 use mathlib.Core.Path.{_≡_, ap, _∙_}
 use native.Mathlib.Omega.{arith}
 use lib.ListN.{take, drop}
-use Rattle.layout.proofs.radios.few_at.Statement.{statement}
-use Rattle.layout.proofs.radios.few_at.Tie as tie
+use Rattle.radiobytes.proofs.few_at.Statement.{statement}
+use Rattle.radiobytes.proofs.few_at.Tie as tie
 
 add-end : tie.Need-add-end
 add-end c = search needs

@@ -4,8 +4,8 @@ use Prim.Native.Nat.{_%_}
 use mathlib.Core.Bool.{true}
 use lib.Dec.{eqb}
 use lib.ListN.{getD}
-use Rattle.layout.proofs.radios.opening_of.Statement.{statement}
-use Rattle.layout.proofs.radios.opening_of.Tie as tie
+use Rattle.radiobytes.proofs.opening_of.Statement.{statement}
+use Rattle.radiobytes.proofs.opening_of.Tie as tie
 
 few-at-requires : tie.Need-few-at-requires
 few-at-requires c κs = search needs

@@ -16,10 +16,10 @@ ghost use mathlib.Core.Bool.{cond};
 ghost use mathlib.Core.Path.{_≡_};
 ghost use lib.ListN.{length};
 ghost use Rattle.cells.specs.Bytes.{bytesAt};
-ghost use Rattle.layout.specs.Read.{openingIn, poolIn, turned};
-ghost use Rattle.layout.specs.Written.{handsShown, inOrder, laidShown, radioBytes};
+ghost use Rattle.radiobytes.specs.Read.{openingIn, poolIn, turned};
+ghost use Rattle.radiobytes.specs.Written.{handsShown, inOrder, laidShown, radioBytes};
 
-pub(crate) fn opening_of(bytes: &[u8]) -> Opening
+pub fn opening_of(bytes: &[u8]) -> Opening
     requires { ⌜ length (now bytes) ≡ 1881 ⌝ }
     ensures { λ r. ⌜ r ≡ openingIn (now (bytes .entry)) ⌝ }
 {
@@ -35,7 +35,7 @@ pub(crate) fn opening_of(bytes: &[u8]) -> Opening
     }
 }
 
-pub(crate) fn pool_of(bytes: &[u8]) -> Pool
+pub fn pool_of(bytes: &[u8]) -> Pool
     requires { ⌜ length (now bytes) ≡ 1881 ⌝ }
     ensures { λ r. ⌜ r ≡ poolIn (now (bytes .entry)) ⌝ }
 {
@@ -132,7 +132,7 @@ fn laid_shown(places: [PlaceSlot; 256], laid: [u8; 256]) -> [u8; 256]
     shown
 }
 
-pub(crate) fn radio_bytes(
+pub fn radio_bytes(
     opening: Opening,
     slots: [PartySlot; 32],
     places: [PlaceSlot; 256],

@@ -5,8 +5,8 @@ use mathlib.Core.Bool.{cond}
 use lib.Dec.{ltb}
 use lib.ListN.{getD}
 use Rattle.cells.proofs.Laws.Each.{Filled, start, onward, full}
-use Rattle.layout.proofs.radios.in_order.Statement.{statement}
-use Rattle.layout.proofs.radios.in_order.Tie as tie
+use Rattle.radiobytes.proofs.in_order.Statement.{statement}
+use Rattle.radiobytes.proofs.in_order.Tie as tie
 
 abbrev Inv-loop : tie.InvT-loop
 Inv-loop first stored ring begin radios₀ i₀ radios i =
