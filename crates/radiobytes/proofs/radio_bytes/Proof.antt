@@ -1,31 +1,27 @@
 -- `radio_bytes` meets its contract: each part comes after what is written.
 use borrow.Author.Needs.{needs}
-use Prim.Native.Nat.{ℕ, _%_}
-use mathlib.Core.Path.{_≡_, refl, sym, ap, _∙_}
-use mathlib.Core.Bool.{Bool, cond}
-use mathlib.Core.List.{List, [], _∷_, _++_}
+use Prim.Native.Nat.{_%_}
+use mathlib.Core.Path.{_≡_, refl, sym, _∙_}
+use mathlib.Core.List.{[], _∷_, _++_}
 use native.Mathlib.Omega.{arith}
 use borrow.Author.Tests.{not-false, not-true}
 use lib.ListN.{length, replicate}
 use Rattle.cells.proofs.Laws.Cells.{nothing, next, all-written, six}
 use Rattle.radiobytes.specs.Written.{handsShown, inOrder, laidShown}
+use Rattle.radiobytes.proofs.Laws.{chosen}
 use Rattle.radiobytes.proofs.radio_bytes.Statement.{statement}
 use Rattle.radiobytes.proofs.radio_bytes.Tie as tie
 
 lying : (c : tie.After-laid-shown) → length (c .laid-shown .result) ≡ 256
 lying c = search needs
 
-chosen : (b : Bool) {d : Bool} (l m : List ℕ) → b ≡ d → cond b l m ≡ cond d l m
-chosen b l m e = ap (λ (b : Bool). cond b l m) e
-
 returns : tie.Need-returns
 returns c =
     let a = c .before .before .args in
-    let named = a .opening .named in
-    sym (chosen named
+    sym (chosen
     ((1 ∷ []) ++ a .opening .radios ++ handsShown (a .slots) (a .pool .hands) ++ laidShown (a .places) (a .pool .laid)
     ++ (0 ∷ a .pool .stored % 256 ∷ []) ++ inOrder (a .pool .store) (a .pool .first) (a .pool .stored)) (replicate 355 0)
-    (not-true named (c .if1 .taken)))
+    (not-true (a .opening .named) (c .if1 .taken)))
 
 slice-aggregate-put-bytes-at : tie.Need-slice-aggregate-put-bytes-at
 slice-aggregate-put-bytes-at c = search needs
@@ -118,7 +114,7 @@ returns-2 c =
     all-written 355 _ 355 _ w6 (omega arith)
     ∙ six (1 ∷ []) (a .opening .radios) (handsShown (a .slots) (q .hands)) (laidShown (a .places) (q .laid))
     (0 ∷ q .stored % 256 ∷ []) (inOrder (q .store) (q .first) (q .stored))
-    ∙ sym (chosen (a .opening .named) _ (replicate 355 0) (not-false (a .opening .named) (at-if1 .if1 .left)))
+    ∙ sym (chosen _ (replicate 355 0) (not-false (a .opening .named) (at-if1 .if1 .left)))
 
 pub radio-bytes-spec : {M : Type 1} → statement M
 radio-bytes-spec =

@@ -1,31 +1,18 @@
 -- `put_refusal` meets its contract: of a refusal its code is printed.
 use borrow.Author.Needs.{needs}
-use mathlib.Core.Path.{ap, _∙_}
-use Rattle.hub.specs.Answers.{Printed}
 use Rattle.encoding.specs.Form.{formOf}
-use Rattle.encoding.specs.Frame.{frameOf}
-use Rattle.exchange.specs.Wire.{withReply}
+use Rattle.exchange.proofs.Laws.Reply.{replied-as}
 use Rattle.exchange.proofs.wire.put_refusal.Statement.{statement}
 use Rattle.exchange.proofs.wire.put_refusal.Tie as tie
-
-plain-requires : tie.Need-plain-requires
-plain-requires c κs = search needs
-
-put-reply-at-requires : tie.Need-put-reply-at-requires
-put-reply-at-requires c κs = search needs
-
-same-length : tie.Need-same-length
-same-length c = search needs
-
-returns : tie.Need-returns
-returns c =
-    let p = c .before .before .before in
-    let a = p .before .before .before .args in
-    c .before .before .put-reply-at .ensures
-    ∙ ap (λ (q : Printed). withReply (formOf (a .form)) (a .at) (frameOf (a .a .party) q) (a .out .now))
-    (p .plain .ensures)
 
 pub put-refusal-spec : {M : Type 1} → statement M
 put-refusal-spec =
     tie.close
-    (tie.spec plain-requires put-reply-at-requires same-length returns)
+    (tie.spec
+    (λ c κs. search needs)
+    (λ c κs. search needs)
+    (λ c. search needs)
+    (λ c.
+    let a = c .before .before .before .before .before .before .args in
+    replied-as (formOf (a .form)) (a .at) (a .a .party) (a .out .now) (c .before .before .put-reply-at .ensures)
+    (c .before .before .before .plain .ensures)))
