@@ -63,6 +63,7 @@ use Rattle.shellwalk.proofs.Shell.{
   borrowed,
   clauses,
   ended,
+  fieldTypes,
   localTypes,
   meets,
   opening,
@@ -76,7 +77,7 @@ use Rattle.shellwalk.proofs.Tagged.{answerVal}
 abbrev pub shellFn : Name → Fn
 shellFn key =
     shellOf 3 (localTypes Q′.mir O′.mir (tyInt w8) R′.mir)
-    (handing T′.mir key (copy (place 2 [])) (copy (place 3 [])) 4
+    (handing T′.mir fieldTypes key (copy (place 2 [])) (copy (place 3 [])) 4
     (storing T′.mir (copy (place 4 (field 3 ∷ [])))
     (aggregate
     (copy (place 4 (field 0 ∷ [])) ∷ copy (place 4 (field 1 ∷ [])) ∷ copy (place 4 (field 2 ∷ [])) ∷ []))))
@@ -147,19 +148,19 @@ module _ {M : Type 1} (𝓤 : URA M) (H : Heap 𝓤) (A : Atoms 𝓤) (W : Given
       enters 𝓤 H A W C Λ (localTypes Q′.mir O′.mir (tyInt w8) R′.mir) (borrowed 𝓤 H A W κ q b o γ h []) 3 _
       (vptr b o ∷ opVal a ∷ vint w8 n ∷ [])
       (Reached 𝓤 H A W (kind D) κ q b o γ h (a, (n, tt)) (opVal a ∷ [], (vint w8 n ∷ [], tt))) (λ s.
-      pass1 ! (init ! 18 refl (tt, tt)) $
-      pass1 ! (init ! 16 refl (EL.lawful O.the-type O′.the-laws 𝓤 H A W tt .typed a _ is-op .0)) $
-      pass1 ! (init ! 14 refl (tt, record { fits = fits })) $ pass0 ! $
-      move ! (22 ∷ 23 ∷ 24 ∷ []) $ opening 𝓤 H A W κ q b o γ h _ _ tt (λ is.
-      -- [the record; its open borrow, three; _10; …; _9; …; _0; …]
+      pass1 ! (init ! 6 refl (tt, tt)) $
+      pass1 ! (init ! 4 refl (EL.lawful O.the-type O′.the-laws 𝓤 H A W tt .typed a _ is-op .0)) $
+      pass1 ! (init ! 2 refl (tt, record { fits = fits })) $ pass0 ! $
+      move ! (10 ∷ 11 ∷ 12 ∷ []) $ opening 𝓤 H A W κ q b o γ h _ _ tt (λ is.
+      -- [the record; its open borrow, three; _4; …; _3; …; _0; …; the fields' locals]
       over-fields 𝓤 H A W C Λ R.the-row D Q′.mir O′.mir (tyInt w8) R′.mir s b o (X 𝓤 H A W κ q b o γ)
       (Y 𝓤 H A W κ q b o γ (T.the-row .coded .code h)) (Z 𝓤 H A W κ q b o γ (T.the-row .coded .code h))
       (‵ (fat fullShare O′.mir (s .l2) 0 (opVal a))) (‵ (fat fullShare (tyInt w8) (s .l3) 0 (vint w8 n)))
       (‵ (froom R′.mir (s .l4) 0)) fm key known (copy (place 2 [])) (copy (place 3 [])) 4
-      _ _ h a (opVal a) n is is-op fits (load ! (from ! (stop !)) (look ! 21 refl))
-      (load ! (from ! (stop !)) (look ! 19 refl)) (λ v r e is′.
-      land ! (from ! (stop !)) (init ! 16 refl (LL.lawful R.the-type R′.the-laws 𝓤 H A W .typed r _ is′ .0)) $
-      rewrite ! 16 (λ (u : Val). ‵ (fat fullShare R′.mir (s .l4) 0 u))
+      _ _ h a (opVal a) n is is-op fits (load ! (from ! (stop !)) (look ! 9 refl))
+      (load ! (from ! (stop !)) (look ! 7 refl)) (λ v r e is′.
+      land ! (from ! (stop !)) (init ! 4 refl (LL.lawful R.the-type R′.the-laws 𝓤 H A W .typed r _ is′ .0)) $
+      rewrite ! 4 (λ (u : Val). ‵ (fat fullShare R′.mir (s .l4) 0 u))
       (ap only (LL.tells R.the-type R′.the-laws r _ is′)) refl $
       stores 𝓤 H A W C Λ (localTypes Q′.mir O′.mir (tyInt w8) R′.mir) s T′.mir b o (X 𝓤 H A W κ q b o γ)
       (Y 𝓤 H A W κ q b o γ (T.the-row .coded .code h)) (Z 𝓤 H A W κ q b o γ (T.the-row .coded .code h))
@@ -170,13 +171,13 @@ module _ {M : Type 1} (𝓤 : URA M) (H : Heap 𝓤) (A : Atoms 𝓤) (W : Given
       (copy (place 4 (field 3 ∷ [])))
       (aggregate
       (copy (place 4 (field 0 ∷ [])) ∷ copy (place 4 (field 1 ∷ [])) ∷ copy (place 4 (field 2 ∷ [])) ∷ []))
-      (field-in 𝓤 H A W _ _ 4 3 16 R′.mir T′.mir (s .l4) (offsetIn R′.mir 3) (operatedVals r) refl refl refl)
+      (field-in 𝓤 H A W _ _ 4 3 4 R′.mir T′.mir (s .l4) (offsetIn R′.mir 3) (operatedVals r) refl refl refl)
       (agg !
-      (and-then ! (field-in 𝓤 H A W _ _ 4 0 16 R′.mir P′.mir (s .l4) (offsetIn R′.mir 0) (operatedVals r) refl refl refl)
+      (and-then ! (field-in 𝓤 H A W _ _ 4 0 4 R′.mir P′.mir (s .l4) (offsetIn R′.mir 0) (operatedVals r) refl refl refl)
       (and-then !
-      (field-in 𝓤 H A W _ _ 4 1 16 R′.mir (tyInt w32) (s .l4) (offsetIn R′.mir 1) (operatedVals r) refl refl refl)
+      (field-in 𝓤 H A W _ _ 4 1 4 R′.mir (tyInt w32) (s .l4) (offsetIn R′.mir 1) (operatedVals r) refl refl refl)
       (and-then !
-      (field-in 𝓤 H A W _ _ 4 2 16 R′.mir (tyInt w32) (s .l4) (offsetIn R′.mir 2) (operatedVals r) refl refl refl)
+      (field-in 𝓤 H A W _ _ 4 2 4 R′.mir (tyInt w32) (s .l4) (offsetIn R′.mir 2) (operatedVals r) refl refl refl)
       (no-more !)))))
       (LL.lawful T.the-type T′.the-laws 𝓤 H A W .typed (r .hub) _ (parts r v is′ .1 .1 .1 .0) .0)
       (LL.lawful Q.the-type Q′.the-laws 𝓤 H A W .typed (toldOf r) _ (told-is r v is′) .0)

@@ -1,4 +1,5 @@
 -- What the shells and their callers share.
+pub mod Locals  -- the locals of a record's fields, as many as it has
 pub mod Body  -- the walk of a shell's code, its types left open
 pub mod OverFields  -- the function over the fields that a shell calls
 pub mod InPlace  -- the signature of a shell

@@ -92,7 +92,7 @@ use Rattle.hub.proofs.record.Hub.Laws as T′
 use Rattle.hub.proofs.record.PartySlot.Laws as PartySlot′
 use Rattle.hub.proofs.record.PlaceSlot.Laws as PlaceSlot′
 use Rattle.hub.proofs.record.Pool.Laws as Pool′
-use Rattle.shellwalk.proofs.Body.{Spots, Types, cleared, env, filled, handing, hands-over, offsetIn}
+use Rattle.shellwalk.proofs.Body.{Places, Types, cleared, env, handing, hands-over, taken}
 use Rattle.shellwalk.proofs.InPlace as shell
 use Rattle.shellwalk.proofs.OverFields.{Core, answers, fieldVals, goes-core, hubVal, to-core, typed}
 
@@ -182,24 +182,22 @@ module _ {M : Type 1} (𝓤 : URA M) (H : Heap 𝓤) (A : Atoms 𝓤) (W : Given
 abbrev pub ref : Ty
 ref = tyRef (named 0) mut (pointee (T.the-row .written))
 
+abbrev pub fieldTypes : List Ty
+fieldTypes =
+    Opening′.mir
+    ∷ Figures′.mir
+    ∷ tyInt w32
+    ∷ tyArray PlaceSlot′.mir 256
+    ∷ tyArray PartySlot′.mir 32
+    ∷ Pool′.mir
+    ∷ []
+
 abbrev pub localTypes : Ty → Ty → Ty → Ty → Types
-localTypes τ₀ τ₂ τ₃ τ₄ = record {
-  t0 = τ₀;
-  t1 = ref;
-  t2 = τ₂;
-  t3 = τ₃;
-  t4 = τ₄;
-  t5 = Opening′.mir;
-  t6 = Figures′.mir;
-  t7 = tyInt w32;
-  t8 = tyArray PlaceSlot′.mir 256;
-  t9 = tyArray PartySlot′.mir 32;
-  t10 = Pool′.mir;
-}
+localTypes τ₀ τ₂ τ₃ τ₄ = record { t0 = τ₀; t1 = ref; t2 = τ₂; t3 = τ₃; t4 = τ₄; fields = fieldTypes }
 
 -- the call of the function over the fields, which has the contract D: what it answers lands in local d
 module _ {M : Type 1} (𝓤 : URA M) (H : Heap 𝓤) (A : Atoms 𝓤) (W : Given 𝓤 H A) (C : Calls 𝓤 H) (Λ : Loops 𝓤 H)
-    (R : RattleType) (D : Hub → Op → ℕ → R .Denot) (τ₀ τ₂ τ₃ τ₄ : Ty) (s : Spots) (b o : ℕ) (X Y Z i₂ i₃ i₄ : Item 𝓤)
+    (R : RattleType) (D : Hub → Op → ℕ → R .Denot) (τ₀ τ₂ τ₃ τ₄ : Ty) (s : Places fieldTypes) (b o : ℕ) (X Y Z i₂ i₃ i₄ : Item 𝓤)
   where
     abbrev t : Types
     t = localTypes τ₀ τ₂ τ₃ τ₄
@@ -210,20 +208,19 @@ module _ {M : Type 1} (𝓤 : URA M) (H : Heap 𝓤) (A : Atoms 𝓤) (W : Given
         → Is T.the-row h (hubVal h ∷ []) → Is O.the-row a (u ∷ []) → n < 2 ^ 8
         → Opd (Go {0}) W
         (raw (Core 𝓤 H A R D .pre (to-core 𝓤 H A W R D a u h n))
-        ∷ filled 𝓤 H A W C Λ t s T′.mir b o X Y Z i₂ i₃ i₄ (fieldVals h)) (env 𝓤 H t s) x u
+        ∷ taken 𝓤 H A W C Λ t s T′.mir b o X Y Z i₂ i₃ i₄ (fieldVals h)) (env 𝓤 H t s) x u
         → Opd (Go {0}) W
         (raw (Core 𝓤 H A R D .pre (to-core 𝓤 H A W R D a u h n))
-        ∷ filled 𝓤 H A W C Λ t s T′.mir b o X Y Z i₂ i₃ i₄ (fieldVals h)) (env 𝓤 H t s) y (vint w8 n)
+        ∷ taken 𝓤 H A W C Λ t s T′.mir b o X Y Z i₂ i₃ i₄ (fieldVals h)) (env 𝓤 H t s) y (vint w8 n)
         → ((v : Val) (r : R .Denot) → r ≡ D h a n → Is R r (v ∷ [])
         → Sq W (cleared 𝓤 H A W C Λ t s T′.mir b o X Y Z i₂ i₃ i₄ (hubVal h))
         (lands C Λ (env 𝓤 H t s) (place d []) v rest q))
         → Sq W (cleared 𝓤 H A W C Λ t s T′.mir b o X Y Z i₂ i₃ i₄ (hubVal h))
-        (runs C Λ (env 𝓤 H t s) (handing T′.mir key x y d rest) q)
+        (runs C Λ (env 𝓤 H t s) (handing T′.mir fieldTypes key x y d rest) q)
     over-fields fm key known x y d rest q h a u n is is-op fits is-x is-y k =
-        let ty = typed 𝓤 H A W h is in
-        hands-over 𝓤 H A W C Λ t s T′.mir b o X Y Z i₂ i₃ i₄ (fieldVals h) fm (offsetIn T′.mir 0) (offsetIn T′.mir 1)
-        (offsetIn T′.mir 2) (offsetIn T′.mir 3) (offsetIn T′.mir 4) (offsetIn T′.mir 5) refl refl refl refl refl refl
-        (ty .0) (ty .1 .0) (ty .1 .1 .0) (ty .1 .1 .1 .0) (ty .1 .1 .1 .1 .0) (ty .1 .1 .1 .1 .1 .0)
+        hands-over 𝓤 H A W C Λ t s T′.mir b o X Y Z i₂ i₃ i₄ (fieldVals h) fm
+        (refl, (refl, (refl, (refl, (refl, (refl, tt)))))) (refl, (refl, (refl, (refl, (refl, (refl, tt))))))
+        (typed 𝓤 H A W h is)
         key x y d rest q u (vint w8 n) (Core 𝓤 H A R D .pre (to-core 𝓤 H A W R D a u h n))
         (Core 𝓤 H A R D .post (to-core 𝓤 H A W R D a u h n)) (goes-core 𝓤 H A W R D a u h n is-op fits is)
         (known (to-core 𝓤 H A W R D a u h n)) is-x is-y (λ v.

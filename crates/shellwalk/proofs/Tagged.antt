@@ -58,6 +58,7 @@ use Rattle.shellwalk.proofs.Shell.{
   borrowed,
   clauses,
   ended,
+  fieldTypes,
   localTypes,
   meets,
   opening,
@@ -71,7 +72,7 @@ abbrev pub shellFn : Name → ℕ → Fn
 shellFn key k =
     shellOf 2 (localTypes P′.mir (tyInt w8) R′.mir O′.mir)
     (seq (assign (place 4 []) (aggregate (int w8 k ∷ [])))
-    (handing T′.mir key (copy (place 4 [])) (copy (place 2 [])) 3
+    (handing T′.mir fieldTypes key (copy (place 4 [])) (copy (place 2 [])) 3
     (storing T′.mir (copy (place 3 (field 1 ∷ []))) (rvOpd (copy (place 3 (field 0 ∷ [])))))))
 
 -- a shell whose call leaves f: it tells the answer
@@ -142,19 +143,19 @@ module _ {M : Type 1} (𝓤 : URA M) (H : Heap 𝓤) (A : Atoms 𝓤) (W : Given
   walk κ q b o γ h n fits =
       enters 𝓤 H A W C Λ (localTypes P′.mir (tyInt w8) R′.mir O′.mir) (borrowed 𝓤 H A W κ q b o γ h []) 2 _
       (vptr b o ∷ vint w8 n ∷ []) (Reached 𝓤 H A W K κ q b o γ h (n, tt) (vint w8 n ∷ [], tt)) (λ s.
-      pass1 ! (init ! 18 refl (tt, tt)) $ pass1 ! (init ! 16 refl (tt, record { fits = fits })) $ pass0 ! $
-      move ! (22 ∷ 23 ∷ 24 ∷ []) $ opening 𝓤 H A W κ q b o γ h _ _ tt (λ is.
-      -- [the record; its open borrow, three; _10; …; _9; …; _0; …]
+      pass1 ! (init ! 6 refl (tt, tt)) $ pass1 ! (init ! 4 refl (tt, record { fits = fits })) $ pass0 ! $
+      move ! (10 ∷ 11 ∷ 12 ∷ []) $ opening 𝓤 H A W κ q b o γ h _ _ tt (λ is.
+      -- [the record; its open borrow, three; _4; …; _3; …; _0; …; the fields' locals]
       assigns ! (agg ! (and-then ! (lit ! small) (no-more !))) (from ! (stop !))
-      (init ! 16 refl (EL.lawful O.the-type O′.the-laws 𝓤 H A W tt .typed a _ is-op .0)) $
+      (init ! 4 refl (EL.lawful O.the-type O′.the-laws 𝓤 H A W tt .typed a _ is-op .0)) $
       over-fields 𝓤 H A W C Λ R.the-row D P′.mir (tyInt w8) R′.mir O′.mir s b o (X 𝓤 H A W κ q b o γ)
       (Y 𝓤 H A W κ q b o γ (T.the-row .coded .code h)) (Z 𝓤 H A W κ q b o γ (T.the-row .coded .code h))
       (‵ (fat fullShare (tyInt w8) (s .l2) 0 (vint w8 n))) (‵ (froom R′.mir (s .l3) 0))
       (‵ (fat fullShare O′.mir (s .l4) 0 (tagVal k))) fm key known (copy (place 4 [])) (copy (place 2 [])) 3
-      _ _ h a (tagVal k) n is is-op fits (load ! (from ! (stop !)) (look ! 17 refl))
-      (load ! (from ! (stop !)) (look ! 21 refl)) (λ v r e is′.
-      land ! (from ! (stop !)) (init ! 18 refl (LL.lawful R.the-type R′.the-laws 𝓤 H A W .typed r _ is′ .0)) $
-      rewrite ! 18 (λ (u : Val). ‵ (fat fullShare R′.mir (s .l3) 0 u))
+      _ _ h a (tagVal k) n is is-op fits (load ! (from ! (stop !)) (look ! 5 refl))
+      (load ! (from ! (stop !)) (look ! 9 refl)) (λ v r e is′.
+      land ! (from ! (stop !)) (init ! 6 refl (LL.lawful R.the-type R′.the-laws 𝓤 H A W .typed r _ is′ .0)) $
+      rewrite ! 6 (λ (u : Val). ‵ (fat fullShare R′.mir (s .l3) 0 u))
       (ap only (LL.tells R.the-type R′.the-laws r _ is′)) refl $
       stores 𝓤 H A W C Λ (localTypes P′.mir (tyInt w8) R′.mir O′.mir) s T′.mir b o (X 𝓤 H A W κ q b o γ)
       (Y 𝓤 H A W κ q b o γ (T.the-row .coded .code h)) (Z 𝓤 H A W κ q b o γ (T.the-row .coded .code h))
@@ -163,9 +164,9 @@ module _ {M : Type 1} (𝓤 : URA M) (H : Heap 𝓤) (A : Atoms 𝓤) (W : Given
       (Reached 𝓤 H A W K κ q b o γ h (n, tt) (vint w8 n ∷ [], tt))
       (‵ (fobs γ (T.the-row .coded .code (r .hub)))) (‵ (fbor κ (Held (mem T.the-row) b o γ))) (‵ (flft κ q))
       (copy (place 3 (field 1 ∷ []))) (rvOpd (copy (place 3 (field 0 ∷ []))))
-      (field-in 𝓤 H A W _ _ 3 1 18 R′.mir T′.mir (s .l3) (offsetIn R′.mir 1) (outcomeVals r) refl refl refl)
+      (field-in 𝓤 H A W _ _ 3 1 6 R′.mir T′.mir (s .l3) (offsetIn R′.mir 1) (outcomeVals r) refl refl refl)
       (of-opd !
-      (field-in 𝓤 H A W _ _ 3 0 18 R′.mir P′.mir (s .l3) (offsetIn R′.mir 0) (outcomeVals r) refl refl refl))
+      (field-in 𝓤 H A W _ _ 3 0 6 R′.mir P′.mir (s .l3) (offsetIn R′.mir 0) (outcomeVals r) refl refl refl))
       (LL.lawful T.the-type T′.the-laws 𝓤 H A W .typed (r .hub) _ (parts r v is′ .1 .0) .0)
       (EL.lawful P.the-type P′.the-laws 𝓤 H A W tt .typed (r .answer) _ (parts r v is′ .0) .0)
       (shuts 𝓤 H A W κ q b o γ (r .hub) (parts r v is′ .1 .0) (T.the-row .coded .code h))

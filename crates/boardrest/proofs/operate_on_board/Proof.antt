@@ -105,7 +105,8 @@ use Rattle.hub.proofs.moves.Op as O
 use Rattle.hub.proofs.moves.Op.Laws as O′
 use Rattle.hub.proofs.record.Hub as T
 use Rattle.hub.proofs.record.Hub.Laws as T′
-use Rattle.shellwalk.proofs.Body.{OfTy, unset}
+use Rattle.shellwalk.proofs.Body.{OfTy}
+use Rattle.shellwalk.proofs.Locals.{unset}
 use Rattle.shellwalk.proofs.Lent.{comes-back, lends, loan, to-shell}
 use Rattle.shellwalk.proofs.OnBoard as on
 use Rattle.shellwalk.proofs.OnBoard.{Reached, clauses, meets, opVal, reaches}
