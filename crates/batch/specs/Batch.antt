@@ -14,6 +14,7 @@ use Rattle.hub.specs.declared.record.Pool.{Pool}
 use Rattle.hub.specs.Opening.{nobody, opening}
 use Rattle.hub.specs.Schedule.{run}
 use Rattle.hub.specs.declared.opening.Opening.{Opening}
+use Rattle.hub.specs.Record.{ofFields}
 use Rattle.encoding.specs.Form.{Form, replySize}
 use Rattle.encoding.specs.Frame.{isCall, opOf}
 use Rattle.line.specs.Program.{repliesIn}
@@ -39,15 +40,7 @@ replied form h n requests out =
 
 -- The record that the loop's parts make. Its figures have the next ticket to resume, not its ring.
 abbrev pub ofParts : Opening → Figures → PlaceRing → List PartySlot → Pool → Hub
-ofParts opening figures ring slots pool =
-    record {
-      opening = opening;
-      figures = figures;
-      oldest = ring .oldest;
-      places = ring .places;
-      slots = slots;
-      pool = pool;
-    }
+ofParts opening figures ring slots pool = ofFields opening figures (ring .oldest) (ring .places) slots pool
 
 -- What an accepted opening and a list of calls lead to: such a record needs no check.
 pub record Reachable (h : Hub) : Type 0 where

@@ -16,7 +16,7 @@ ghost use mathlib.Core.Path.{_≡_};
 ghost use Rattle.hub.specs.declared.moves.Op.{Op};
 ghost use Rattle.hub.specs.Answers.{printed};
 ghost use Rattle.hub.specs.Calls.{called};
-ghost use Rattle.board.specs.Fields.{ofFields};
+ghost use Rattle.hub.specs.Record.{ofFields};
 
 fn call_fields(
     op: Op,

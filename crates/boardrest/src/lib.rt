@@ -13,7 +13,7 @@ use operations::Operated;
 use operations::Told;
 ghost use mathlib.Core.Path.{_≡_};
 ghost use Rattle.hub.specs.Answers.{printed};
-ghost use Rattle.board.specs.Fields.{ofFields};
+ghost use Rattle.hub.specs.Record.{ofFields};
 ghost use Rattle.operations.specs.Operation.{operated, toldOf};
 
 fn operate_fields(

@@ -21,7 +21,7 @@ use Rattle.hub.specs.Fits.{stateFits}
 use Rattle.hub.specs.Look.{look, seenBy}
 use Rattle.hub.specs.Moves.{Move, Refuse, Tell, Act, Put, Wake}
 use Rattle.hub.specs.Phases.{byTicket, byWaiter, ticketOf}
-use Rattle.hub.specs.Record.{PARTIES, emptySeat, withPlace}
+use Rattle.hub.specs.Record.{PARTIES, emptySeat, withPlace, withPlaces}
 use Rattle.hub.specs.Ring.{PLACES, Ring, canRetire, canSkip, retire, retired, skip, skipped, writeSeat}
 use Rattle.hub.specs.Table.{acquire, cancel, decide, release, resumeWaiter, stepAborting, stepAcquiring}
 use Rattle.hub.specs.Table.{stepCancelling, stepFetching, stepIn, stepRefusing, stepReleasing}
@@ -56,14 +56,7 @@ module _ (n : ℕ) (room : (q : ℕ) → q ≤ 255 → q % n ≡ q) where
 
   same-hub : (h : Hub) → UpTo 255 h → keptIn n h ≡ h
   same-hub h s =
-      ap (λ (l : List PlaceSlot). record {
-        opening = h .opening;
-        figures = h .figures;
-        oldest = h .oldest;
-        places = l;
-        slots = h .slots;
-        pool = h .pool;
-      }) (same-places (h .places) s)
+      ap (λ (l : List PlaceSlot). withPlaces l h) (same-places (h .places) s)
 
 -- Storing a small place.
 set-small : (l : List PlaceSlot) (k : ℕ) (a : PlaceSlot) → AllSmall l → Small (a .place)

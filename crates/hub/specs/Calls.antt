@@ -15,14 +15,13 @@ use Rattle.hub.specs.declared.record.Outcome.{Outcome}
 use Rattle.hub.specs.declared.record.PartySlot.{PartySlot}
 use Rattle.hub.specs.declared.record.Phase.{Phase}
 use Rattle.hub.specs.declared.record.PlaceSlot.{PlaceSlot}
-use Rattle.hub.specs.declared.record.Pool.{Pool}
 use Rattle.hub.specs.Answers.{printed}
 use Rattle.hub.specs.Basics.{count}
 use Rattle.hub.specs.Fits.{fits}
 use Rattle.hub.specs.Look.{look}
 use Rattle.hub.specs.Phases.{byTicket, drawsTicket}
 use Rattle.hub.specs.Radios.{poolAfter}
-use Rattle.hub.specs.Record.{phasesOf, writeSlot}
+use Rattle.hub.specs.Record.{phasesOf, withFigures, withParts, withPlaces, withPool, withSlots, writeSlot}
 use Rattle.hub.specs.Ring.{PLACES, Ring, reclaimed, writeSeat}
 use Rattle.hub.specs.Table.{decide, withResumed}
 
@@ -43,54 +42,22 @@ moveOf h c =
 
 -- The slot of party p and the figures change.
 abbrev pub acted : Hub → ℕ → Change → Hub
-acted h p c =
-    record {
-      opening = h .opening;
-      figures = c .figures;
-      oldest = h .oldest;
-      places = h .places;
-      slots = writeSlot (h .slots) p (c .slot);
-      pool = h .pool;
-    }
+acted h p c = withSlots (writeSlot (h .slots) p (c .slot)) (withFigures (c .figures) h)
 
 -- The place of the ticket of a phase f becomes a.
 abbrev pub placed : Hub → Phase → PlaceSlot → Hub
-placed h f a =
-    record {
-      opening = h .opening;
-      figures = h .figures;
-      oldest = h .oldest;
-      places = byTicket (h .places) (λ t. writeSeat (h .places) t a) f;
-      slots = h .slots;
-      pool = h .pool;
-    }
+placed h f a = withPlaces (byTicket (h .places) (λ t. writeSeat (h .places) t a) f) h
 
 -- The slot of the waiter q becomes s.
 abbrev pub woken : Hub → ℕ → PartySlot → Hub
-woken h q s =
-    record {
-      opening = h .opening;
-      figures = h .figures;
-      oldest = h .oldest;
-      places = h .places;
-      slots = writeSlot (h .slots) q s;
-      pool = h .pool;
-    }
+woken h q s = withSlots (writeSlot (h .slots) q s) h
 
 -- The tidying.
 abbrev pub ringOf : Hub → Ring
 ringOf h = record { resumed = h .figures .resumed; oldest = h .oldest; places = h .places }
 
 abbrev pub withRing : Hub → Ring → Hub
-withRing h r =
-    record {
-      opening = h .opening;
-      figures = withResumed (r .resumed) (h .figures);
-      oldest = r .oldest;
-      places = r .places;
-      slots = h .slots;
-      pool = h .pool;
-    }
+withRing h r = withParts (withResumed (r .resumed) (h .figures)) (r .oldest) (r .places) (h .slots) (h .pool) h
 
 unfoldable pub tidied : Hub → Hub
 tidied h = withRing h (reclaimed (ringOf h))
@@ -112,18 +79,6 @@ apply h s (Act c) = tidied (acted h (s .party) c)
 apply h s (Put a c) = tidied (acted (placed h (s .slot .phase) a) (s .party) c)
 apply h s (Wake q x a c) =
     tidied (acted (placed (woken h q x) (s .slot .phase) a) (s .party) c)
-
--- The record with other radios.
-abbrev pub withPool : Pool → Hub → Hub
-withPool q h =
-    record {
-      opening = h .opening;
-      figures = h .figures;
-      oldest = h .oldest;
-      places = h .places;
-      slots = h .slots;
-      pool = q;
-    }
 
 -- What a call answers, and the record that it leaves.
 abbrev pub called : Hub → Call → Outcome

@@ -12,7 +12,7 @@ use Rattle.hub.specs.declared.opening.Opening.{Opening}
 use Rattle.hub.specs.declared.record.Hub.{Hub}
 use Rattle.hub.specs.declared.record.Outcome.{Outcome}
 use Rattle.hub.specs.Answers.{printed}
-use Rattle.hub.specs.Calls.{answerOf, apply, called, checked, isFull, withPool}
+use Rattle.hub.specs.Calls.{answerOf, apply, called, checked, isFull}
 use Rattle.hub.specs.Fits.{stateFits}
 use Rattle.hub.specs.Kinds.{builtIn, hasDesk, kindIn, kindsKnown}
 use Rattle.hub.specs.Look.{look}
@@ -20,6 +20,7 @@ use Rattle.hub.specs.Opening.{linkTests, opening, openingIf}
 use Rattle.hub.specs.Radios.{poolAfter}
 use Rattle.hub.specs.Schedule.{answers, run}
 use Rattle.hub.specs.Table.{decide}
+use Rattle.hub.specs.Record.{withPool}
 
 -- No schedule changes the kinds.
 unfoldable pub KindsKept : Type 0

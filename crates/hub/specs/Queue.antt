@@ -42,17 +42,16 @@ look m = seenBy (readSlot (m .slots)) (m .cells) (m .figures) (m .opening) (m .p
 unfoldable pub write : (ℕ → PlaceSlot) → ℕ → PlaceSlot → ℕ → PlaceSlot
 write g t a u = cond (eqb u t) a (g u)
 
+-- The queue with other figures, cells, slots and radios.
+abbrev pub withParts : Figures → (ℕ → PlaceSlot) → List PartySlot → Pool → Queue → Queue
+withParts f g l q m = record { opening = m .opening; figures = f; cells = g; slots = l; pool = q }
+
 -- Cancelled cells at the next ticket to resume are skipped, at most n of them.
 abbrev pub skipped : Queue → Queue
 skipped m =
     let t = m .figures .resumed in
-    record {
-      opening = m .opening;
-      figures = withResumed (t + 1) (m .figures);
-      cells = write (m .cells) t (withPlace Place.Done (m .cells t));
-      slots = m .slots;
-      pool = m .pool;
-    }
+    withParts (withResumed (t + 1) (m .figures)) (write (m .cells) t (withPlace Place.Done (m .cells t))) (m .slots)
+    (m .pool) m
 
 abbrev pub canSkip : Queue → Bool
 canSkip m = isCancelled (m .cells (m .figures .resumed) .place)
@@ -67,34 +66,13 @@ tidied m = skip (m .figures .issued) m
 
 -- The same three changes as at the hub.
 abbrev pub acted : Queue → ℕ → Change → Queue
-acted m p c =
-    record {
-      opening = m .opening;
-      figures = c .figures;
-      cells = m .cells;
-      slots = writeSlot (m .slots) p (c .slot);
-      pool = m .pool;
-    }
+acted m p c = withParts (c .figures) (m .cells) (writeSlot (m .slots) p (c .slot)) (m .pool) m
 
 abbrev pub placed : Queue → Phase → PlaceSlot → Queue
-placed m f a =
-    record {
-      opening = m .opening;
-      figures = m .figures;
-      cells = byTicket (m .cells) (λ t. write (m .cells) t a) f;
-      slots = m .slots;
-      pool = m .pool;
-    }
+placed m f a = withParts (m .figures) (byTicket (m .cells) (λ t. write (m .cells) t a) f) (m .slots) (m .pool) m
 
 abbrev pub woken : Queue → ℕ → PartySlot → Queue
-woken m q s =
-    record {
-      opening = m .opening;
-      figures = m .figures;
-      cells = m .cells;
-      slots = writeSlot (m .slots) q s;
-      pool = m .pool;
-    }
+woken m q s = withParts (m .figures) (m .cells) (writeSlot (m .slots) q s) (m .pool) m
 
 unfoldable pub apply : Queue → Sight → Move → Queue
 apply m s (Refuse r) = m
@@ -109,14 +87,7 @@ moveOf m c =
     checked true (ltb (c .party) (m .opening .parties)) (decide (c .op) false (look m (c .party)))
 
 abbrev pub withPool : Pool → Queue → Queue
-withPool q m =
-    record {
-      opening = m .opening;
-      figures = m .figures;
-      cells = m .cells;
-      slots = m .slots;
-      pool = q;
-    }
+withPool q m = withParts (m .figures) (m .cells) (m .slots) q m
 
 -- The radios move as at the hub.
 abbrev pub next : Queue → Call → Queue

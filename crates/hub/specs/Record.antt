@@ -1,11 +1,15 @@
--- "The hub's record": how a party's slot is read and written, and what a slot is made of.
+-- "The hub's record": what it and its slots are made of, and how a party's slot is read and written.
 use Prim.Native.Nat.{ℕ}
 use mathlib.Core.List.{List, map}
 use lib.ListN.{getD, set}
+use Rattle.hub.specs.declared.opening.Opening.{Opening}
+use Rattle.hub.specs.declared.record.Figures.{Figures}
+use Rattle.hub.specs.declared.record.Hub.{Hub}
+use Rattle.hub.specs.declared.record.PartySlot.{PartySlot}
 use Rattle.hub.specs.declared.record.Phase.{Phase}
 use Rattle.hub.specs.declared.record.Place.{Place}
-use Rattle.hub.specs.declared.record.PartySlot.{PartySlot}
 use Rattle.hub.specs.declared.record.PlaceSlot.{PlaceSlot}
+use Rattle.hub.specs.declared.record.Pool.{Pool}
 
 -- How many parties have a slot; how many acquires there may be.
 abbrev pub PARTIES : ℕ
@@ -41,3 +45,31 @@ phasesOf l = map (λ s. s .phase) l
 
 abbrev pub placesOf : List PlaceSlot → List Place
 placesOf l = map (λ s. s .place) l
+
+-- A record of these fields.
+abbrev pub ofFields : Opening → Figures → ℕ → List PlaceSlot → List PartySlot → Pool → Hub
+ofFields opening figures oldest places slots pool =
+    record {
+      opening = opening;
+      figures = figures;
+      oldest = oldest;
+      places = places;
+      slots = slots;
+      pool = pool;
+    }
+
+-- The record with all that a call may change; with other figures, places, slots or radios, and all else as it was.
+abbrev pub withParts : Figures → ℕ → List PlaceSlot → List PartySlot → Pool → Hub → Hub
+withParts f o a l q h = ofFields (h .opening) f o a l q
+
+abbrev pub withFigures : Figures → Hub → Hub
+withFigures f h = withParts f (h .oldest) (h .places) (h .slots) (h .pool) h
+
+abbrev pub withPlaces : List PlaceSlot → Hub → Hub
+withPlaces a h = withParts (h .figures) (h .oldest) a (h .slots) (h .pool) h
+
+abbrev pub withSlots : List PartySlot → Hub → Hub
+withSlots l h = withParts (h .figures) (h .oldest) (h .places) l (h .pool) h
+
+abbrev pub withPool : Pool → Hub → Hub
+withPool q h = withParts (h .figures) (h .oldest) (h .places) (h .slots) q h

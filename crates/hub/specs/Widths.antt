@@ -16,7 +16,7 @@ use Rattle.hub.specs.declared.record.Place.the-variants.{Empty, Waiting 
 use Rattle.hub.specs.declared.record.Place.the-variants.{Cancelled, Refused, Done}
 use Rattle.hub.specs.Calls.{called}
 use Rattle.hub.specs.Phases.{byWaiter}
-use Rattle.hub.specs.Record.{emptySeat, withPlace}
+use Rattle.hub.specs.Record.{emptySeat, withPlace, withPlaces}
 
 -- How many parties there is room for: in 32 bits, and in a byte.
 abbrev pub WORD : ℕ
@@ -39,15 +39,7 @@ writtenIn n =
 
 -- The record, each of its places so.
 abbrev pub keptIn : ℕ → Hub → Hub
-keptIn n h =
-    record {
-      opening = h .opening;
-      figures = h .figures;
-      oldest = h .oldest;
-      places = map (λ s. withPlace (writtenIn n (s .place)) s) (h .places);
-      slots = h .slots;
-      pool = h .pool;
-    }
+keptIn n h = withPlaces (map (λ s. withPlace (writtenIn n (s .place)) s) (h .places)) h
 
 -- A call on a board with such places: it reads them, and writes them.
 abbrev pub calledIn : ℕ → Hub → Call → Outcome

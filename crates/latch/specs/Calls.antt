@@ -20,7 +20,7 @@ use Rattle.latch.specs.Look.{look}
 use Rattle.latch.specs.Moves.{Change}
 use Rattle.latch.specs.Moves.{Move}
 use Rattle.latch.specs.Moves.{Refuse, Act, Put, Wake}
-use Rattle.latch.specs.Record.{phasesOf, writeSlot}
+use Rattle.latch.specs.Record.{phasesOf, withFigures, withParts, withPlaces, withSlots, writeSlot}
 use Rattle.latch.specs.Table.{decide, withResumed}
 
 -- 7: the tickets issued, i of them, and those that may yet be drawn, by parties asked, raising or unnumbered,
@@ -41,50 +41,22 @@ moveOf h c =
 
 -- The slot of party p and the figures change.
 abbrev pub acted : Latch → ℕ → Change → Latch
-acted h p c =
-    record {
-      parties = h .parties;
-      figures = c .figures;
-      oldest = h .oldest;
-      places = h .places;
-      slots = writeSlot (h .slots) p (c .slot);
-    }
+acted h p c = withSlots (writeSlot (h .slots) p (c .slot)) (withFigures (c .figures) h)
 
 -- The place of the ticket of a phase f becomes a.
 abbrev pub placed : Latch → Phase → PlaceSlot → Latch
-placed h f a =
-    record {
-      parties = h .parties;
-      figures = h .figures;
-      oldest = h .oldest;
-      places = byTicket (h .places) (λ t. writeSeat (h .places) t a) f;
-      slots = h .slots;
-    }
+placed h f a = withPlaces (byTicket (h .places) (λ t. writeSeat (h .places) t a) f) h
 
 -- The slot of the waiter q becomes s.
 abbrev pub woken : Latch → ℕ → LatchSlot → Latch
-woken h q s =
-    record {
-      parties = h .parties;
-      figures = h .figures;
-      oldest = h .oldest;
-      places = h .places;
-      slots = writeSlot (h .slots) q s;
-    }
+woken h q s = withSlots (writeSlot (h .slots) q s) h
 
 -- The tidying, as at the hub.
 abbrev pub ringOf : Latch → Ring
 ringOf h = record { resumed = h .figures .resumed; oldest = h .oldest; places = h .places }
 
 abbrev pub withRing : Latch → Ring → Latch
-withRing h r =
-    record {
-      parties = h .parties;
-      figures = withResumed (r .resumed) (h .figures);
-      oldest = r .oldest;
-      places = r .places;
-      slots = h .slots;
-    }
+withRing h r = withParts (withResumed (r .resumed) (h .figures)) (r .oldest) (r .places) (h .slots) h
 
 unfoldable pub tidied : Latch → Latch
 tidied h = withRing h (reclaimed (ringOf h))

@@ -34,16 +34,15 @@ pub record Queue : Type 0 where
 abbrev pub look : Queue → ℕ → LatchSight
 look m = seenBy (readSlot (m .slots)) (m .cells) (m .figures)
 
+-- The queue with other figures, cells and slots.
+abbrev pub withParts : LatchFigures → (ℕ → PlaceSlot) → List LatchSlot → Queue → Queue
+withParts f g l m = record { parties = m .parties; figures = f; cells = g; slots = l }
+
 -- Cancelled cells at the next ticket to resume are skipped, at most n of them.
 abbrev pub skipped : Queue → Queue
 skipped m =
     let t = m .figures .resumed in
-    record {
-      parties = m .parties;
-      figures = withResumed (t + 1) (m .figures);
-      cells = write (m .cells) t (withPlace Place.Done (m .cells t));
-      slots = m .slots;
-    }
+    withParts (withResumed (t + 1) (m .figures)) (write (m .cells) t (withPlace Place.Done (m .cells t))) (m .slots) m
 
 abbrev pub canSkip : Queue → Bool
 canSkip m = isCancelled (m .cells (m .figures .resumed) .place)
@@ -58,31 +57,13 @@ tidied m = skip (m .figures .issued) m
 
 -- The same three changes as at the latch.
 abbrev pub acted : Queue → ℕ → Change → Queue
-acted m p c =
-    record {
-      parties = m .parties;
-      figures = c .figures;
-      cells = m .cells;
-      slots = writeSlot (m .slots) p (c .slot);
-    }
+acted m p c = withParts (c .figures) (m .cells) (writeSlot (m .slots) p (c .slot)) m
 
 abbrev pub placed : Queue → Phase → PlaceSlot → Queue
-placed m f a =
-    record {
-      parties = m .parties;
-      figures = m .figures;
-      cells = byTicket (m .cells) (λ t. write (m .cells) t a) f;
-      slots = m .slots;
-    }
+placed m f a = withParts (m .figures) (byTicket (m .cells) (λ t. write (m .cells) t a) f) (m .slots) m
 
 abbrev pub woken : Queue → ℕ → LatchSlot → Queue
-woken m q s =
-    record {
-      parties = m .parties;
-      figures = m .figures;
-      cells = m .cells;
-      slots = writeSlot (m .slots) q s;
-    }
+woken m q s = withParts (m .figures) (m .cells) (writeSlot (m .slots) q s) m
 
 unfoldable pub apply : Queue → LatchSight → Move → Queue
 apply m s (Refuse r) = m

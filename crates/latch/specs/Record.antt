@@ -1,9 +1,12 @@
--- How a party's slot is read and written, and what it is made of.
+-- What the record and its slots are made of, and how a party's slot is read and written.
 use Prim.Native.Nat.{ℕ, zero, suc}
 use mathlib.Core.Bool.{Bool, true, false}
 use mathlib.Core.List.{List, map}
 use lib.ListN.{getD, set}
 use Rattle.hub.specs.declared.record.Phase.{Phase}
+use Rattle.hub.specs.declared.record.PlaceSlot.{PlaceSlot}
+use Rattle.latch.specs.declared.record.Latch.{Latch}
+use Rattle.latch.specs.declared.record.LatchFigures.{LatchFigures}
 use Rattle.latch.specs.declared.record.LatchSlot.{LatchSlot}
 
 -- A slot whose party neither raises nor has a hand-over left; raising, with a mark or without; with h hand-overs left.
@@ -39,3 +42,27 @@ writeSlot l p s = set l p s
 -- Everybody's phase, in the order of the parties.
 abbrev pub phasesOf : List LatchSlot → List Phase
 phasesOf l = map (λ s. s .phase) l
+
+-- A record of these fields.
+abbrev pub ofFields : ℕ → LatchFigures → ℕ → List PlaceSlot → List LatchSlot → Latch
+ofFields parties figures oldest places slots =
+    record {
+      parties = parties;
+      figures = figures;
+      oldest = oldest;
+      places = places;
+      slots = slots;
+    }
+
+-- The record with all that a call may change; with other figures, places or slots, and all else as it was.
+abbrev pub withParts : LatchFigures → ℕ → List PlaceSlot → List LatchSlot → Latch → Latch
+withParts f o a l h = ofFields (h .parties) f o a l
+
+abbrev pub withFigures : LatchFigures → Latch → Latch
+withFigures f h = withParts f (h .oldest) (h .places) (h .slots) h
+
+abbrev pub withPlaces : List PlaceSlot → Latch → Latch
+withPlaces a h = withParts (h .figures) (h .oldest) a (h .slots) h
+
+abbrev pub withSlots : List LatchSlot → Latch → Latch
+withSlots l h = withParts (h .figures) (h .oldest) (h .places) l h

@@ -20,18 +20,18 @@ use Rattle.hub.specs.declared.record.Place.{Place}
 use Rattle.hub.specs.declared.record.PlaceSlot.{PlaceSlot}
 use Rattle.hub.specs.declared.record.Pool.{Pool}
 use Rattle.hub.specs.Answers.{Printed, printed}
-use Rattle.hub.specs.Calls.{answerOf, apply, called, checked, isFull, moveOf, ringOf, tidied, withPool, withRing}
+use Rattle.hub.specs.Calls.{answerOf, apply, called, checked, isFull, moveOf, ringOf, tidied, withRing}
 use Rattle.hub.specs.Calm.{rests, stepBy}
 use Rattle.hub.specs.Fits.{fits}
 use Rattle.hub.specs.Look.{look, seenBy}
 use Rattle.hub.specs.Moves.{Change, Move, Act, Put}
 use Rattle.hub.specs.Phases.{atRest, byTicket}
 use Rattle.hub.specs.Radios.{moved, poolAfter}
-use Rattle.hub.specs.Record.{emptySeat, freeSlot, readSlot, withPhase, withPlace, writeSlot}
+use Rattle.hub.specs.Record.{emptySeat, freeSlot, readSlot, withFigures, withPhase, withPlace, withPlaces, withPool, withSlots, writeSlot}
 use Rattle.hub.specs.Ring.{Ring, readSeat, writeSeat}
 use Rattle.hub.specs.Schedule.{run}
 use Rattle.hub.specs.Table.{decide, stepIn}
-use Rattle.operations.specs.AtRest.{figuresTo, phaseTo, placeTo}
+use Rattle.operations.specs.AtRest.{phaseTo, placeTo}
 use Rattle.operations.proofs.Ring.{Tidy, tidy-same}
 
 -- Slots read after one was written.
@@ -127,29 +127,6 @@ pub tidied-same : (h : Hub) → Tidy (ringOf h) → tidied h ≡ h
 unfolding tidied
 tidied-same h e = λ i. withRing h (tidy-same (ringOf h) e i)
 
--- The record with other slots, with other places.
-abbrev withSlots : List PartySlot → Hub → Hub
-withSlots l h =
-    record {
-      opening = h .opening;
-      figures = h .figures;
-      oldest = h .oldest;
-      places = h .places;
-      slots = l;
-      pool = h .pool;
-    }
-
-abbrev withPlaces : List PlaceSlot → Hub → Hub
-withPlaces l h =
-    record {
-      opening = h .opening;
-      figures = h .figures;
-      oldest = h .oldest;
-      places = l;
-      slots = h .slots;
-      pool = h .pool;
-    }
-
 -- A party's slot s in phase x, the figures and the answer.
 abbrev pub to : PartySlot → Phase → Figures → Answer → Change
 to s x f y = record { slot = withPhase x s; figures = f; answer = y }
@@ -158,7 +135,7 @@ module _ (h : Hub) (p : ℕ) (inside : p < length (h .slots)) (present : ltb p (
   where
     -- The record, with figures f and party p in phase x.
     abbrev pub now : Figures → Phase → Hub
-    now f x = phaseTo p x (figuresTo f h)
+    now f x = phaseTo p x (withFigures f h)
 
     -- The radios after an answer.
     abbrev pub radios : Answer → Pool
@@ -208,7 +185,7 @@ module _ (h : Hub) (p : ℕ) (inside : p < length (h .slots)) (present : ltb p (
           called-by (now f x) (stepBy p) _ (step-by (now f x) p x fit present (phase-now f x) ∙ e)
           ∙ ap
           (λ (l : List PartySlot).
-          record { answer = y; hub = withPool (radios y) (tidied (withSlots l (figuresTo f′ h))) })
+          record { answer = y; hub = withPool (radios y) (tidied (withSlots l (withFigures f′ h))) })
           (again f x x′)
 
       -- One that changes the place of its ticket t, too.
@@ -229,7 +206,7 @@ module _ (h : Hub) (p : ℕ) (inside : p < length (h .slots)) (present : ltb p (
                 ∙ b (List PlaceSlot) (h .places) (put x)
                 ∙ ap (λ (s : PlaceSlot). writeSeat (h .places) t (withPlace a s)) (b PlaceSlot emptySeat (readSeat (h .places)))) i)
                 (withSlots (again f x x′ i)
-                (figuresTo f h))));
+                (withFigures f h))));
           })
         where
           -- the place of a ticket u, by what party p sees in phase g

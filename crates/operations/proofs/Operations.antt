@@ -16,12 +16,12 @@ use Rattle.hub.specs.declared.record.Phase.{Phase}
 use Rattle.hub.specs.declared.record.Pool.{Pool}
 use Rattle.hub.specs.Answers.{printed}
 use Rattle.hub.specs.Basics.{count}
-use Rattle.hub.specs.Calls.{answerOf, apply, called, checked, isFull, moveOf, withPool}
+use Rattle.hub.specs.Calls.{answerOf, apply, called, checked, isFull, moveOf}
 use Rattle.hub.specs.Calm.{rests}
 use Rattle.hub.specs.Look.{look, seenBy}
 use Rattle.hub.specs.Moves.{Act, Move, Refuse}
 use Rattle.hub.specs.Phases.{drawsTicket, isHolding, isOneOf, ticketOf}
-use Rattle.hub.specs.Record.{phasesOf, readSlot}
+use Rattle.hub.specs.Record.{phasesOf, readSlot, withPool}
 use Rattle.hub.specs.Ring.{PLACES}
 use Rattle.hub.specs.Table.{aboveZero, acquire, belowZero, canCancel, cancel, decide, givenUp, release}
 use Rattle.hub.proofs.Invariant.Schedules.{refusal-code}

@@ -21,14 +21,14 @@ use Rattle.hub.specs.declared.record.PartySlot.{PartySlot}
 use Rattle.hub.specs.declared.record.PlaceSlot.{PlaceSlot}
 use Rattle.hub.specs.declared.record.Pool.{Pool}
 use Rattle.hub.specs.Answers.{printed}
-use Rattle.hub.specs.Calls.{apply, called, moveOf, ringOf, tidied, withPool, withRing}
+use Rattle.hub.specs.Calls.{apply, called, moveOf, ringOf, tidied, withRing}
 use Rattle.hub.specs.Calm.{rests, stepBy}
 use Rattle.hub.specs.Ledger.{atCounter}
 use Rattle.hub.specs.Look.{look, seenBy}
 use Rattle.hub.specs.Moves.{Act, Move, Wake}
 use Rattle.hub.specs.Phases.{atRest, byTicket, byWaiter, isCancelled, isDone, isOneOf, isPlaceOf, isWaiting, ticketOf}
 use Rattle.hub.specs.Radios.{handOf, handTo, moved, poolAfter}
-use Rattle.hub.specs.Record.{emptySeat, freeSlot, readSlot, withPhase, withPlace, writeSlot}
+use Rattle.hub.specs.Record.{emptySeat, freeSlot, readSlot, withFigures, withParts, withPhase, withPlace, withPool, writeSlot}
 use Rattle.hub.specs.Ring.{PLACES, Ring, readPlace, readSeat, writeSeat}
 use Rattle.hub.specs.Table.{aboveZero, belowZero, stepAborting, stepAcquiring, stepCancelling, stepFetching}
 use Rattle.hub.specs.Table.{resumeWaiter, stepIn, stepReleasing, stepResuming, stepResumingAt, stepStoring}
@@ -36,7 +36,7 @@ use Rattle.hub.specs.Table.{stepSuspending, stepTicketed, withBegun, withCounte
 use Rattle.hub.specs.Table.{withResumed, withoutPermit}
 use Rattle.hub.proofs.Laws.Seats.{written-size}
 use Rattle.operations.specs.declared.Operated.{Operated}
-use Rattle.operations.specs.AtRest.{acquired, came, cancelled, figuresTo, oneStep, phaseTo, placeTo}
+use Rattle.operations.specs.AtRest.{acquired, came, cancelled, oneStep, phaseTo, placeTo}
 use Rattle.operations.specs.AtRest.{radiosBy, released}
 use Rattle.operations.specs.Operation.{operated}
 use Rattle.operations.proofs.Calls.{Fit, acts, begins, called-by, fits-now, now, onward, puts, quiet, radios}
@@ -453,24 +453,16 @@ module _ (h : Hub) (a : AtRest h) (p : ℕ) (present : ltb p (h .opening .partie
       served =
           withPool (radios h p inside present (Answer.Woke q turn))
           (tidied
-          (placeTo turn Place.Done (phaseTo p Phase.Free (phaseTo q Phase.Holding (figuresTo taken h)))))
+          (placeTo turn Place.Done (phaseTo p Phase.Free (phaseTo q Phase.Holding (withFigures taken h)))))
 
       -- the record before the last tidying, with these places and slots
       abbrev leaving : List PlaceSlot → List PartySlot → Hub
-      leaving l s =
-          record {
-            opening = h .opening;
-            figures = handing .figures;
-            oldest = handing .oldest;
-            places = l;
-            slots = s;
-            pool = h .pool;
-          }
+      leaving l s = withParts (handing .figures) (handing .oldest) l s (h .pool) h
 
       -- the waiter holds, and the party is free
       slots-left : writeSlot (writeSlot (handing .slots) q (withPhase Phase.Holding (look handing p .waiter))) p
           (withPhase Phase.Free (look handing p .slot))
-          ≡ phaseTo p Phase.Free (phaseTo q Phase.Holding (figuresTo taken h)) .slots
+          ≡ phaseTo p Phase.Free (phaseTo q Phase.Holding (withFigures taken h)) .slots
       unfolding seenBy tidied
       slots-left =
           written-around (h .slots) p _ q _ _ other
@@ -511,7 +503,7 @@ module _ (h : Hub) (a : AtRest h) (p : ℕ) (present : ltb p (h .opening .partie
           (λ (r : Ring).
           woke
           (withRing
-          (placeTo turn Place.Done (phaseTo p Phase.Free (phaseTo q Phase.Holding (figuresTo taken h))))
+          (placeTo turn Place.Done (phaseTo p Phase.Free (phaseTo q Phase.Holding (withFigures taken h))))
           r))
           (done-between turn ring ring-drawn (a .oldest) undone)
 
@@ -552,4 +544,4 @@ module _ (h : Hub) (a : AtRest h) (p : ℕ) (present : ltb p (h .opening .partie
               (tidied
               (radiosBy (λ r. handTo z (handOf r p) r)
               (placeTo turn Place.Done
-              (phaseTo p Phase.Free (phaseTo z Phase.Holding (figuresTo taken h))))))
+              (phaseTo p Phase.Free (phaseTo z Phase.Holding (withFigures taken h))))))

@@ -19,58 +19,23 @@ use Rattle.hub.specs.Moves.{Move, Refuse, Tell, Act, Put, Wake}
 use Rattle.hub.specs.Opening.{opening}
 use Rattle.hub.specs.Phases.{byWaiter, ticketOf}
 use Rattle.hub.specs.Radios.{fetch, handOf, handTo, putBack}
-use Rattle.hub.specs.Record.{readSlot, withPhase, withPlace, writeSlot}
+use Rattle.hub.specs.Record.{readSlot, withFigures, withPhase, withPlace, withPlaces, withPool, withSlots, writeSlot}
 use Rattle.hub.specs.Ring.{readPlace, readSeat, writeSeat}
 use Rattle.hub.specs.Schedule.{run}
-use Rattle.hub.specs.Table.{aboveZero, belowZero}
+use Rattle.hub.specs.Table.{aboveZero, belowZero, withBegun, withCounter, withIssued, withResumed}
 use Rattle.operations.specs.Operation.{operated, turnsDown}
 use Rattle.operations.specs.declared.Operated.{Operated}
 
 -- Party p is in phase x; the place of ticket t is in state a; and all else as it was.
 abbrev pub phaseTo : ℕ → Phase → Hub → Hub
-phaseTo p x h =
-    record {
-      opening = h .opening;
-      figures = h .figures;
-      oldest = h .oldest;
-      places = h .places;
-      slots = writeSlot (h .slots) p (withPhase x (readSlot (h .slots) p));
-      pool = h .pool;
-    }
+phaseTo p x h = withSlots (writeSlot (h .slots) p (withPhase x (readSlot (h .slots) p))) h
 
 abbrev pub placeTo : ℕ → Place → Hub → Hub
-placeTo t a h =
-    record {
-      opening = h .opening;
-      figures = h .figures;
-      oldest = h .oldest;
-      places = writeSeat (h .places) t (withPlace a (readSeat (h .places) t));
-      slots = h .slots;
-      pool = h .pool;
-    }
-
-abbrev pub figuresTo : Figures → Hub → Hub
-figuresTo f h =
-    record {
-      opening = h .opening;
-      figures = f;
-      oldest = h .oldest;
-      places = h .places;
-      slots = h .slots;
-      pool = h .pool;
-    }
+placeTo t a h = withPlaces (writeSeat (h .places) t (withPlace a (readSeat (h .places) t))) h
 
 -- The radios move on a hub that has some.
 abbrev pub radiosBy : (Pool → Pool) → Hub → Hub
-radiosBy m h =
-    record {
-      opening = h .opening;
-      figures = h .figures;
-      oldest = h .oldest;
-      places = h .places;
-      slots = h .slots;
-      pool = cond (h .opening .named) (m (h .pool)) (h .pool);
-    }
+radiosBy m h = withPool (cond (h .opening .named) (m (h .pool)) (h .pool)) h
 
 -- One step, and one more for the radio of a hub that has some.
 abbrev pub oneStep : Hub → ℕ
@@ -86,16 +51,14 @@ acquired true h p =
     came 0xFF (oneStep h)
     (radiosBy (fetch p)
     (phaseTo p Phase.Holding
-    (figuresTo
-    (record { counter = predℤ (f .counter); issued = f .issued; resumed = f .resumed; begun = f .begun + 1 }) h)))
+    (withFigures (withCounter (predℤ (f .counter)) (withBegun (f .begun + 1) f)) h)))
 acquired false h p =
     let f = h .figures in
     let t = f .issued in
     came 0xFF 3
     (placeTo t (Place.Waiting p)
     (phaseTo p (Phase.Waiting t)
-    (figuresTo
-    (record { counter = predℤ (f .counter); issued = t + 1; resumed = f .resumed; begun = f .begun + 1 }) h)))
+    (withFigures (withCounter (predℤ (f .counter)) (withIssued (t + 1) (withBegun (f .begun + 1) f))) h)))
 
 -- Give up: 2E, 30.
 unfoldable pub cancelled : Hub → ℕ → Operated
@@ -105,8 +68,7 @@ cancelled h p =
     (tidied
     (placeTo (ticketOf (readSlot (h .slots) p .phase)) Place.Cancelled
     (phaseTo p Phase.Free
-    (figuresTo
-    (record { counter = sucℤ (f .counter); issued = f .issued; resumed = f .resumed; begun = f .begun }) h))))
+    (withFigures (withCounter (sucℤ (f .counter)) f) h))))
 
 -- Give back: does somebody wait? 27, 28, 2A, and the next in line holds; else 26, and 38.
 unfoldable pub released : Bool → Hub → ℕ → Operated
@@ -115,8 +77,7 @@ released false h p =
     came 0xFF (oneStep h)
     (radiosBy (λ q. putBack (handOf q p) q)
     (phaseTo p Phase.Free
-    (figuresTo
-    (record { counter = sucℤ (f .counter); issued = f .issued; resumed = f .resumed; begun = f .begun }) h)))
+    (withFigures (withCounter (sucℤ (f .counter)) f) h)))
 released true h p =
     let f = h .figures in
     let t = f .resumed in
@@ -127,8 +88,7 @@ released true h p =
     (placeTo t Place.Done
     (phaseTo p Phase.Free
     (phaseTo q Phase.Holding
-    (figuresTo
-    (record { counter = sucℤ (f .counter); issued = f .issued; resumed = t + 1; begun = f .begun }) h))))))
+    (withFigures (withCounter (sucℤ (f .counter)) (withResumed (t + 1) f)) h))))))
 
 -- An operation that is not refused. A step and call 14 are none, and nothing is claimed of them.
 abbrev pub acceptedAt : Op → Hub → ℕ → Operated

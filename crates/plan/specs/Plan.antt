@@ -11,7 +11,7 @@ use Rattle.hub.specs.declared.record.Place.{Place}
 use Rattle.hub.specs.Phases.{byWaiter, isFree, isHolding, isWaiting, ticketOf}
 use Rattle.hub.specs.Record.{MAX-BEGUN, withPhase, withPlace}
 use Rattle.hub.specs.Ring.{PLACES}
-use Rattle.hub.specs.Table.{aboveZero, belowZero}
+use Rattle.hub.specs.Table.{aboveZero, belowZero, withBegun, withCounter, withIssued, withResumed}
 use Rattle.plan.specs.declared.Plan.{Plan}
 use Rattle.plan.specs.declared.Seen.{Seen}
 
@@ -28,12 +28,10 @@ ticketFor c x f = byCode (f .issued) (ticketOf x) (f .resumed) c
 
 -- The figures after an ask, with the next ticket t; after a give-up or a give-back, with the next to resume t.
 abbrev pub asked : ℕ → Figures → Figures
-asked t f =
-    record { counter = predℤ (f .counter); issued = t; resumed = f .resumed; begun = f .begun + 1 }
+asked t f = withCounter (predℤ (f .counter)) (withIssued t (withBegun (f .begun + 1) f))
 
 abbrev pub given : ℕ → Figures → Figures
-given t f =
-    record { counter = sucℤ (f .counter); issued = f .issued; resumed = t; begun = f .begun }
+given t f = withCounter (sucℤ (f .counter)) (withResumed t f)
 
 abbrev pub refusedBy : ℕ → Seen → Plan
 refusedBy c s =

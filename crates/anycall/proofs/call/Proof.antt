@@ -17,12 +17,12 @@ use Rattle.hub.specs.declared.record.PartySlot.{PartySlot}
 use Rattle.hub.specs.declared.record.PlaceSlot.{PlaceSlot}
 use Rattle.hub.specs.declared.record.Pool.{Pool}
 use Rattle.hub.specs.Answers.{printed}
-use Rattle.hub.specs.Calls.{called, isFull, ringOf, withPool, withRing}
+use Rattle.hub.specs.Calls.{called, isFull, ringOf, withRing}
 use Rattle.hub.specs.Fits.{fits}
 use Rattle.hub.specs.Kinds.{kindIn}
 use Rattle.hub.specs.Phases.{ticketOf}
 use Rattle.hub.specs.Radios.{handOf, moved}
-use Rattle.hub.specs.Record.{emptySeat, readSlot, writeSlot}
+use Rattle.hub.specs.Record.{emptySeat, readSlot, withPool, writeSlot}
 use Rattle.hub.specs.Ring.{PLACES, readSeat}
 use Rattle.hub.specs.Table.{decide}
 use Rattle.hub.proofs.Laws.Printed.{with-printed}

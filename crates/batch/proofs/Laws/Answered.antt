@@ -9,13 +9,14 @@ use Rattle.hub.specs.declared.moves.Op.{Op}
 use Rattle.hub.specs.declared.moves.Sight.{Sight}
 use Rattle.hub.specs.declared.record.Hub.{Hub}
 use Rattle.hub.specs.Answers.{plain, printed}
-use Rattle.hub.specs.Calls.{answerOf, apply, isFull, withPool}
+use Rattle.hub.specs.Calls.{answerOf, apply, isFull}
 use Rattle.hub.specs.Fits.{fits}
 use Rattle.hub.specs.Look.{look}
 use Rattle.hub.specs.Moves.{Move}
 use Rattle.hub.specs.Opening.{nobody}
 use Rattle.hub.specs.Radios.{STORE}
 use Rattle.hub.specs.Table.{decide}
+use Rattle.hub.specs.Record.{withPool}
 use Rattle.encoding.specs.Frame.{isCall, opOf}
 use Rattle.effects.specs.declared.effect.Effect.{Effect}
 use Rattle.effects.specs.Effect.{effectOf}

@@ -17,13 +17,13 @@ use Rattle.hub.specs.declared.record.Hub.{Hub}
 use Rattle.hub.specs.declared.record.PartySlot.{PartySlot}
 use Rattle.hub.specs.declared.record.PlaceSlot.{PlaceSlot}
 use Rattle.hub.specs.Answers.{printed}
-use Rattle.hub.specs.Calls.{answerOf, apply, isFull, ringOf, withPool, withRing}
+use Rattle.hub.specs.Calls.{answerOf, apply, isFull, ringOf, withRing}
 use Rattle.hub.specs.Kinds.{kindIn}
 use Rattle.hub.specs.Look.{look}
 use Rattle.hub.specs.Moves.{Move}
 use Rattle.hub.specs.Phases.{ticketOf}
 use Rattle.hub.specs.Radios.{handOf}
-use Rattle.hub.specs.Record.{PARTIES, emptySeat, freeSlot, readSlot, writeSlot}
+use Rattle.hub.specs.Record.{PARTIES, emptySeat, freeSlot, ofFields, readSlot, withPool, writeSlot}
 use Rattle.hub.specs.Ring.{PLACES, readSeat}
 use Rattle.hub.specs.Table.{decide}
 use Rattle.encoding.specs.Frame.{opOf, frameOf}
@@ -253,14 +253,10 @@ turns-most c =
 abbrev untidied : At tie.After-is-untidy → Hub
 untidied s =
     let h = head (within s) in
-    record {
-      opening = hub h .opening;
-      figures = effect s .figures;
-      oldest = h .loop .ring .oldest;
-      places = set (h .loop .ring .places) (ticketAt (seen (effected s))) (effect s .seat);
-      slots = writeSlot (woken (placed s) .if2 .slots) (party (asked (within s))) (effect s .slot);
-      pool = moving s .if3 .pool;
-    }
+    ofFields (hub h .opening) (effect s .figures) (h .loop .ring .oldest)
+    (set (h .loop .ring .places) (ticketAt (seen (effected s))) (effect s .seat))
+    (writeSlot (woken (placed s) .if2 .slots) (party (asked (within s))) (effect s .slot))
+    (moving s .if3 .pool)
 
 woken-slots : (s : At tie.After-is-untidy)
     → woken (placed s) .if2 .slots

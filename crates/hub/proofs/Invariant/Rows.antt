@@ -25,7 +25,7 @@ use Rattle.hub.specs.Basics.{weight}
 use Rattle.hub.specs.Demand3.{AllBelow}
 use Rattle.hub.specs.Ledger.{phaseIn, phaseAfter, phasesAfter, counterAfter, servedAfter}
 use Rattle.hub.specs.Ledger.{gives, takes, leaves, clears, marksRefused, meetsRefused}
-use Rattle.hub.specs.Queue.{Queue, phases, places, write, acted, placed, woken}
+use Rattle.hub.specs.Queue.{Queue, phases, places, write, acted, placed, withParts, woken}
 use Rattle.hub.specs.Record.{writeSlot}
 use Rattle.hub.proofs.Laws.Bools.{if-true, if-false}
 use Rattle.hub.proofs.Laws.Lists.{weight-set}
@@ -111,14 +111,7 @@ pub record Says (o : Op) (f x : Phase) (b a : Place) (r : Answer) (e h : Figures
 
 -- A queue with one slot, the cells and the figures set.
 abbrev pub set-in : Queue → ℕ → PartySlot → (ℕ → PlaceSlot) → Figures → Queue
-set-in m p s g h =
-    record {
-      opening = m .opening;
-      figures = h;
-      cells = g;
-      slots = writeSlot (m .slots) p s;
-      pool = m .pool;
-    }
+set-in m p s g h = withParts h g (writeSlot (m .slots) p s) (m .pool) m
 
 module _ (m : Queue) (p : ℕ) (f : Phase) (s : PartySlot) (t : ℕ) (i : p < length (phases m))
     (e : phaseIn (phases m) p ≡ f) where

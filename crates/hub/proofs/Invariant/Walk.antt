@@ -30,7 +30,7 @@ use Rattle.hub.specs.Ledger.{phaseIn, phaseAfter, phasesAfter, counterAf
 use Rattle.hub.specs.Look.{seenBy}
 use Rattle.hub.specs.Phases.{byTicket, byWaiter, isOneOf, isPlaceOf, isFree, isHolding}
 use Rattle.hub.specs.Phases.{isWaiting, ticketOf}
-use Rattle.hub.specs.Queue.{Queue, look, phases, places, write}
+use Rattle.hub.specs.Queue.{Queue, look, phases, places, withParts, write}
 use Rattle.hub.specs.Record.{MAX-BEGUN, emptySeat, freeSlot, readSlot, withPhase, withPlace, writeSlot}
 use Rattle.hub.specs.Table.{aboveZero, belowZero, acquire, canCancel, cancel, givenUp, release, decide}
 use Rattle.hub.specs.Table.{step, stepIn}
@@ -497,9 +497,7 @@ module _ (k : ℕ) (m : Queue) (p : ℕ) (l : p < m .opening .parties) (inv : In
 
       -- the three at once
       abbrev together : (ℕ → PlaceSlot) → List PartySlot → Queue
-      together c ss =
-          record
-          { opening = m .opening; figures = m .figures; cells = c; slots = ss; pool = m .pool }
+      together c ss = withParts (m .figures) c ss (m .pool) m
 
       abbrev three : Queue
       three =

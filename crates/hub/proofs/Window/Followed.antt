@@ -23,7 +23,7 @@ use Rattle.hub.specs.declared.record.Phase.{Phase}
 use Rattle.hub.specs.declared.record.Pool.{Pool}
 use Rattle.hub.specs.Answers.{Printed, printed}
 use Rattle.hub.specs.Basics.{count}
-use Rattle.hub.specs.Calls.{isFull, checked, moveOf, answerOf, apply, tidied, withPool, called}
+use Rattle.hub.specs.Calls.{isFull, checked, moveOf, answerOf, apply, tidied, called}
 use Rattle.hub.specs.Fits.{fits, kindsFit}
 use Rattle.hub.specs.Ledger.{phaseIn}
 use Rattle.hub.specs.Look.{look, seenBy}
@@ -32,7 +32,7 @@ use Rattle.hub.specs.Phases.{drawsTicket}
 use Rattle.hub.specs.Queue.{Queue, phases}
 use Rattle.hub.specs.Queue as queue
 use Rattle.hub.specs.Radios.{moved, poolAfter}
-use Rattle.hub.specs.Record.{phasesOf, readSlot, writeSlot}
+use Rattle.hub.specs.Record.{phasesOf, readSlot, withPool, writeSlot}
 use Rattle.hub.specs.Refinement.{Shows, isSeven}
 use Rattle.hub.specs.Ring.{PLACES}
 use Rattle.hub.specs.Table.{decide, acquire}

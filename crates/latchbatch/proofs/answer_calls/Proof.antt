@@ -26,7 +26,7 @@ use Rattle.latch.specs.declared.record.LatchSlot.{LatchSlot}
 use Rattle.latch.specs.Calls.{answerOf, apply, called, isFull, ringOf, withRing}
 use Rattle.latch.specs.Look.{look}
 use Rattle.latch.specs.Moves.{Move}
-use Rattle.latch.specs.Record.{readSlot, writeSlot}
+use Rattle.latch.specs.Record.{ofFields, readSlot, writeSlot}
 use Rattle.latch.specs.Table.{decide}
 use Rattle.latcheffect.specs.declared.effect.LatchEffect.{LatchEffect}
 use Rattle.latcheffect.specs.Effect.{effectBy}
@@ -42,20 +42,9 @@ use Rattle.latchbatch.proofs.Laws.Upto.{Upto, start, whole-call, whole-
 use Rattle.latchbatch.proofs.answer_calls.Statement.{statement}
 use Rattle.latchbatch.proofs.answer_calls.Tie as tie
 
--- The record that the locals make.
-abbrev latchOf : ℕ → LatchFigures → ℕ → List PlaceSlot → List LatchSlot → Latch
-latchOf parties figures oldest places slots =
-    record {
-      parties = parties;
-      figures = figures;
-      oldest = oldest;
-      places = places;
-      slots = slots;
-    }
-
 abbrev Inv-loop : tie.InvT-loop
 Inv-loop calls count out₀ parties f₀ o₀ places₀ slots₀ _ _ out f o places slots i =
-    Upto (latchOf parties f₀ o₀ places₀ slots₀) count calls out₀ (latchOf parties f o places slots) out i
+    Upto (ofFields parties f₀ o₀ places₀ slots₀) count calls out₀ (ofFields parties f o places slots) out i
     × (length slots ≡ 32)
 
 abbrev μ-loop : tie.MeasureT-loop
@@ -109,13 +98,13 @@ effected c = decided (woken (placed c))
 -- The record at the head of a turn, and the call.
 abbrev latch : At tie.At-loop → Latch
 latch c =
-    latchOf (begun c .args .latch .parties) (c .loop .figures) (c .loop .oldest) (c .loop .places)
+    ofFields (begun c .args .latch .parties) (c .loop .figures) (c .loop .oldest) (c .loop .places)
     (c .loop .slots)
 
 abbrev latch₀ : At tie.At-loop → Latch
 latch₀ c =
     let l = begun c .args .latch in
-    latchOf (l .parties) (l .figures) (l .oldest) (l .places) (l .slots)
+    ofFields (l .parties) (l .figures) (l .oldest) (l .places) (l .slots)
 
 abbrev bytes : At tie.At-loop → List ℕ
 bytes c = begun c .args .calls .now
@@ -233,7 +222,7 @@ untidied s =
     let e = entering (effected s) in
     let h = head e in
     let f = placed s .before .before in
-    latchOf (latch h .parties) (f .figures-after .result) (h .loop .oldest)
+    ofFields (latch h .parties) (f .figures-after .result) (h .loop .oldest)
     (set (h .loop .places) (ticketAt (seen (effected s))) (placed s .by-ticket2 .result))
     (writeSlot (woken (placed s) .if2 .slots) (party (e .before)) (f .before .slot-after .result))
 

@@ -29,7 +29,7 @@ use Rattle.latched.specs.Claims.{letsGo}
 use Rattle.latch.specs.Ledger.{isDown, slotAfter, slotIn, slotsAfter, waitersAfter}
 use Rattle.latch.specs.Moves.{Move}
 use Rattle.latch.specs.Moves.{Refuse, Act, Put, Wake}
-use Rattle.latch.specs.Queue.{Queue, phases, places, acted, placed, woken}
+use Rattle.latch.specs.Queue.{Queue, phases, places, acted, placed, withParts, woken}
 use Rattle.latch.specs.Record.{freeSlot, phasesOf, writeSlot}
 use Rattle.latch.proofs.Laws.Slots.{write-phase}
 use Rattle.latched.proofs.Invariant.Weights.{cellSum, slotSum, sum}
@@ -96,8 +96,7 @@ pub record Says (o : LatchOp) (r : Answer) (e h : LatchFigures) : Type 0 where
 
 -- A queue with one slot, the cells and the figures set.
 abbrev pub set-in : Queue → ℕ → LatchSlot → (ℕ → PlaceSlot) → LatchFigures → Queue
-set-in m p s g h =
-    record { parties = m .parties; figures = h; cells = g; slots = writeSlot (m .slots) p s }
+set-in m p s g h = withParts h g (writeSlot (m .slots) p s) m
 
 module _ (m : Queue) (p : ℕ) (f s : LatchSlot) (t : ℕ) (i : p < length (phases m))
     (e : slotIn (m .slots) p ≡ f) where

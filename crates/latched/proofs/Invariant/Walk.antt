@@ -45,7 +45,7 @@ use Rattle.latch.specs.declared.record.LatchSlot.{LatchSlot}
 use Rattle.latch.specs.Ledger.{slotAfter, slotIn, slotsAfter, waitersAfter}
 use Rattle.latch.specs.Look.{seenBy}
 use Rattle.latch.specs.Moves.{Move}
-use Rattle.latch.specs.Queue.{Queue, look, phases, places}
+use Rattle.latch.specs.Queue.{Queue, look, phases, places, withParts}
 use Rattle.latch.specs.Record.{carryOn, freeSlot, inPhase, readSlot, withLeft, withPhase, writeSlot}
 use Rattle.latch.specs.Table.{await, bringsToZero, cancel, countDown, decide, done, put, wake, step, stepIn}
 use Rattle.latch.specs.Table.{stepAcquiring, stepSuspending, stepTicketed, stepReleasing}
@@ -639,8 +639,7 @@ module _ (m : Queue) (p : ℕ) (l : p < m .parties) (inv : Inv m) where
 
       -- the three at once
       abbrev together : (ℕ → PlaceSlot) → List LatchSlot → Queue
-      together c ss =
-          record { parties = m .parties; figures = m .figures; cells = c; slots = ss }
+      together c ss = withParts (m .figures) c ss m
 
       abbrev three : Queue
       three =

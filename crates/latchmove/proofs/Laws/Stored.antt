@@ -20,7 +20,7 @@ use Rattle.latch.specs.declared.record.LatchSlot.{LatchSlot}
 use Rattle.latch.specs.Calls.{answerOf, apply, ringOf, tidied, withRing}
 use Rattle.latch.specs.Look.{look, seenBy}
 use Rattle.latch.specs.Moves.{Move, Refuse, Act, Put, Wake}
-use Rattle.latch.specs.Record.{freeSlot, readSlot, writeSlot}
+use Rattle.latch.specs.Record.{freeSlot, readSlot, withParts, writeSlot}
 use Rattle.latch.specs.Table.{decide}
 use Rattle.latcheffect.specs.declared.effect.LatchEffect.{LatchEffect}
 use Rattle.latcheffect.specs.Effect.{effectBy, effectOf}
@@ -100,14 +100,7 @@ told (Wake q x a c) s = refl
 
 -- The record after the stores.
 abbrev pub made : Latch → LatchFigures → List PlaceSlot → List LatchSlot → Latch
-made h f a l =
-    record {
-      parties = h .parties;
-      figures = f;
-      oldest = h .oldest;
-      places = a;
-      slots = l;
-    }
+made h f a l = withParts f (h .oldest) a l h
 
 abbrev pub stored : Latch → ℕ → LatchEffect → Latch
 stored h p e =

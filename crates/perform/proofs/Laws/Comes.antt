@@ -22,7 +22,7 @@ use Rattle.hub.specs.Kinds.{kindIn}
 use Rattle.hub.specs.Look.{look, seenBy}
 use Rattle.hub.specs.Phases.{atRest, byWaiter, isOneOf, isWaiting}
 use Rattle.hub.specs.Radios.{fetch, handOf, handTo, moved, poolAfter, putBack}
-use Rattle.hub.specs.Record.{PARTIES, readSlot, withPhase, writeSlot}
+use Rattle.hub.specs.Record.{PARTIES, readSlot, withParts, withPhase, writeSlot}
 use Rattle.hub.specs.Ring.{readPlace, readSeat, writeSeat}
 use Rattle.hub.specs.Table.{aboveZero, acquire, belowZero, canCancel, cancel, decide, givenUp, release}
 use Rattle.hub.proofs.Laws.Phases.{phases-alike}
@@ -109,15 +109,7 @@ module _ (h : Hub) (p : ℕ) where
   planAt c = planOf c full (seenOf c)
 
   abbrev made : Figures → List PlaceSlot → List PartySlot → Pool → Hub
-  made f a l q =
-      record {
-        opening = h .opening;
-        figures = f;
-        oldest = h .oldest;
-        places = a;
-        slots = l;
-        pool = q;
-      }
+  made f a l q = withParts f (h .oldest) a l q h
 
   -- The slots, the places and the radios, once a plan of code c is stored.
   abbrev pub slotsBy : Plan → List PartySlot

@@ -22,7 +22,7 @@ use Rattle.hub.specs.declared.record.Pool.{Pool}
 use Rattle.hub.specs.Calls.{ringOf, withRing}
 use Rattle.hub.specs.Fits.{fits}
 use Rattle.hub.specs.Kinds.{kindIn}
-use Rattle.hub.specs.Record.{emptySeat, readSlot, withPhase, writeSlot}
+use Rattle.hub.specs.Record.{emptySeat, ofFields, readSlot, withPhase, writeSlot}
 use Rattle.hub.specs.Ring.{PLACES, Ring, readSeat, writeSeat}
 use Rattle.encoding.specs.Frame.{opOf}
 use Rattle.operations.specs.declared.Operated.{Operated}
@@ -48,18 +48,7 @@ use Rattle.perform.proofs.Laws.Tidying.{still-skips, stops, tidying}
 use Rattle.perform.proofs.perform_operations.Statement.{statement}
 use Rattle.perform.proofs.perform_operations.Tie as tie
 
--- The record that the locals make, and the ring of the tidying.
-abbrev hubOf : Opening → Figures → ℕ → List PlaceSlot → List PartySlot → Pool → Hub
-hubOf opening figures oldest places slots pool =
-    record {
-      opening = opening;
-      figures = figures;
-      oldest = oldest;
-      places = places;
-      slots = slots;
-      pool = pool;
-    }
-
+-- The ring of the tidying.
 abbrev ring : ℕ → ℕ → List PlaceSlot → Ring
 ring r o l = record { resumed = r; oldest = o; places = l }
 
@@ -74,7 +63,7 @@ abbrev μ-loop2 : tie.MeasureT-loop2
 
 abbrev Inv-loop : tie.InvT-loop
 Inv-loop operations out₀ opening f₀ o₀ places₀ slots₀ pool₀ _ _ _ out f o places slots pool i =
-    Upto (hubOf opening f₀ o₀ places₀ slots₀ pool₀) operations out₀ (hubOf opening f o places slots pool) out i
+    Upto (ofFields opening f₀ o₀ places₀ slots₀ pool₀) operations out₀ (ofFields opening f o places slots pool) out i
     × (length slots ≡ 32)
 
 abbrev μ-loop : tie.MeasureT-loop
@@ -145,7 +134,7 @@ asking c = known (entered c)
 -- The record at the head of a turn, and the operation.
 abbrev hub : Head → Hub
 hub c =
-    hubOf (begun c .args .hub .opening) (c .loop .figures) (c .loop .oldest) (c .loop .places)
+    ofFields (begun c .args .hub .opening) (c .loop .figures) (c .loop .oldest) (c .loop .places)
     (c .loop .slots) (c .loop .pool)
 
 abbrev bytes : Head → List ℕ
@@ -261,7 +250,7 @@ abbrev untidied : Settled → Hub
 untidied s =
     let c = within s in
     let h = head (asking c) in
-    hubOf (hub h .opening) (plan c .figures) (h .loop .oldest) (set (h .loop .places) (index c) (plan c .seat))
+    ofFields (hub h .opening) (plan c .figures) (h .loop .oldest) (set (h .loop .places) (index c) (plan c .seat))
     (writeSlot (woken s .if2 .slots) (party (asking c)) (plan c .slot)) (s .if3 .pool)
 
 abbrev wokenSlots : Planned → List PartySlot
@@ -297,7 +286,7 @@ unfolding writeSeat
 stored s =
     let c = within s in
     let h = head (asking c) in
-    (λ i. hubOf (hub h .opening) (plan c .figures) (h .loop .oldest) (set (h .loop .places) (index-is c i) (plan c .seat))
+    (λ i. ofFields (hub h .opening) (plan c .figures) (h .loop .oldest) (set (h .loop .places) (index-is c i) (plan c .seat))
     (writeSlot (woken-slots s i) (party (asking c)) (plan c .slot)) (moved-pool s i))
 
 -- The answer that is written.
@@ -315,7 +304,7 @@ worded c =
 one-more : (s : Settled) (u : Hub) → u ≡ tidiedBy (plan (within s) .turns) (untidied s)
     → let h = head (asking (within s)) in
     let b = begun h .args in
-    Upto (hubOf (b .hub .opening) (b .hub .figures) (b .hub .oldest) (b .hub .places) (b .hub .slots) (b .hub .pool))
+    Upto (ofFields (b .hub .opening) (b .hub .figures) (b .hub .oldest) (b .hub .places) (b .hub .slots) (b .hub .pool))
     (bytes h) (b .out .now) u (s .before .before .before .put-at2 .last .0) (h .loop .i + 1)
 one-more s u e =
     let c = within s in

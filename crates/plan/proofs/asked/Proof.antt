@@ -2,6 +2,7 @@
 use Prim.Native.Nat.{_+_}
 use mathlib.Core.Path.{ap}
 use lib.IntN.{ℤ}
+use Rattle.hub.specs.Table.{withBegun, withCounter, withIssued}
 use Rattle.effects.proofs.Laws.Counter.{less, less-fits}
 use borrow.Author.Needs.{needs}
 use Rattle.plan.proofs.asked.Statement.{statement}
@@ -17,8 +18,7 @@ returns : tie.Need-returns
 returns c =
     let b = c .before .before .before in
     let f = b .args .figures in
-    ap (λ (z : ℤ).
-    record { counter = z; issued = b .args .issued; resumed = f .resumed; begun = f .begun + 1 })
+    ap (λ (z : ℤ). withCounter z (withIssued (b .args .issued) (withBegun (f .begun + 1) f)))
     (less (f .counter) (b .pre .0))
 
 pub asked-spec : {M : Type 1} → statement M

@@ -1,6 +1,7 @@
 -- `given` meets its contract: a counter that fits still fits an `i32` once one is added to it.
 use mathlib.Core.Path.{ap}
 use lib.IntN.{ℤ}
+use Rattle.hub.specs.Table.{withCounter, withResumed}
 use Rattle.effects.proofs.Laws.Counter.{more, more-fits}
 use Rattle.plan.proofs.given.Statement.{statement}
 use Rattle.plan.proofs.given.Tie as tie
@@ -12,8 +13,7 @@ returns : tie.Need-returns
 returns c =
     let b = c .before .before in
     let f = b .args .figures in
-    ap (λ (z : ℤ).
-    record { counter = z; issued = f .issued; resumed = b .args .resumed; begun = f .begun })
+    ap (λ (z : ℤ). withCounter z (withResumed (b .args .resumed) f))
     (more (f .counter) (b .pre))
 
 pub given-spec : {M : Type 1} → statement M

@@ -17,14 +17,14 @@ use Rattle.hub.specs.declared.record.PlaceSlot.{PlaceSlot}
 use Rattle.hub.specs.declared.record.Pool.{Pool}
 use Rattle.hub.specs.Answers.{printed}
 use Rattle.hub.specs.Basics.{allFrom}
-use Rattle.hub.specs.Calls.{answerOf, apply, called, checked, isFull, withPool}
+use Rattle.hub.specs.Calls.{answerOf, apply, called, checked, isFull}
 use Rattle.hub.specs.Fits.{fits, figuresClauses, figuresFit, counterFits, partyFits, placeFits, radiosFit}
 use Rattle.hub.specs.Fits.{kindsFit, stateFits}
 use Rattle.hub.specs.Look.{look, seenBy}
 use Rattle.hub.specs.Moves.{Move, Refuse}
 use Rattle.hub.specs.Radios.{poolAfter}
 use Rattle.hub.specs.Phases.{ticketOf}
-use Rattle.hub.specs.Record.{MAX-BEGUN, PARTIES, readSlot}
+use Rattle.hub.specs.Record.{MAX-BEGUN, PARTIES, readSlot, withPool}
 use Rattle.hub.specs.Ring.{PLACES, readSeat}
 use Rattle.hub.specs.Table.{decide}
 use Rattle.hub.proofs.Laws.Bools.{clause, first, never, second}

@@ -17,7 +17,7 @@ use Rattle.hub.specs.Calls.{answerOf, apply, ringOf, tidied, withRing}
 use Rattle.hub.specs.Look.{look, seenBy}
 use Rattle.hub.specs.Moves.{Move, Refuse, Tell, Act, Put, Wake}
 use Rattle.hub.specs.Phases.{byTicket, ticketOf}
-use Rattle.hub.specs.Record.{PARTIES, emptySeat, freeSlot, readSlot, writeSlot}
+use Rattle.hub.specs.Record.{PARTIES, emptySeat, freeSlot, readSlot, withParts, writeSlot}
 use Rattle.hub.specs.Ring.{PLACES, readSeat, writeSeat}
 use Rattle.hub.proofs.Laws.Phases.{by-ticket, ticketed}
 use Rattle.effects.specs.declared.effect.Effect.{Effect}
@@ -74,15 +74,7 @@ told (Wake q x a c) s = refl
 
 -- The record after the stores, but for the radios.
 abbrev pub made : Hub → Figures → List PlaceSlot → List PartySlot → Hub
-made h f a l =
-    record {
-      opening = h .opening;
-      figures = f;
-      oldest = h .oldest;
-      places = a;
-      slots = l;
-      pool = h .pool;
-    }
+made h f a l = withParts f (h .oldest) a l (h .pool) h
 
 abbrev pub stored : Hub → ℕ → Effect → Hub
 stored h p e =

@@ -1,2 +1,0 @@
--- What the contracts of the functions over the fields cite.
-pub mod Fields
