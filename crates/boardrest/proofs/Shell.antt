@@ -55,7 +55,7 @@ use Rattle.shellwalk.proofs.OverFields.{Core, coreClauses, hubVal}
 use Rattle.shellwalk.proofs.OnBoard.{opVal}
 use Rattle.shellwalk.proofs.Shell.{
   Kind,
-  Reached,
+  AtEnd,
   Shell,
   X,
   Y,
@@ -143,11 +143,11 @@ module _ {M : Type 1} (𝓤 : URA M) (H : Heap 𝓤) (A : Atoms 𝓤) (W : Given
       → Sq W (borrowed 𝓤 H A W κ q b o γ h [])
       (prop
       (WpFn 𝓤 H C Λ (shellFn key) (vptr b o ∷ opVal a ∷ vint w8 n ∷ [])
-      (Reached 𝓤 H A W (kind D) κ q b o γ h (a, (n, tt)) (opVal a ∷ [], (vint w8 n ∷ [], tt)))))
+      (AtEnd 𝓤 H A W (kind D) κ q b o γ h (a, (n, tt)) (opVal a ∷ [], (vint w8 n ∷ [], tt)))))
   walk κ q b o γ h a n is-op fits =
       enters 𝓤 H A W C Λ (localTypes Q′.mir O′.mir (tyInt w8) R′.mir) (borrowed 𝓤 H A W κ q b o γ h []) 3 _
       (vptr b o ∷ opVal a ∷ vint w8 n ∷ [])
-      (Reached 𝓤 H A W (kind D) κ q b o γ h (a, (n, tt)) (opVal a ∷ [], (vint w8 n ∷ [], tt))) (λ s.
+      (AtEnd 𝓤 H A W (kind D) κ q b o γ h (a, (n, tt)) (opVal a ∷ [], (vint w8 n ∷ [], tt))) (λ s.
       pass1 ! (init ! 6 refl (tt, tt)) $
       pass1 ! (init ! 4 refl (EL.lawful O.the-type O′.the-laws 𝓤 H A W tt .typed a _ is-op .0)) $
       pass1 ! (init ! 2 refl (tt, record { fits = fits })) $ pass0 ! $
@@ -166,7 +166,7 @@ module _ {M : Type 1} (𝓤 : URA M) (H : Heap 𝓤) (A : Atoms 𝓤) (W : Given
       (Y 𝓤 H A W κ q b o γ (T.the-row .coded .code h)) (Z 𝓤 H A W κ q b o γ (T.the-row .coded .code h))
       (‵ (fat fullShare O′.mir (s .l2) 0 (opVal a))) (‵ (fat fullShare (tyInt w8) (s .l3) 0 (vint w8 n)))
       (‵ (fat fullShare R′.mir (s .l4) 0 (operatedVal r))) (hubVal h) (hubVal (r .hub)) (toldVal (toldOf r))
-      (Reached 𝓤 H A W (kind D) κ q b o γ h (a, (n, tt)) (opVal a ∷ [], (vint w8 n ∷ [], tt)))
+      (AtEnd 𝓤 H A W (kind D) κ q b o γ h (a, (n, tt)) (opVal a ∷ [], (vint w8 n ∷ [], tt)))
       (‵ (fobs γ (T.the-row .coded .code (r .hub)))) (‵ (fbor κ (Held (mem T.the-row) b o γ))) (‵ (flft κ q))
       (copy (place 4 (field 3 ∷ [])))
       (aggregate

@@ -368,11 +368,11 @@ module _ (h : Hub) (a : AtRest h) (p : ℕ) (present : ltb p (h .opening .partie
     -- With somebody waiting: 27, 28, 2A.
     module _ (e : belowZero (figures .counter) ≡ true) (holds : readSlot (h .slots) p .phase ≡ Phase.Holding)
         (q : ℕ) (next : readSlot (h .slots) q .phase ≡ Phase.Waiting (figures .resumed)) where
-      abbrev turn : ℕ
-      turn = figures .resumed
+      abbrev due : ℕ
+      due = figures .resumed
 
       abbrev taken : Figures
-      taken = withResumed (turn + 1) told-more
+      taken = withResumed (due + 1) told-more
 
       hand-27 : called (here figures Phase.Releasing) (stepBy p)
           ≡ record { answer = Answer.MustResume; hub = here told-more Phase.Resuming }
@@ -384,39 +384,39 @@ module _ (h : Hub) (a : AtRest h) (p : ℕ) (present : ltb p (h .opening .partie
 
       -- the tidying passes the cancelled tickets after the one that is handed
       abbrev handing : Hub
-      handing = tidied (here taken (Phase.ResumingAt turn))
+      handing = tidied (here taken (Phase.ResumingAt due))
 
       hand-28 : called (here told-more Phase.Resuming) (stepBy p)
-          ≡ record { answer = Answer.StartedResume turn; hub = handing }
+          ≡ record { answer = Answer.StartedResume due; hub = handing }
       unfolding stepIn stepResuming seenBy moved tidied
       hand-28 =
           acts h p inside present told-more Phase.Resuming
           (fits-now (here told-more Phase.Resuming) (onward _ _ _ _ (onward h _ _ _ (a .fit) give-call) hand-27))
-          taken (Phase.ResumingAt turn) (Answer.StartedResume turn) refl
-          ∙ ap (λ (k : Hub). record { answer = Answer.StartedResume turn; hub = k })
-          (no-radio (Answer.StartedResume turn) handing refl refl)
+          taken (Phase.ResumingAt due) (Answer.StartedResume due) refl
+          ∙ ap (λ (k : Hub). record { answer = Answer.StartedResume due; hub = k })
+          (no-radio (Answer.StartedResume due) handing refl refl)
 
-      handing-phase : readSlot (handing .slots) p .phase ≡ Phase.ResumingAt turn
+      handing-phase : readSlot (handing .slots) p .phase ≡ Phase.ResumingAt due
       unfolding tidied
-      handing-phase = phase-now h p inside present taken (Phase.ResumingAt turn)
+      handing-phase = phase-now h p inside present taken (Phase.ResumingAt due)
 
       -- the ring before that tidying
       abbrev ring : Ring
-      ring = record { resumed = turn + 1; oldest = h .oldest; places = h .places }
+      ring = record { resumed = due + 1; oldest = h .oldest; places = h .places }
 
-      ring-drawn : Drawn turn ring
+      ring-drawn : Drawn due ring
       ring-drawn = record { size = a .places; above = omega (arith, a .oldest); below = omega arith }
 
-      waited : readPlace (h .places) turn ≡ Place.Waiting q
-      waited = a .waits q turn next .0
+      waited : readPlace (h .places) due ≡ Place.Waiting q
+      waited = a .waits q due next .0
 
-      undone : isDone (readPlace (h .places) turn) ≡ false
+      undone : isDone (readPlace (h .places) due) ≡ false
       unfolding isPlaceOf
       undone = ap isDone waited
 
       other : p ≢ q
       other z =
-          let i : Phase.Holding ≡ Phase.Waiting turn =
+          let i : Phase.Holding ≡ Phase.Waiting due =
           sym holds ∙ ap (λ (r : ℕ). readSlot (h .slots) r .phase) z ∙ next in
           let y : _≡_ {A = ℕ} 0 1 = cc in omega arith
 
@@ -424,7 +424,7 @@ module _ (h : Hub) (a : AtRest h) (p : ℕ) (present : ltb p (h .opening .partie
       unfolding seenBy tidied
       handing-place =
           ap (λ (f : Phase). byTicket emptySeat (readSeat (handing .places)) f .place) handing-phase
-          ∙ ap (λ (x : PlaceSlot). x .place) (drawn-stays turn ring ring-drawn (a .oldest) undone)
+          ∙ ap (λ (x : PlaceSlot). x .place) (drawn-stays due ring ring-drawn (a .oldest) undone)
           ∙ waited
 
       waiter-seen : look handing p .waiter ≡ readSlot (h .slots) q
@@ -440,20 +440,20 @@ module _ (h : Hub) (a : AtRest h) (p : ℕ) (present : ltb p (h .opening .partie
       abbrev wakes : Move
       wakes =
           Wake q (withPhase Phase.Holding (look handing p .waiter)) (withPlace Place.Done (look handing p .seat))
-          (to (look handing p .slot) Phase.Free (handing .figures) (Answer.Woke q turn))
+          (to (look handing p .slot) Phase.Free (handing .figures) (Answer.Woke q due))
 
-      handing-row : stepIn (Phase.ResumingAt turn) (look handing p) ≡ wakes
+      handing-row : stepIn (Phase.ResumingAt due) (look handing p) ≡ wakes
       unfolding stepIn stepResumingAt resumeWaiter seenBy
       handing-row =
-          ap (λ (b : Place). stepResumingAt turn b (look handing p)) handing-place
-          ∙ ap (λ (b : Bool). resumeWaiter b q turn (look handing p)) handing-waiter
+          ap (λ (b : Place). stepResumingAt due b (look handing p)) handing-place
+          ∙ ap (λ (b : Bool). resumeWaiter b q due (look handing p)) handing-waiter
 
       -- the record that it leaves
       abbrev served : Hub
       served =
-          withPool (radios h p inside present (Answer.Woke q turn))
+          withPool (radios h p inside present (Answer.Woke q due))
           (tidied
-          (placeTo turn Place.Done (phaseTo p Phase.Free (phaseTo q Phase.Holding (withFigures taken h)))))
+          (placeTo due Place.Done (phaseTo p Phase.Free (phaseTo q Phase.Holding (withFigures taken h)))))
 
       -- the record before the last tidying, with these places and slots
       abbrev leaving : List PlaceSlot → List PartySlot → Hub
@@ -468,7 +468,7 @@ module _ (h : Hub) (a : AtRest h) (p : ℕ) (present : ltb p (h .opening .partie
           written-around (h .slots) p _ q _ _ other
           ∙ (λ i.
           writeSlot (writeSlot (h .slots) q (withPhase Phase.Holding (waiter-seen i))) p
-          (withPhase Phase.Free (slot-now h p inside present taken (Phase.ResumingAt turn) i)))
+          (withPhase Phase.Free (slot-now h p inside present taken (Phase.ResumingAt due) i)))
           ∙ ap
           (λ (s : PartySlot).
           writeSlot (writeSlot (h .slots) q (withPhase Phase.Holding (readSlot (h .slots) q))) p (withPhase Phase.Free s))
@@ -477,15 +477,15 @@ module _ (h : Hub) (a : AtRest h) (p : ℕ) (present : ltb p (h .opening .partie
       abbrev woke : Hub → Outcome
       woke k =
           record {
-            answer = Answer.Woke q turn;
-            hub = withPool (radios h p inside present (Answer.Woke q turn)) k;
+            answer = Answer.Woke q due;
+            hub = withPool (radios h p inside present (Answer.Woke q due)) k;
           }
 
-      hand-2A : called handing (stepBy p) ≡ record { answer = Answer.Woke q turn; hub = served }
+      hand-2A : called handing (stepBy p) ≡ record { answer = Answer.Woke q due; hub = served }
       unfolding apply seenBy tidied
       hand-2A =
           called-by handing (stepBy p) wakes
-          (step-by handing p (Phase.ResumingAt turn)
+          (step-by handing p (Phase.ResumingAt due)
           (fits-now handing (onward _ _ _ _ (onward _ _ _ _ (onward h _ _ _ (a .fit) give-call) hand-27) hand-28))
           present handing-phase
           ∙ handing-row)
@@ -503,9 +503,9 @@ module _ (h : Hub) (a : AtRest h) (p : ℕ) (present : ltb p (h .opening .partie
           (λ (r : Ring).
           woke
           (withRing
-          (placeTo turn Place.Done (phaseTo p Phase.Free (phaseTo q Phase.Holding (withFigures taken h))))
+          (placeTo due Place.Done (phaseTo p Phase.Free (phaseTo q Phase.Holding (withFigures taken h))))
           r))
-          (done-between turn ring ring-drawn (a .oldest) undone)
+          (done-between due ring ring-drawn (a .oldest) undone)
 
       served-rests : (r : ℕ) → rests served r ≡ true
       unfolding tidied isOneOf
@@ -513,7 +513,7 @@ module _ (h : Hub) (a : AtRest h) (p : ℕ) (present : ltb p (h .opening .partie
           written-rests _ p _
           (omega (arith, inside, written-length (h .slots) q (withPhase Phase.Holding (readSlot (h .slots) q)))) refl
           (written-rests (h .slots) q _
-          (waiter-inside h a q turn next) refl (a .calm))
+          (waiter-inside h a q due next) refl (a .calm))
 
       woken-shown : cond (eqb q 0xFF) 0xFF q ≡ q
       woken-shown = go (eqb q 0xFF) refl
@@ -543,5 +543,5 @@ module _ (h : Hub) (a : AtRest h) (p : ℕ) (present : ltb p (h .opening .partie
               came z 3
               (tidied
               (radiosBy (λ r. handTo z (handOf r p) r)
-              (placeTo turn Place.Done
+              (placeTo due Place.Done
               (phaseTo p Phase.Free (phaseTo z Phase.Holding (withFigures taken h))))))

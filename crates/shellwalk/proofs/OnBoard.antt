@@ -73,12 +73,12 @@ module _ {M : Type 1} (𝓤 : URA M) (H : Heap 𝓤) (A : Atoms 𝓤) (W : Given
     abbrev bound : walkOf 𝓤 H A (ended R) (stayed R) (clauses 𝓤 R answer D) .Ghost
     bound = ((tt, tt, tt, (h, (a, (n, tt))), (hubVal h ∷ [], (opVal a ∷ [], (vint w8 n ∷ [], tt)))), tt)
 
-    abbrev pub Reached : Val → SProp 𝓤
-    Reached = walkOf 𝓤 H A (ended R) (stayed R) (clauses 𝓤 R answer D) .post bound
+    abbrev pub AtEnd : Val → SProp 𝓤
+    AtEnd = walkOf 𝓤 H A (ended R) (stayed R) (clauses 𝓤 R answer D) .post bound
 
     pub reaches :
         Is T.the-row h (hubVal h ∷ []) → Is O.the-row a (opVal a ∷ []) → n < 2 ^ 8 → (v : Val)
-        → ent 𝓤 (emp 𝓤) (sem 𝓤 H A (R .own (D h a n) (v ∷ []))) → ent 𝓤 (emp 𝓤) (Reached v)
+        → ent 𝓤 (emp 𝓤) (sem 𝓤 H A (R .own (D h a n) (v ∷ []))) → ent 𝓤 (emp 𝓤) (AtEnd v)
     reaches is is-op fits v has =
         qed W [] ∵
         suffices ! _ (ends-at 𝓤 H A (ended R) (stayed R) (clauses 𝓤 R answer D) W bound v (D h a n)
@@ -92,7 +92,7 @@ module _ {M : Type 1} (𝓤 : URA M) (H : Heap 𝓤) (A : Atoms 𝓤) (W : Given
   pub meets :
       (run : Fun 𝓤) → ((vs : List Val) → Mono 𝓤 (run vs))
       → ((h : Hub) (a : Op) (n : ℕ) → Is T.the-row h (hubVal h ∷ []) → Is O.the-row a (opVal a ∷ []) → n < 2 ^ 8
-      → Sq W [] (prop (run (hubVal h ∷ opVal a ∷ vint w8 n ∷ []) (Reached h a n))))
+      → Sq W [] (prop (run (hubVal h ∷ opVal a ∷ vint w8 n ∷ []) (AtEnd h a n))))
       → Meets 𝓤 H A (signature R) run (closing 𝓤 H A (ended R) (clauses 𝓤 R answer D))
   meets run mono walk =
       let t = goes-none 𝓤 H A W 0 (λ _. T.the-row) yes (λ κs x f. refl) in

@@ -233,8 +233,8 @@ module _ {M : Type 1} (𝓤 : URA M) (H : Heap 𝓤) (A : Atoms 𝓤) (W : Given
     abbrev bound : walkOf 𝓤 H A (ended k) (stayed k) (clauses 𝓤 k) .Ghost
     bound = (((κ, tt), (q, tt), tt, (record { ptr = (b, o); name = γ; now = h }, x), (vptr b o ∷ [], vs)), tt)
 
-    abbrev pub Reached : Val → SProp 𝓤
-    Reached = walkOf 𝓤 H A (ended k) (stayed k) (clauses 𝓤 k) .post bound
+    abbrev pub AtEnd : Val → SProp 𝓤
+    AtEnd = walkOf 𝓤 H A (ended k) (stayed k) (clauses 𝓤 k) .post bound
 
     -- it is reached with the record that the function left behind the reference
     pub reaches :
@@ -242,7 +242,7 @@ module _ {M : Type 1} (𝓤 : URA M) (H : Heap 𝓤) (A : Atoms 𝓤) (W : Given
         → ent 𝓤 (emp 𝓤) (sem 𝓤 H A (hasOf (κ, tt) (k .slots) (k .kept) (k .stay) x ws vs))
         → (r : k .Left .Denot) → r ≡ k .does (κ, tt) h x → (v : Val)
         → ent 𝓤 (emp 𝓤) (sem 𝓤 H A (k .Told .own (k .told r) (v ∷ [])))
-        → Sq W (borrowed 𝓤 H A W κ q b o γ (k .hub r) []) (prop (Reached v))
+        → Sq W (borrowed 𝓤 H A W κ q b o γ (k .hub r) []) (prop (AtEnd v))
     reaches ws fit has r e v tells =
         suffices ! _ (ends-at 𝓤 H A (ended k) (stayed k) (clauses 𝓤 k) W bound v (k .told r) (k .hub r, ws) (tt, fit)) $
         says ! (shown k e) $ nothing ! $ move ! (3 ∷ 0 ∷ []) $ join ! $ frame ! $
@@ -261,7 +261,7 @@ module _ {M : Type 1} (𝓤 : URA M) (H : Heap 𝓤) (A : Atoms 𝓤) (W : Given
       → Sq W (borrowed 𝓤 H A W κ q b o γ h [])
       (prop
       (run (vptr b o ∷ flat (typesAt (k .slots) (κ, tt)) (valss (typesAt (k .slots) (κ, tt)) (sp (κ, tt)) x))
-      (Reached κ q b o γ h x (valss (typesAt (k .slots) (κ, tt)) (sp (κ, tt)) x)))))
+      (AtEnd κ q b o γ h x (valss (typesAt (k .slots) (κ, tt)) (sp (κ, tt)) x)))))
       → Meets 𝓤 H A (ended k .signature) run (closing 𝓤 H A (ended k) (clauses 𝓤 k))
   meets go sp tells run mono walk =
       walk-meets 𝓤 H A (ended k) (stayed k) W (goes-ref 𝓤 H A W 1 0 tt (plain (λ _. T.the-row)), go) (clauses 𝓤 k) run mono

@@ -50,7 +50,7 @@ use Rattle.shellwalk.proofs.OverFields as core
 use Rattle.shellwalk.proofs.OverFields.{Core, coreClauses, hubVal}
 use Rattle.shellwalk.proofs.Shell.{
   Kind,
-  Reached,
+  AtEnd,
   Shell,
   X,
   Y,
@@ -139,10 +139,10 @@ module _ {M : Type 1} (𝓤 : URA M) (H : Heap 𝓤) (A : Atoms 𝓤) (W : Given
       → Sq W (borrowed 𝓤 H A W κ q b o γ h [])
       (prop
       (WpFn 𝓤 H C Λ (shellFn key k) (vptr b o ∷ vint w8 n ∷ [])
-      (Reached 𝓤 H A W K κ q b o γ h (n, tt) (vint w8 n ∷ [], tt))))
+      (AtEnd 𝓤 H A W K κ q b o γ h (n, tt) (vint w8 n ∷ [], tt))))
   walk κ q b o γ h n fits =
       enters 𝓤 H A W C Λ (localTypes P′.mir (tyInt w8) R′.mir O′.mir) (borrowed 𝓤 H A W κ q b o γ h []) 2 _
-      (vptr b o ∷ vint w8 n ∷ []) (Reached 𝓤 H A W K κ q b o γ h (n, tt) (vint w8 n ∷ [], tt)) (λ s.
+      (vptr b o ∷ vint w8 n ∷ []) (AtEnd 𝓤 H A W K κ q b o γ h (n, tt) (vint w8 n ∷ [], tt)) (λ s.
       pass1 ! (init ! 6 refl (tt, tt)) $ pass1 ! (init ! 4 refl (tt, record { fits = fits })) $ pass0 ! $
       move ! (10 ∷ 11 ∷ 12 ∷ []) $ opening 𝓤 H A W κ q b o γ h _ _ tt (λ is.
       -- [the record; its open borrow, three; _4; …; _3; …; _0; …; the fields' locals]
@@ -161,7 +161,7 @@ module _ {M : Type 1} (𝓤 : URA M) (H : Heap 𝓤) (A : Atoms 𝓤) (W : Given
       (Y 𝓤 H A W κ q b o γ (T.the-row .coded .code h)) (Z 𝓤 H A W κ q b o γ (T.the-row .coded .code h))
       (‵ (fat fullShare (tyInt w8) (s .l2) 0 (vint w8 n))) (‵ (fat fullShare R′.mir (s .l3) 0 (outcomeVal r)))
       (‵ (fat fullShare O′.mir (s .l4) 0 (tagVal k))) (hubVal h) (hubVal (r .hub)) (answerVal (r .answer))
-      (Reached 𝓤 H A W K κ q b o γ h (n, tt) (vint w8 n ∷ [], tt))
+      (AtEnd 𝓤 H A W K κ q b o γ h (n, tt) (vint w8 n ∷ [], tt))
       (‵ (fobs γ (T.the-row .coded .code (r .hub)))) (‵ (fbor κ (Held (mem T.the-row) b o γ))) (‵ (flft κ q))
       (copy (place 3 (field 1 ∷ []))) (rvOpd (copy (place 3 (field 0 ∷ []))))
       (field-in 𝓤 H A W _ _ 3 1 6 R′.mir T′.mir (s .l3) (offsetIn R′.mir 1) (outcomeVals r) refl refl refl)

@@ -129,7 +129,7 @@ use Rattle.hub.proofs.record.Outcome as R
 use Rattle.hub.proofs.record.Outcome.Laws as R′
 use Rattle.shellwalk.proofs.OverFields.{hubVal}
 use Rattle.shellwalk.proofs.OnBoard as on
-use Rattle.shellwalk.proofs.OnBoard.{Reached, clauses, meets, opVal, reaches}
+use Rattle.shellwalk.proofs.OnBoard.{AtEnd, clauses, meets, opVal, reaches}
 use Rattle.shellwalk.proofs.Shell.{Kind, Shell}
 use Rattle.shellwalk.proofs.Tagged.{answerVal, by-op, kind, outcomeVal, parts}
 use Rattle.shellwalk.proofs.Lent.{to-shell, loan, lends, comes-back}
@@ -223,7 +223,7 @@ module _ {M : Type 1} (𝓤 : URA M) (H : Heap 𝓤) (A : Atoms 𝓤) (W : Given
     (D : Hub → Op → ℕ → Outcome) (h : Hub) (n : ℕ) (fits : n < 2 ^ 8)
     (is : Is T.the-row h (hubVal h ∷ [])) where
   abbrev Post : Op → Val → SProp 𝓤
-  Post o = Reached 𝓤 H A W R.the-row (λ r. r .answer) D h o n
+  Post o = AtEnd 𝓤 H A W R.the-row (λ r. r .answer) D h o n
 
   -- what is known of a shell, and what it is called with
   abbrev shell : Op → Kind

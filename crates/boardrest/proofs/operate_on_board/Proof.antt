@@ -109,7 +109,7 @@ use Rattle.shellwalk.proofs.Body.{OfTy}
 use Rattle.shellwalk.proofs.Locals.{unset}
 use Rattle.shellwalk.proofs.Lent.{comes-back, lends, loan, to-shell}
 use Rattle.shellwalk.proofs.OnBoard as on
-use Rattle.shellwalk.proofs.OnBoard.{Reached, clauses, meets, opVal, reaches}
+use Rattle.shellwalk.proofs.OnBoard.{AtEnd, clauses, meets, opVal, reaches}
 use Rattle.shellwalk.proofs.OverFields.{hubVal}
 use Rattle.shellwalk.proofs.Shell.{Shell}
 use Rattle.shellwalk.proofs.Tagged.{answerVal}
@@ -205,7 +205,7 @@ module _ {M : Type 1} (𝓤 : URA M) (H : Heap 𝓤) (A : Atoms 𝓤) (W : Given
     (D : Hub → Op → ℕ → Operated) (h : Hub) (a : Op) (n : ℕ) (fits : n < 2 ^ 8)
     (is : Is T.the-row h (hubVal h ∷ [])) (is-op : Is O.the-row a (opVal a ∷ [])) where
   abbrev Post : Val → SProp 𝓤
-  Post = Reached 𝓤 H A W R.the-row (λ r. r .answer) D h a n
+  Post = AtEnd 𝓤 H A W R.the-row (λ r. r .answer) D h a n
 
   -- what the shell is called with besides the reference
   abbrev call-of : Lfts 1 → Op × (ℕ × Unit {0})

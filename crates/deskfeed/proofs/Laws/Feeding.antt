@@ -72,7 +72,7 @@ pub record Upto (l₀ : Line) (r₀ : Reader) (piece out₀ : List ℕ) (l : Lin
   pub lines : ℕ
   pub text : List ℕ
   pub within : i ≤ length piece
-  pub printed : Printable l
+  pub printable : Printable l
   pub short : r .len ≤ KEPT
   pub size : length (r .line) ≡ KEPT
   pub room : LONGEST-TEXT * length (asked r₀ piece) ≤ length out₀
@@ -92,7 +92,7 @@ start s piece out o h =
       lines = 0;
       text = [];
       within = omega arith;
-      printed = o .line;
+      printable = o .line;
       short = o .short;
       size = o .size;
       room = h;
@@ -122,7 +122,7 @@ module _ {l₀ : Line} {r₀ : Reader} {piece out₀ : List ℕ} {l : Line} {r :
         lines = u .lines;
         text = u .text;
         within = omega arith;
-        printed = u .printed;
+        printable = u .printable;
         short = s;
         size = t;
         room = u .room;
@@ -175,7 +175,7 @@ module _ {l₀ : Line} {r₀ : Reader} {piece out₀ : List ℕ} {l : Line} {r :
         lines = u .lines + 1;
         text = u .text ++ lineText a;
         within = omega arith;
-        printed = reply-printable l _ a (u .printed) e;
+        printable = reply-printable l _ a (u .printable) e;
         short = omega arith;
         size = u .size;
         room = u .room;

@@ -140,18 +140,18 @@ told c =
     party-test (hub (l .before)) _ _ (l .loop-test .taken) (c .before .before .ticket .ensures)
     (c .party-fits .ensures)
 
--- The turn of the inner loop; the place's test is the definition's.
-abbrev turn : At tie.After-stands-at → At tie.At-loop5
-turn c = c .before .before .before .before .before .before .before .before .before
+-- The round of the inner loop; the place's test is the definition's.
+abbrev round : At tie.After-stands-at → At tie.At-loop5
+round c = c .before .before .before .before .before .before .before .before .before
 
 stood : (c : At tie.After-stands-at)
     → c .stands-at .result
-    ≡ placeFits (hub5 (turn c)) (ticketAt (hub5 (turn c) .oldest) (index (turn c)))
+    ≡ placeFits (hub5 (round c)) (ticketAt (hub5 (round c) .oldest) (index (round c)))
 unfolding readSlot
 stood c =
     c .stands-at .ensures
     ∙ ap (standsAt _) (c .before .ticket-at .ensures)
-    ∙ waited (hub5 (turn c)) (index (turn c)) (omega arith) _
+    ∙ waited (hub5 (round c)) (index (round c)) (omega arith) _
     (c .before .before .before .before .before .place .given .1)
 
 figures-and-kinds-fit-requires : At tie.Need-figures-and-kinds-fit-requires
@@ -399,7 +399,7 @@ stands-at-requires c κs = search needs
 returns-6 : At tie.Need-returns-6
 returns-6 c =
     places-fail _
-    (one-fails _ 256 _ true _ (turn (c .before) .loop5 .inv .1) (omega arith)
+    (one-fails _ 256 _ true _ (round (c .before) .loop5 .inv .1) (omega arith)
     (failed (stood (c .before)) (c .if7 .taken)))
 
 add-k-2 : At tie.Need-add-k-2
@@ -411,7 +411,7 @@ loop5-less-2 c = search needs
 loop5-again-2 : At tie.Need-loop5-again-2
 loop5-again-2 c = (
   omega arith,
-  one-passes _ 256 _ true _ (turn (c .before) .loop5 .inv .1) _ (omega arith) (omega arith)
+  one-passes _ 256 _ true _ (round (c .before) .loop5 .inv .1) _ (omega arith) (omega arith)
       (passed (stood (c .before)) (c .if7 .left)),
 )
 

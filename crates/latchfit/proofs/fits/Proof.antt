@@ -108,18 +108,18 @@ told c =
     party-test (record-of (l .before)) _ _ (l .loop-test .taken) (c .before .before .ticket .ensures)
     (c .member-fits .ensures)
 
--- The turn of the inner loop; the place's test is the definition's.
-abbrev turn : At tie.After-stands-at → At tie.At-loop4
-turn c = c .before .before .before .before .before .before .before .before .before
+-- The round of the inner loop; the place's test is the definition's.
+abbrev round : At tie.After-stands-at → At tie.At-loop4
+round c = c .before .before .before .before .before .before .before .before .before
 
 stood : (c : At tie.After-stands-at)
     → c .stands-at .result
-    ≡ placeFits (record4 (turn c)) (ticketAt (record4 (turn c) .oldest) (index (turn c)))
+    ≡ placeFits (record4 (round c)) (ticketAt (record4 (round c) .oldest) (index (round c)))
 unfolding readSlot
 stood c =
     c .stands-at .ensures
     ∙ ap (standsAt _) (c .before .ticket-at .ensures)
-    ∙ waited (record4 (turn c)) (index (turn c)) (omega arith) _
+    ∙ waited (record4 (round c)) (index (round c)) (omega arith) _
     (c .before .before .before .before .before .place .given .1)
 
 figures-fit-requires : At tie.Need-figures-fit-requires
@@ -295,7 +295,7 @@ stands-at-requires c κs = search needs
 returns-5 : At tie.Need-returns-5
 returns-5 c =
     places-fail _
-    (one-fails _ 256 _ true _ (turn (c .before) .loop4 .inv .1) (omega arith)
+    (one-fails _ 256 _ true _ (round (c .before) .loop4 .inv .1) (omega arith)
     (failed (stood (c .before)) (c .if5 .taken)))
 
 add-k-2 : At tie.Need-add-k-2
@@ -307,7 +307,7 @@ loop4-less-2 c = search needs
 loop4-again-2 : At tie.Need-loop4-again-2
 loop4-again-2 c = (
   omega arith,
-  one-passes _ 256 _ true _ (turn (c .before) .loop4 .inv .1) _ (omega arith) (omega arith)
+  one-passes _ 256 _ true _ (round (c .before) .loop4 .inv .1) _ (omega arith) (omega arith)
       (passed (stood (c .before)) (c .if5 .left)),
 )
 

@@ -86,18 +86,18 @@ entry c =
 five-more : (c : Reading) → c .before .loop2 .i + 5 ≤ length (began (c .before .before) .args .piece .now)
 five-more c = omega (arith, c .before .loop2 .inv .0 .within, c .loop2-test .taken)
 
-abbrev called : Found → Header
-called c = c .before .before .call-by .result
+abbrev found-call : Found → Header
+found-call c = c .before .before .call-by .result
 
 asked-by : (c : Found)
     → let l = began (looping c .before) .args .piece .now in
     let i = looping c .loop2 .i in
-    called c
+    found-call c
     ≡ headerOf
     (requestOf (getD l i 0 ∷ getD l (i + 1) 0 ∷ getD l (i + 2) 0 ∷ getD l (i + 3) 0 ∷ []))
 asked-by c = c .before .before .call-by .ensures
 
-is-call : (c : Found) → 16 ≤ called c .code
+is-call : (c : Found) → 16 ≤ found-call c .code
 is-call c = c .if4 .left
 
 feeds : (c : Found)

@@ -71,7 +71,7 @@ put-line-requires c κs =
     let p2 = p1 .before .before in
     let p3 = p2 .before in
     let u = (p3 .loop .inv) in (
-      reply-printable _ _ _ (u .printed) (c .before .respond .ensures) .few,
+      reply-printable _ _ _ (u .printable) (c .before .respond .ensures) .few,
       line-room u (p2 .loop-test .taken) (p1 .if1 .left),
     )
 
