@@ -63,7 +63,6 @@ use types.Kit.{
   raw,
   _$_,
   !,
-  by,
   move,
   use1,
 }
@@ -109,7 +108,7 @@ use Rattle.shellwalk.proofs.Locals.{
   nothing-behind,
   releases,
   rooms,
-  turned,
+  swapped,
   unset,
   values,
 }
@@ -181,7 +180,7 @@ pub record Types : Type 0 where
   pub fields : List Ty
 
 -- and where they lie
-pub record Places (τs : List Ty) : Type 0 where
+pub record ShellSpots (τs : List Ty) : Type 0 where
   pub l0 : ℕ
   pub l1 : ℕ
   pub l2 : ℕ
@@ -205,7 +204,7 @@ shellOf p t b = record {
   body = b;
 }
 
-module _ {M : Type 1} (𝓤 : URA M) (H : Heap 𝓤) (t : Types) (s : Places (t .fields)) where
+module _ {M : Type 1} (𝓤 : URA M) (H : Heap 𝓤) (t : Types) (s : ShellSpots (t .fields)) where
   abbrev pub passed : Env 𝓤 H
   passed =
       (t .t1, s .l1) ∷ (t .t2, s .l2) ∷ (t .t3, s .l3) ∷ (t .t4, s .l4) ∷ envOf 𝓤 H (t .fields) (s .fields)
@@ -223,7 +222,7 @@ module _ {M : Type 1} (𝓤 : URA M) (H : Heap 𝓤) (A : Atoms 𝓤) (W : Given
     -- the locals are there, and the parameters are still to be passed
     pub enters :
         (Γ : List (Item 𝓤)) (p : ℕ) (b : Body) (vs : List Val) (Q : Val → SProp 𝓤)
-        → ((s : Places (t .fields))
+        → ((s : ShellSpots (t .fields))
         → Sq W
         (unset (t .t4) (s .l4) (unset (t .t3) (s .l3) (unset (t .t2) (s .l2) (unset (t .t1) (s .l1)
         (unset (t .t0) (s .l0) Γ)))) ++ rooms (t .fields) (s .fields))
@@ -232,12 +231,12 @@ module _ {M : Type 1} (𝓤 : URA M) (H : Heap 𝓤) (A : Atoms 𝓤) (W : Given
     enters Γ p b vs Q k =
         enter ! C Λ (shellOf p t b) vs Q $
         alloc1 ! (λ l₀. alloc1 ! (λ l₁. alloc1 ! (λ l₂. alloc1 ! (λ l₃. alloc1 ! (λ l₄.
-        allocates 𝓤 H A W (t .fields) _ _ (λ s. params1 ! $ turned 𝓤 H A W (rooms (t .fields) s) _ _ $
+        allocates 𝓤 H A W (t .fields) _ _ (λ s. params1 ! $ swapped 𝓤 H A W (rooms (t .fields) s) _ _ $
         k record { l0 = l₀; l1 = l₁; l2 = l₂; l3 = l₃; l4 = l₄; fields = s }))))))
 
     -- the record, of type m at (b, o), behind the reference; its borrow is open, which X, Y and Z say, and i₂, i₃ and i₄
     -- are what the locals between hold
-    module _ (s : Places (t .fields)) (m : Ty) (b o : ℕ) (X Y Z i₂ i₃ i₄ : Item 𝓤) where
+    module _ (s : ShellSpots (t .fields)) (m : Ty) (b o : ℕ) (X Y Z i₂ i₃ i₄ : Item 𝓤) where
       -- [the record; its open borrow, three; _4; …; _3; …; _0; …] stand in front of the fields' locals
       abbrev front : Val → List (Item 𝓤)
       front w =
@@ -329,5 +328,5 @@ module _ {M : Type 1} (𝓤 : URA M) (H : Heap 𝓤) (A : Atoms 𝓤) (W : Given
           move ! (7 ∷ 8 ∷ []) $ use1 W (‵ (froom (t .t2) (s .l2) 0)) r₂ $ free1 ! $
           move ! (5 ∷ 6 ∷ []) $ use1 W (‵ (froom (t .t3) (s .l3) 0)) r₃ $ free1 ! $
           move ! (3 ∷ 4 ∷ []) $ use1 W (‵ (froom (t .t4) (s .l4) 0)) r₄ $ free1 ! $
-          turned 𝓤 H A W (X′ ∷ Y′ ∷ Z′ ∷ []) (rooms (t .fields) (s .fields)) _ $
-          by ! (releases 𝓤 H A W (t .fields) (s .fields) (X′ ∷ Y′ ∷ Z′ ∷ []) _ k .prf)
+          swapped 𝓤 H A W (X′ ∷ Y′ ∷ Z′ ∷ []) (rooms (t .fields) (s .fields)) _ $
+          releases 𝓤 H A W (t .fields) (s .fields) (X′ ∷ Y′ ∷ Z′ ∷ []) _ k

@@ -95,8 +95,8 @@ module _ {M : Type 1} (𝓤 : URA M) (H : Heap 𝓤) (A : Atoms 𝓤) (W : Given
       (via 𝓤 (⋆ 𝓤 H A (Δ ++ Γ′)) (++⊢ 𝓤 H A Δ Γ′) (s .prf)))))
 
   -- what stands in front goes behind
-  abbrev pub turned : (Δ Γ : Cx) (G : Goal 𝓤 H) → Step (Go {0}) W (Γ ++ Δ) G (Δ ++ Γ) G
-  turned Δ Γ G =
+  abbrev pub swapped : (Δ Γ : Cx) (G : Goal 𝓤 H) → Step (Go {0}) W (Γ ++ Δ) G (Δ ++ Γ) G
+  swapped Δ Γ G =
       step (λ s. by !
       (via 𝓤 (sep 𝓤 (⋆ 𝓤 H A Δ) (⋆ 𝓤 H A Γ)) (⊢++ 𝓤 H A Δ Γ)
       (via 𝓤 (sep 𝓤 (⋆ 𝓤 H A Γ) (⋆ 𝓤 H A Δ)) (comm∗ 𝓤 (⋆ 𝓤 H A Δ) (⋆ 𝓤 H A Γ))

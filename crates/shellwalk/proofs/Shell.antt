@@ -92,7 +92,7 @@ use Rattle.hub.proofs.record.Hub.Laws as T′
 use Rattle.hub.proofs.record.PartySlot.Laws as PartySlot′
 use Rattle.hub.proofs.record.PlaceSlot.Laws as PlaceSlot′
 use Rattle.hub.proofs.record.Pool.Laws as Pool′
-use Rattle.shellwalk.proofs.Body.{Places, Types, cleared, env, handing, hands-over, taken}
+use Rattle.shellwalk.proofs.Body.{ShellSpots, Types, cleared, env, handing, hands-over, taken}
 use Rattle.shellwalk.proofs.InPlace as shell
 use Rattle.shellwalk.proofs.OverFields.{Core, answers, fieldVals, goes-core, hubVal, to-core, typed}
 
@@ -197,7 +197,7 @@ localTypes τ₀ τ₂ τ₃ τ₄ = record { t0 = τ₀; t1 = ref; t2 = τ₂; 
 
 -- the call of the function over the fields, which has the contract D: what it answers lands in local d
 module _ {M : Type 1} (𝓤 : URA M) (H : Heap 𝓤) (A : Atoms 𝓤) (W : Given 𝓤 H A) (C : Calls 𝓤 H) (Λ : Loops 𝓤 H)
-    (R : RattleType) (D : Hub → Op → ℕ → R .Denot) (τ₀ τ₂ τ₃ τ₄ : Ty) (s : Places fieldTypes) (b o : ℕ) (X Y Z i₂ i₃ i₄ : Item 𝓤)
+    (R : RattleType) (D : Hub → Op → ℕ → R .Denot) (τ₀ τ₂ τ₃ τ₄ : Ty) (s : ShellSpots fieldTypes) (b o : ℕ) (X Y Z i₂ i₃ i₄ : Item 𝓤)
   where
     abbrev t : Types
     t = localTypes τ₀ τ₂ τ₃ τ₄
