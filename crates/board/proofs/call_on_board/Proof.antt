@@ -127,6 +127,7 @@ use Rattle.hub.proofs.record.Hub as T
 use Rattle.hub.proofs.record.Hub.Laws as T′
 use Rattle.hub.proofs.record.Outcome as R
 use Rattle.hub.proofs.record.Outcome.Laws as R′
+use Rattle.shellwalk.proofs.Locals.{holds, unset}
 use Rattle.shellwalk.proofs.OverFields.{hubVal}
 use Rattle.shellwalk.proofs.OnBoard as on
 use Rattle.shellwalk.proofs.OnBoard.{AtEnd, clauses, meets, opVal, reaches}
@@ -252,12 +253,6 @@ module _ {M : Type 1} (𝓤 : URA M) (H : Heap 𝓤) (A : Atoms 𝓤) (W : Given
 
     abbrev dies : Ty → ℕ → Item 𝓤
     dies τ l = ‵ (fdies τ l)
-
-    abbrev unset : Ty → ℕ → List (Item 𝓤) → List (Item 𝓤)
-    unset τ l Γ = room τ l ∷ dies τ l ∷ Γ
-
-    abbrev holds : Ty → ℕ → Val → List (Item 𝓤) → List (Item 𝓤)
-    holds τ l v Γ = cell τ l v ∷ dies τ l ∷ Γ
 
     -- the locals before the match, the last first; and after it, with those that it used in front
     abbrev refs : List (Item 𝓤) → List (Item 𝓤)
