@@ -6,6 +6,7 @@ use Rattle.hub.specs.declared.moves.Sight.{Sight}
 use Rattle.hub.specs.declared.record.Figures.{Figures}
 use Rattle.hub.specs.declared.record.PartySlot.{PartySlot}
 use Rattle.hub.specs.declared.record.PlaceSlot.{PlaceSlot}
+use Rattle.hub.specs.Look.{sightFrom}
 use Rattle.hub.specs.Phases.{byWaiter}
 use Rattle.hub.specs.Record.{PARTIES, freeSlot}
 
@@ -15,14 +16,4 @@ waiterBy seat near = cond (ltb (byWaiter PARTIES (λ q. q) (seat .place)) PARTIE
 
 abbrev pub sightBy : ℕ → ℕ → PartySlot → PlaceSlot → PartySlot → Figures → Bool → ℕ → ℕ → Sight
 sightBy party kind slot seat near figures named radio stored =
-    record {
-      party = party;
-      kind = kind;
-      slot = slot;
-      seat = seat;
-      waiter = waiterBy seat near;
-      figures = figures;
-      named = named;
-      radio = radio;
-      stocked = leb 1 stored;
-    }
+    sightFrom party kind slot seat (waiterBy seat near) figures named radio (leb 1 stored)

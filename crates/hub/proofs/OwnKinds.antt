@@ -13,7 +13,7 @@ use Rattle.hub.specs.declared.record.Outcome.{Outcome}
 use Rattle.hub.specs.Calls.{called}
 use Rattle.hub.specs.Fits.{fits, kindsFit, stateFits}
 use Rattle.hub.specs.Kinds.{hasDesk, kindIn, kindsKnown}
-use Rattle.hub.specs.Look.{look, seenBy}
+use Rattle.hub.specs.Look.{look, seenBy, withKind}
 use Rattle.hub.specs.Opening.{Test, fresh, kindTests, linkTests, notOpened, opening, openingIf, tests}
 use Rattle.hub.specs.OwnKinds.{AsBefore, CallsAsBefore, KindsKept, LikeBefore, OldTableFits, WithoutKinds}
 use Rattle.hub.specs.OwnKinds.{answersBefore, calledBefore, calledBy, lookBefore, openingBefore, runBefore}
@@ -56,18 +56,7 @@ module _ (h : Hub) (w : WithoutKinds (h .opening)) where
 
   looks-before : (p : ℕ) → look h p ≡ lookBefore h p
   unfolding seenBy
-  looks-before p = λ i.
-      record {
-        party = look h p .party;
-        kind = kindIn (w .kinds i) p;
-        slot = look h p .slot;
-        seat = look h p .seat;
-        waiter = look h p .waiter;
-        figures = look h p .figures;
-        named = look h p .named;
-        radio = look h p .radio;
-        stocked = look h p .stocked;
-      }
+  looks-before p = λ i. withKind (kindIn (w .kinds i) p) (look h p)
 
   pub called-before : (c : Call) → called h c ≡ calledBefore h c
   unfolding calledBefore

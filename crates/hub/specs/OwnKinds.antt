@@ -15,7 +15,7 @@ use Rattle.hub.specs.Answers.{printed}
 use Rattle.hub.specs.Calls.{answerOf, apply, called, checked, isFull}
 use Rattle.hub.specs.Fits.{stateFits}
 use Rattle.hub.specs.Kinds.{builtIn, hasDesk, kindIn, kindsKnown}
-use Rattle.hub.specs.Look.{look}
+use Rattle.hub.specs.Look.{look, withKind}
 use Rattle.hub.specs.Opening.{linkTests, opening, openingIf}
 use Rattle.hub.specs.Radios.{poolAfter}
 use Rattle.hub.specs.Schedule.{answers, run}
@@ -41,19 +41,7 @@ openingBefore o = openingIf (linkTests o) o
 
 -- A party's kind was that of the table, whatever kinds the record holds.
 abbrev pub lookBefore : Hub → ℕ → Sight
-lookBefore h p =
-    let s = look h p in
-    record {
-      party = s .party;
-      kind = kindIn builtIn p;
-      slot = s .slot;
-      seat = s .seat;
-      waiter = s .waiter;
-      figures = s .figures;
-      named = s .named;
-      radio = s .radio;
-      stocked = s .stocked;
-    }
+lookBefore h p = withKind (kindIn builtIn p) (look h p)
 
 -- A call by what was found of the record, and by what it looked at.
 abbrev pub calledBy : Bool → Sight → Hub → Call → Outcome

@@ -27,7 +27,7 @@ use Rattle.hub.specs.declared.record.PlaceSlot.{PlaceSlot}
 use Rattle.hub.specs.Basics.{bit}
 use Rattle.hub.specs.Demand3.{AllBelow}
 use Rattle.hub.specs.Ledger.{phaseIn, phaseAfter, phasesAfter, counterAfter, servedAfter}
-use Rattle.hub.specs.Look.{seenBy}
+use Rattle.hub.specs.Look.{seenBy, withNamed}
 use Rattle.hub.specs.Phases.{byTicket, byWaiter, isOneOf, isPlaceOf, isFree, isHolding}
 use Rattle.hub.specs.Phases.{isWaiting, ticketOf}
 use Rattle.hub.specs.Queue.{Queue, look, phases, places, withParts, write}
@@ -75,19 +75,7 @@ module _ (k : ℕ) (m : Queue) (p : ℕ) (l : p < m .opening .parties) (inv : In
 
   -- What the party sees, had the hub radios or not.
   abbrev seeing : Bool → Sight
-  seeing v =
-      let s = look m p in
-      record {
-        party = s .party;
-        kind = s .kind;
-        slot = s .slot;
-        seat = s .seat;
-        waiter = s .waiter;
-        figures = s .figures;
-        named = v;
-        radio = s .radio;
-        stocked = s .stocked;
-      }
+  seeing v = withNamed v (look m p)
 
   -- Rows on the counter alone. The ticket next issued stands for all: nothing happens to it.
   asked : (u v : Bool) → aboveZero (m .figures .counter) ≡ u → m .opening .named ≡ v

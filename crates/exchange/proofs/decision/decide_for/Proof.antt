@@ -7,6 +7,7 @@ use lib.Dec.{ltb, leb}
 use Rattle.hub.specs.declared.moves.Op.{Op}
 use Rattle.hub.specs.declared.moves.Sight.{Sight}
 use Rattle.hub.specs.declared.record.PartySlot.{PartySlot}
+use Rattle.hub.specs.Look.{sightFrom}
 use Rattle.hub.specs.Record.{PARTIES, freeSlot}
 use Rattle.hub.specs.Table.{decide}
 use Rattle.encoding.specs.Frame.{opOf}
@@ -33,17 +34,7 @@ returns c =
     let w = c .before .before in
     let a = w .before .before .args in
     let seen : PartySlot → Sight = λ waiter.
-    record {
-      party = a .party;
-      kind = a .kind;
-      slot = a .slot;
-      seat = a .seat;
-      waiter = waiter;
-      figures = a .figures;
-      named = a .named;
-      radio = a .radio;
-      stocked = leb 1 (a .stored);
-    } in
+    sightFrom (a .party) (a .kind) (a .slot) (a .seat) waiter (a .figures) (a .named) (a .radio) (leb 1 (a .stored)) in
     c .decide-by .ensures
     ∙ ap (λ (o : Op). effectOf (decide o (a .full) (seen (w .slot-within .result))) (seen (w .slot-within .result)))
     (c .before .op-of .ensures)
