@@ -50,7 +50,8 @@ use Rattle.hub.proofs.Invariant.Schedules.{Agrees, entered, next-good}
 use Rattle.hub.proofs.Invariant.Schedules.{fresh-inv, fresh-agrees}
 use Rattle.hub.proofs.Invariant.Held.{held-most, way-whole, all-held}
 use Rattle.hub.proofs.Radios.Kept.{fresh-kept}
-use Rattle.hub.proofs.Window.Shown.{Reached, Tracks, low}
+use Rattle.hub.proofs.Window.Tracked.{low}
+use Rattle.hub.proofs.Window.Shown.{Reached, Tracks, tracked}
 use Rattle.hub.proofs.Window.Reached.{reached-fits}
 use Rattle.hub.proofs.Window.Followed.{Follows, follows, called-reached}
 
@@ -195,7 +196,7 @@ pub ring-count : (k : ℕ) (h : Hub) (m : Queue) → Tracks k h m → (w : Place
     → w Place.Empty ≡ 0 → w Place.Done ≡ 0 → cellSum w m ≡ weight w (placesOf (h .places))
 ring-count k h m r w =
     ring-sum (h .oldest) (h .places) (m .cells) (r .shows .window) (r .size)
-    (omega (arith, low k h m r, near (r .inv .tickets))) w
+    (omega (arith, low (tracked r), near (r .inv .tickets))) w
 
 -- The unserved waits are those that will draw a ticket and those that live with one.
 unserved-count : (l : List Phase) → count isUnserved l ≡ weight suspending l + weight live l

@@ -1,5 +1,7 @@
 -- Why the hub answers as the unbounded queue does, and why every record that it reaches fits.
 pub mod Ring
+pub mod Tracked
+pub mod Tidied
 pub mod Shown
 pub mod Moved
 pub mod Reached

@@ -46,7 +46,8 @@ use Rattle.hub.proofs.Invariant.Weights.{TICKETS, cellSum, sum, suspending, up}
 use Rattle.hub.proofs.Laws.Lists.{weight-le, weight-one, weight-scale}
 use Rattle.hub.proofs.Laws.Phases.{by-ticket, one-or, ticketed, waiterOf}
 use Rattle.hub.proofs.Laws.Seats.{written-size}
-use Rattle.hub.proofs.Window.Shown.{Reached, has-place, high, low, read-same}
+use Rattle.hub.proofs.Window.Tracked.{has-place, high, low}
+use Rattle.hub.proofs.Window.Shown.{Reached, tracked, read-same}
 use Rattle.operations.specs.AtRest.{OnRest}
 use Rattle.operations.proofs.Rest.{AtRest}
 use Rattle.operations.proofs.Ring.{Tidy, reclaimed-tidy}
@@ -277,7 +278,7 @@ module _ (k : ℕ) (h : Hub) (m : Queue) (r : Reached k h m) (tidy : Tidy (ringO
   oldest = go (decLe resumed (h .oldest))
     where
       go : Dec (resumed ≤ h .oldest) → h .oldest ≡ resumed
-      go (yes i) = omega (arith, low k h m (r .tracks))
+      go (yes i) = omega (arith, low (tracked (r .tracks)))
       go (no i) =
           let c = done-cell (places m (h .oldest))
           (omega (
@@ -310,7 +311,7 @@ module _ (k : ℕ) (h : Hub) (m : Queue) (r : Reached k h m) (tidy : Tidy (ringO
       stood = mine (inv .tickets) p t (Waiting t) e (omega (arith, same-self t))
 
       place : (h .oldest ≤ t) × (t < h .oldest + PLACES)
-      place = has-place k h m (r .tracks) p t (omega (arith, owns))
+      place = has-place (tracked (r .tracks)) p t (omega (arith, owns))
 
       q : ℕ
       q = waiterOf (places m t)
@@ -330,7 +331,7 @@ module _ (k : ℕ) (h : Hub) (m : Queue) (r : Reached k h m) (tidy : Tidy (ringO
   line t a b = go (decLe 1 (sum (own t) m))
     where
       below : t < h .oldest + PLACES
-      below = omega (arith, high k h m (r .tracks))
+      below = omega (arith, high (tracked (r .tracks)))
 
       go : Dec (1 ≤ sum (own t) m)
           → (places m t ≡ Cancelled) ⊎ ((p : ℕ) × (phaseIn (phases m) p ≡ Waiting t))
@@ -420,13 +421,13 @@ module _ (k : ℕ) (h : Hub) (m : Queue) (r : Reached k h m) (tidy : Tidy (ringO
         unretired = tidy .unretired;
         oldest = oldest ∙ sym (fig (λ f. f .resumed));
         drawn = omega (arith, drawn, fig (λ f. f .resumed), fig (λ f. f .issued));
-        room = omega (arith, high k h m (r .tracks), fig (λ f. f .issued));
+        room = omega (arith, high (tracked (r .tracks)), fig (λ f. f .issued));
         waits = λ p t e. placed-waits p t (waits p t (shown p (Waiting t) e));
         line = λ t a b.
             in-line t (omega (arith, fig (λ f. f .resumed))) (omega (arith, fig (λ f. f .issued)));
         spare = λ i.
             ap (readPlace (h .places)) (fig (λ f. f .issued))
-            ∙ place-cell issued Empty (omega (arith, low k h m (r .tracks)))
+            ∙ place-cell issued Empty (omega (arith, low (tracked (r .tracks))))
             (omega (arith, fig (λ f. f .issued))) spare;
         holders = omega (arith, holders, held, r .tracks .permits, fig (λ f. up (f .counter)));
         waiters = omega (arith, waiters, waiting, fig (λ f. down (f .counter)));
@@ -451,7 +452,7 @@ module _ (k : ℕ) (h : Hub) (m : Queue) (r : Reached k h m) (tidy : Tidy (ringO
               → (readPlace (h .places) t ≡ Cancelled)
               ⊎ ((p : ℕ) × (readSlot (h .slots) p .phase ≡ Waiting t))
           go (inl e) =
-              inl (place-cell t Cancelled (omega (arith, oldest)) (omega (arith, high k h m (r .tracks))) e)
+              inl (place-cell t Cancelled (omega (arith, oldest)) (omega (arith, high (tracked (r .tracks)))) e)
           go (inr p) = inr (p .0, read-same k h m (r .tracks) (p .0) ∙ p .1)
 
 pub at-rest : OnRest AtRest

@@ -18,7 +18,6 @@ use Rattle.hub.specs.declared.record.PartySlot.{PartySlot}
 use Rattle.hub.specs.declared.record.Phase.{Phase}
 use Rattle.hub.specs.declared.record.Place.{Place}
 use Rattle.hub.specs.declared.record.Place.the-variants.{Empty, Cancelled, Done}
-use Rattle.hub.specs.declared.record.PlaceSlot.{PlaceSlot}
 use Rattle.hub.specs.declared.record.Pool.{Pool}
 use Rattle.hub.specs.Answers.{printed, refusalCode}
 use Rattle.hub.specs.Basics.{weight}
@@ -28,26 +27,26 @@ use Rattle.hub.specs.Ledger.{Ledger, opened, phaseIn, succeeded, enter}
 use Rattle.hub.specs.Ledger.{phasesAfter, counterAfter, servedAfter}
 use Rattle.hub.specs.Look.{seenBy}
 use Rattle.hub.specs.Phases.{isOneOf, isPlaceOf, isCancelled}
-use Rattle.hub.specs.Queue.{Queue, phases, places, write, canSkip, skipped, skip, tidied}
+use Rattle.hub.specs.Queue.{Queue, phases, places, canSkip, skipped, skip, tidied}
 use Rattle.hub.specs.Queue.{acted, placed, woken, apply, look, moveOf, withPool, next, fresh}
-use Rattle.hub.specs.Record.{PARTIES, freeSlot, phasesOf, withPlace}
+use Rattle.hub.specs.Record.{PARTIES, freeSlot, phasesOf}
 use Rattle.hub.specs.Table.{decide}
 use Rattle.hub.proofs.Laws.Bools.{if-true, if-false}
 use Rattle.hub.proofs.Laws.Lists.{weight-replicate}
 use Rattle.hub.proofs.Laws.Phases.{place-of}
 use Rattle.hub.proofs.Laws.Printed.{few-refusals}
-use Rattle.hub.proofs.Laws.Ranges.{sumFrom, sum-set, sum-zero}
+use Rattle.hub.proofs.Laws.Ranges.{sumFrom, sum-zero}
 use Rattle.hub.proofs.Laws.Slots.{read-phase}
 use Rattle.hub.proofs.Invariant.Weights.{same-self, lt-no, lt-suc, pick, most}
 use Rattle.hub.proofs.Invariant.Weights.{holding, resuming, refusing, drawing, suspending}
 use Rattle.hub.proofs.Invariant.Weights.{live, handing, cancelling, radioed, own, hand, refuse, stage}
 use Rattle.hub.proofs.Invariant.Weights.{sum, permitCell, cancelledCell, refusedCell, cellSum}
 use Rattle.hub.proofs.Invariant.Weights.{TICKETS}
-use Rattle.hub.proofs.Invariant.Tickets.{near}
-use Rattle.hub.proofs.Invariant.Keep.{Inv, ShiftIn, keep}
+use Rattle.hub.proofs.Invariant.Keep.{Inv, keep}
 use Rattle.hub.proofs.Invariant.Potential.{absent-rests}
-use Rattle.hub.proofs.Invariant.Rows.{Good, Next, write-same, write-other}
+use Rattle.hub.proofs.Invariant.Rows.{Good, Next}
 use Rattle.hub.proofs.Invariant.Walk.{decide-good, all-more}
+use Rattle.hub.proofs.Invariant.Skipped.{skipped-shift}
 
 pub is-cancelled : (a : Place) → isCancelled a ≡ true → a ≡ Cancelled
 is-cancelled = place-of Cancelled
@@ -70,36 +69,10 @@ module _ (k : ℕ) (m : Queue) (inv : Inv k m) (e : places m (m .figures .resume
   abbrev resumed : ℕ
   resumed = m .figures .resumed
 
-  abbrev done : PlaceSlot
-  done = withPlace Done (m .cells resumed)
-
-  skipped-shift : ShiftIn m (skipped m) 0 still still resumed Cancelled Done
-  skipped-shift =
-      record {
-        size = refl;
-        was = refl;
-        now = refl;
-        others = λ q y. refl;
-        sums = λ w. refl;
-        cellWas = e;
-        cellNow = ap (λ (c : PlaceSlot). c .place) (write-same (m .cells) resumed done);
-        cellOthers = λ u y. ap (λ (c : PlaceSlot). c .place) (write-other (m .cells) resumed done u y);
-        cellSums = λ w.
-            omega (
-              arith,
-              sum-set (λ u. w (places m u)) (λ u. w (write (m .cells) resumed done u .place)) 0
-                  TICKETS resumed (omega arith) (omega (arith, near (inv .tickets)))
-                  (λ u y. ap (λ (c : PlaceSlot). w (c .place))
-                  (sym (write-other (m .cells) resumed done u y))),
-              ap w e,
-              ap (λ (c : PlaceSlot). w (c .place)) (write-same (m .cells) resumed done),
-            );
-      }
-
-  pub skipped-inv : Inv k (skipped m)
+  skipped-inv : Inv k (skipped m)
   unfolding isPlaceOf
   skipped-inv =
-      keep k m (skipped m) 0 still still resumed Cancelled Done inv skipped-shift
+      keep k m (skipped m) 0 still still resumed Cancelled Done inv (skipped-shift (inv .tickets) e still refl)
       (omega (
         arith,
         same-self resumed,
@@ -121,8 +94,8 @@ module _ (k : ℕ) (m : Queue) (inv : Inv k m) (e : places m (m .figures .resume
         opening = refl;
         slots = refl;
         counter = refl;
-        permits = omega (arith, skipped-shift .cellSums permitCell);
-        refusals = omega (arith, skipped-shift .cellSums refusedCell);
+        permits = omega (arith, skipped-shift (inv .tickets) e _ refl .cellSums permitCell);
+        refusals = omega (arith, skipped-shift (inv .tickets) e _ refl .cellSums refusedCell);
         issued = refl;
         resumed = omega arith;
       }

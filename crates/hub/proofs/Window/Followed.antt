@@ -43,8 +43,9 @@ use Rattle.hub.proofs.Invariant.Rows.{Good, Next, isAcquire}
 use Rattle.hub.proofs.Invariant.Walk.{decide-good}
 use Rattle.hub.proofs.Invariant.Schedules.{with-pool-inv}
 use Rattle.hub.proofs.Radios.Kept.{called-kept}
-use Rattle.hub.proofs.Window.Shown.{Reached, Tracks, look-same}
-use Rattle.hub.proofs.Window.Moved.{placed-window, tidied-tracks}
+use Rattle.hub.proofs.Window.Tracked.{placed-window}
+use Rattle.hub.proofs.Window.Shown.{Reached, Tracks, tracked, look-same}
+use Rattle.hub.proofs.Window.Moved.{tidied-tracks}
 use Rattle.hub.proofs.Window.Reached.{reached-fits}
 
 -- What the hub's move v does beside the queue's: the same, unless it answers 7, and then nothing.
@@ -153,7 +154,7 @@ module _ (k : ℕ) (h : Hub) (m : Queue) (r : Tracks k h m) (c : Call) where
         })
         (r .size) refl
     apply-tracks (Put a x) g =
-        let q = placed-window k h m r (c .party) phase own-phase a in
+        let q = placed-window (tracked r) (c .party) phase own-phase a in
         changed (x .answer) _ _ g
         (record {
           opening = r .shows .opening;
@@ -164,7 +165,7 @@ module _ (k : ℕ) (h : Hub) (m : Queue) (r : Tracks k h m) (c : Call) where
         })
         (q .1) refl
     apply-tracks (Wake w s a x) g =
-        let q = placed-window k h m r (c .party) phase own-phase a in
+        let q = placed-window (tracked r) (c .party) phase own-phase a in
         changed (x .answer) _ _ g
         (record {
           opening = r .shows .opening;

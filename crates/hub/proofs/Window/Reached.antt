@@ -50,7 +50,8 @@ use Rattle.hub.proofs.Invariant.Walk.{decide-good}
 use Rattle.hub.proofs.Invariant.Held.{short}
 use Rattle.hub.proofs.Radios.Kept.{Kept}
 use Rattle.hub.proofs.Radios.Length.{kept-length}
-use Rattle.hub.proofs.Window.Shown.{Reached, Tracks, low, high, has-place, read-same, look-same}
+use Rattle.hub.proofs.Window.Tracked.{low, high, has-place}
+use Rattle.hub.proofs.Window.Shown.{Reached, Tracks, tracked, read-same, look-same}
 
 -- A good move is one that the table lists.
 good-listed : (k : ℕ) (o : Op) (p : ℕ) (m : Queue) (f : Phase) (v : Move)
@@ -119,8 +120,8 @@ module _ (k : ℕ) (h : Hub) (m : Queue) (r : Tracks k h m) where
       let d = h .figures .resumed in
       let few = r .inv .tickets .few in
       let tickets = near (r .inv .tickets) in
-      let above = low k h m r in
-      let below = high k h m r in
+      let above = low (tracked r) in
+      let below = high (tracked r) in
       let same-n = ap (λ (o : Opening). o .parties) (r .shows .opening) in
       let same-i = fig (λ f. f .issued) in
       let same-d = fig (λ f. f .resumed) in
@@ -141,7 +142,7 @@ module _ (k : ℕ) (h : Hub) (m : Queue) (r : Tracks k h m) where
       → inWindow (h .oldest) e t ≡ true
   unfolding inWindow
   in-window p t e f z o b =
-      let w = has-place k h m r p t (subst (λ (g : Phase). 1 ≤ own t g + hand t g) (sym z) o) in
+      let w = has-place (tracked r) p t (subst (λ (g : Phase). 1 ≤ own t g + hand t g) (sym z) o) in
       both _ _
       (both _ _ (le-leb (h .oldest) t (w .0)) (lt-ltb t (h .oldest + PLACES) (w .1)))
       (lt-ltb t e b)

@@ -12,24 +12,21 @@ use Rattle.hub.specs.declared.answers.Refusal.{Refusal}
 use Rattle.hub.specs.declared.record.Phase.{Phase}
 use Rattle.hub.specs.declared.record.Place.{Place}
 use Rattle.hub.specs.declared.record.Place.the-variants.{Empty, Cancelled, Done}
-use Rattle.hub.specs.declared.record.PlaceSlot.{PlaceSlot}
 use Rattle.hub.specs.Answers.{printed, refusalCode}
 use Rattle.hub.specs.Basics.{bit, weight}
 use Rattle.hub.specs.Ledger.{phaseIn}
 use Rattle.hub.specs.Phases.{isOneOf, isPlaceOf}
-use Rattle.hub.specs.Queue.{write}
-use Rattle.hub.specs.Record.{PARTIES, withPlace}
+use Rattle.hub.specs.Record.{PARTIES}
 use Rattle.hub.proofs.Laws.Bools.{if-true, if-false}
 use Rattle.hub.proofs.Laws.Lists.{weight-replicate}
 use Rattle.hub.proofs.Laws.Printed.{no-refusal}
-use Rattle.hub.proofs.Laws.Ranges.{sumFrom, sum-set, sum-zero}
-use Rattle.hub.proofs.Invariant.Rows.{write-same, write-other}
+use Rattle.hub.proofs.Laws.Ranges.{sumFrom, sum-zero}
 use Rattle.hub.proofs.Invariant.Schedules.{is-cancelled, refusal-code}
 use Rattle.hub.proofs.Invariant.Weights.{same-self, lt-no, lt-suc, pick, most, TICKETS}
 use Rattle.hub.proofs.Invariant.Weights.{resuming, refusing, drawing, suspending}
 use Rattle.hub.proofs.Invariant.Weights.{live, handing, cancelling, own, hand, stage}
 use Rattle.hub.proofs.Invariant.Weights.{permitCell, cancelledCell, refusedCell}
-use Rattle.hub.proofs.Invariant.Tickets.{near}
+use Rattle.hub.proofs.Invariant.Skipped.{skipped-shift}
 use Rattle.latch.specs.declared.moves.LatchCall.{LatchCall}
 use Rattle.latch.specs.declared.moves.LatchOp.{LatchOp}
 use Rattle.latch.specs.declared.record.LatchSlot.{LatchSlot}
@@ -64,47 +61,21 @@ module _ (m : Queue) (inv : Inv m) (e : places m (m .figures .resumed) ≡ Cance
   abbrev resumed : ℕ
   resumed = m .figures .resumed
 
-  abbrev done : PlaceSlot
-  done = withPlace Done (m .cells resumed)
-
-  skipped-shift : ShiftIn m (skipped m) 0 still still resumed Cancelled Done
-  skipped-shift =
+  still-shift : ShiftIn m (skipped m) 0 still still resumed Cancelled Done
+  still-shift =
       record {
         phases =
-            record {
-              size = refl;
-              was = first-phase;
-              now = first-phase;
-              others = λ q y. refl;
-              sums = λ w. refl;
-              cellWas = e;
-              cellNow = ap (λ (c : PlaceSlot). c .place) (write-same (m .cells) resumed done);
-              cellOthers = λ u y.
-                  ap (λ (c : PlaceSlot). c .place) (write-other (m .cells) resumed done u y);
-              cellSums = λ w.
-                  omega (
-                    arith,
-                    sum-set (λ u. w (places m u)) (λ u. w (write (m .cells) resumed done u .place)) 0
-                        TICKETS resumed (omega arith) (omega (arith, near (inv .tickets)))
-                        (λ u y. ap (λ (c : PlaceSlot). w (c .place))
-                        (sym (write-other (m .cells) resumed done u y))),
-                    ap w e,
-                    ap (λ (c : PlaceSlot). w (c .place)) (write-same (m .cells) resumed done),
-                  );
-            };
+            skipped-shift (inv .tickets) e (still .phase) (sym (unfold readSlot in read-phase (m .slots) 0));
         was = refl;
         now = refl;
         others = λ q y. refl;
         sums = λ w. refl;
       }
-    where
-      first-phase : phaseIn (phases m) 0 ≡ still .phase
-      first-phase = sym (unfold readSlot in read-phase (m .slots) 0)
 
-  pub skipped-inv : Inv (skipped m)
+  skipped-inv : Inv (skipped m)
   unfolding isPlaceOf
   skipped-inv =
-      keep m (skipped m) 0 still still resumed Cancelled Done inv skipped-shift
+      keep m (skipped m) 0 still still resumed Cancelled Done inv still-shift
       (omega (
         arith,
         same-self resumed,

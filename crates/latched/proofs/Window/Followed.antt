@@ -16,6 +16,7 @@ use Rattle.hub.specs.Phases.{drawsTicket}
 use Rattle.hub.specs.Refinement.{isSeven}
 use Rattle.hub.specs.Ring.{PLACES}
 use Rattle.hub.proofs.Invariant.Weights.{count-pick, drawing}
+use Rattle.hub.proofs.Window.Tracked.{placed-window}
 use Rattle.hub.proofs.Window.Followed.{not-seven}
 use Rattle.latch.specs.declared.moves.LatchCall.{LatchCall}
 use Rattle.latch.specs.declared.moves.LatchOp.{LatchOp}
@@ -38,8 +39,8 @@ use Rattle.latch.proofs.Laws.Slots.{read-phase}
 use Rattle.latched.proofs.Invariant.Weights.{sum}
 use Rattle.latched.proofs.Invariant.Rows.{Good, Next, isAwait}
 use Rattle.latched.proofs.Invariant.Walk.{decide-good}
-use Rattle.latched.proofs.Window.Shown.{Tracks, look-same}
-use Rattle.latched.proofs.Window.Moved.{placed-window, tidied-tracks}
+use Rattle.latched.proofs.Window.Shown.{Tracks, tracked, look-same}
+use Rattle.latched.proofs.Window.Moved.{tidied-tracks}
 use Rattle.latched.proofs.Window.Reached.{reached-fits}
 
 -- What the latch's move v does beside the queue's: the same, unless it answers 7, and then nothing.
@@ -101,7 +102,7 @@ module _ (h : Latch) (m : Queue) (r : Tracks h m) (c : LatchCall) where
         })
         (r .size) refl
     apply-tracks (Put a x) g =
-        let q = placed-window h m r (c .party) phase own-phase a in
+        let q = placed-window (tracked r) (c .party) phase own-phase a in
         changed (x .answer) _ _ g
         (record {
           parties = r .shows .parties;
@@ -111,7 +112,7 @@ module _ (h : Latch) (m : Queue) (r : Tracks h m) (c : LatchCall) where
         })
         (q .1) refl
     apply-tracks (Wake w s a x) g =
-        let q = placed-window h m r (c .party) phase own-phase a in
+        let q = placed-window (tracked r) (c .party) phase own-phase a in
         changed (x .answer) _ _ g
         (record {
           parties = r .shows .parties;

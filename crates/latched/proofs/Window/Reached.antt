@@ -25,6 +25,7 @@ use Rattle.hub.proofs.Laws.Ranges.{all-true}
 use Rattle.hub.proofs.Invariant.Weights.{same, same-self, same-eq, pick, one, drawing, resuming}
 use Rattle.hub.proofs.Invariant.Weights.{suspending, carrying, own, hand, stand}
 use Rattle.hub.proofs.Invariant.Tickets.{one-in, owner-below, hand-below, near, drawing-most, carried-most}
+use Rattle.hub.proofs.Window.Tracked.{low, high, has-place}
 use Rattle.latch.specs.declared.moves.LatchOp.{LatchOp}
 use Rattle.latch.specs.declared.moves.LatchSight.{LatchSight}
 use Rattle.latch.specs.declared.record.Latch.{Latch}
@@ -45,7 +46,7 @@ use Rattle.latch.proofs.Laws.Slots.{read-phase}
 use Rattle.latched.proofs.Invariant.Weights.{holding, left, slotSum}
 use Rattle.latched.proofs.Invariant.Rows.{Good, isListed, restsIf}
 use Rattle.latched.proofs.Invariant.Walk.{decide-good}
-use Rattle.latched.proofs.Window.Shown.{Tracks, low, high, has-place, read-same, look-same}
+use Rattle.latched.proofs.Window.Shown.{Tracks, tracked, read-same, look-same}
 
 -- A good move is one that the table lists.
 good-listed : (o : LatchOp) (p : ℕ) (m : Queue) (f : Phase) (v : Move) → Good o p m f v → isListed v ≡ true
@@ -138,8 +139,8 @@ module _ (h : Latch) (m : Queue) (r : Tracks h m) where
       let d = h .figures .resumed in
       let few = r .inv .tickets .few in
       let tickets = near (r .inv .tickets) in
-      let above = low h m r in
-      let below = high h m r in
+      let above = low (tracked r) in
+      let below = high (tracked r) in
       let same-n = r .shows .parties in
       let same-i = fig (λ f. f .issued) in
       let same-d = fig (λ f. f .resumed) in
@@ -162,7 +163,7 @@ module _ (h : Latch) (m : Queue) (r : Tracks h m) where
       → inWindow (h .oldest) e t ≡ true
   unfolding inWindow
   in-window p t e f z o b =
-      let w = has-place h m r p t (subst (λ (g : Phase). 1 ≤ own t g + hand t g) (sym z) o) in
+      let w = has-place (tracked r) p t (subst (λ (g : Phase). 1 ≤ own t g + hand t g) (sym z) o) in
       both _ _
       (both _ _ (le-leb (h .oldest) t (w .0)) (lt-ltb t (h .oldest + PLACES) (w .1)))
       (lt-ltb t e b)
