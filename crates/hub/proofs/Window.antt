@@ -2,6 +2,7 @@
 pub mod Ring
 pub mod Tracked
 pub mod Tidied
+pub mod Fitting
 pub mod Shown
 pub mod Moved
 pub mod Reached
