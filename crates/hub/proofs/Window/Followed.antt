@@ -2,9 +2,9 @@
 use Prim.Native.Nat.{ℕ, zero, suc, _+_, _≤_, _<_}
 use mathlib.Core.Path.{_≡_, refl, sym, ap, ap₂, subst, _∙_}
 use mathlib.Core.Bool.{Bool, true, false}
-use mathlib.Core.List.{List, [], _∷_}
+use mathlib.Core.List.{List}
 use native.Mathlib.Omega.{arith}
-use borrow.Author.Tests.{ltb-true, ltb-false, leb-false, eqb-true}
+use borrow.Author.Tests.{ltb-true, ltb-false, eqb-true}
 use lib.Dec.{ltb, leb, eqb}
 use lib.ListN.{length}
 use Rattle.hub.specs.declared.answers.Answer.{Answer}
@@ -16,34 +16,31 @@ use Rattle.hub.specs.declared.moves.Op.{Op}
 use Rattle.hub.specs.declared.moves.Op.the-variants.{Acquire, Step, Cancel, Release, Radio}
 use Rattle.hub.specs.declared.moves.Sight.{Sight}
 use Rattle.hub.specs.declared.opening.Opening.{Opening}
-use Rattle.hub.specs.declared.record.Figures.{Figures}
 use Rattle.hub.specs.declared.record.Hub.{Hub}
 use Rattle.hub.specs.declared.record.PartySlot.{PartySlot}
 use Rattle.hub.specs.declared.record.Phase.{Phase}
 use Rattle.hub.specs.declared.record.Pool.{Pool}
 use Rattle.hub.specs.Answers.{Printed, printed}
-use Rattle.hub.specs.Basics.{count}
 use Rattle.hub.specs.Calls.{isFull, checked, moveOf, answerOf, apply, tidied, called}
 use Rattle.hub.specs.Fits.{fits, kindsFit}
 use Rattle.hub.specs.Ledger.{phaseIn}
 use Rattle.hub.specs.Look.{look, seenBy}
 use Rattle.hub.specs.Opening.{radiosDiffer}
-use Rattle.hub.specs.Phases.{drawsTicket}
 use Rattle.hub.specs.Queue.{Queue, phases}
 use Rattle.hub.specs.Queue as queue
 use Rattle.hub.specs.Radios.{moved, poolAfter}
-use Rattle.hub.specs.Record.{phasesOf, readSlot, withPool, writeSlot}
+use Rattle.hub.specs.Record.{readSlot, withPool, writeSlot}
 use Rattle.hub.specs.Refinement.{Shows, isSeven}
 use Rattle.hub.specs.Ring.{PLACES}
 use Rattle.hub.specs.Table.{decide, acquire}
 use Rattle.hub.proofs.Laws.Opening.{kept-opening}
 use Rattle.hub.proofs.Laws.Slots.{read-phase}
-use Rattle.hub.proofs.Invariant.Weights.{drawing, sum, count-pick}
+use Rattle.hub.proofs.Invariant.Weights.{drawing, sum}
 use Rattle.hub.proofs.Invariant.Rows.{Good, Next, isAcquire}
 use Rattle.hub.proofs.Invariant.Walk.{decide-good}
 use Rattle.hub.proofs.Invariant.Schedules.{with-pool-inv}
 use Rattle.hub.proofs.Radios.Kept.{called-kept}
-use Rattle.hub.proofs.Window.Tracked.{placed-window}
+use Rattle.hub.proofs.Window.Tracked.{placed-window, room-left}
 use Rattle.hub.proofs.Window.Shown.{Reached, Tracks, tracked, look-same}
 use Rattle.hub.proofs.Window.Moved.{tidied-tracks}
 use Rattle.hub.proofs.Window.Reached.{reached-fits}
@@ -221,11 +218,8 @@ module _ (k : ℕ) (h : Hub) (m : Queue) (r : Tracks k h m) (c : Call) where
       made
       (omega (
         arith,
-        leb-false (h .oldest + PLACES)
-            (h .figures .issued + count drawsTicket (phasesOf (h .slots))) f,
-        ap (λ (g : Figures). g .issued) (r .shows .figures),
-        ap (λ (l : List PartySlot). count drawsTicket (phasesOf l)) (r .shows .slots),
-        count-pick (Phase.Acquiring ∷ Phase.Suspending ∷ Phase.AcquiringMarked ∷ Phase.SuspendingMarked ∷ []) (phases m),
+        room-left (phases m) (h .oldest) (m .figures .issued)
+            (sym (λ i. isFull (h .oldest) (r .shows .figures i .issued) (r .shows .slots i)) ∙ f),
         at-most (c .op),
       ))
       (decide o false seen) g e

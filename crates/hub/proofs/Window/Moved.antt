@@ -4,8 +4,6 @@ use mathlib.Core.Path.{_≡_, refl, sym, ap, subst}
 use mathlib.Core.Bool.{Bool, true, false, cond}
 use Rattle.hub.specs.declared.record.Figures.{Figures}
 use Rattle.hub.specs.declared.record.Hub.{Hub}
-use Rattle.hub.specs.declared.record.Place.{Place}
-use Rattle.hub.specs.declared.record.PlaceSlot.{PlaceSlot}
 use Rattle.hub.specs.Calls.{tidied}
 use Rattle.hub.specs.Queue.{Queue}
 use Rattle.hub.specs.Queue as queue
@@ -13,7 +11,7 @@ use Rattle.hub.specs.Table.{withResumed}
 use Rattle.hub.proofs.Invariant.Keep.{Inv}
 use Rattle.hub.proofs.Invariant.Schedules.{tidied-keeps}
 use Rattle.hub.proofs.Window.Shown.{Tracks, tracked}
-use Rattle.hub.proofs.Window.Tidied.{CellQueue, skipCells, tidied-tracked}
+use Rattle.hub.proofs.Window.Tidied.{CellQueue, cellsFrom, skipCells, tidied-tracked}
 
 -- The queue's loop moves its cells, and the next ticket to resume, alone.
 abbrev withCells : Queue → CellQueue → Queue
@@ -26,7 +24,7 @@ skip-cells (suc n) m = go (queue.canSkip m) (skip-cells n (queue.skipped m))
   where
     go : (b : Bool) {c : CellQueue} → queue.skip n (queue.skipped m) ≡ withCells m c
         → cond b (queue.skip n (queue.skipped m)) m
-        ≡ withCells m (cond b c (record { resumed = m .figures .resumed; cells = m .cells }))
+        ≡ withCells m (cond b c (cellsFrom (m .figures .resumed) (m .cells)))
     go true e = e
     go false e = refl
 

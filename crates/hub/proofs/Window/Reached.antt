@@ -4,7 +4,7 @@ use mathlib.Core.Path.{_≡_, refl, sym, ap, ap₂, subst, _∙_}
 use mathlib.Core.Bool.{Bool, true, false, cond, _||_}
 use native.Mathlib.Omega.{arith}
 use borrow.Author.Tests.{lt-ltb, le-leb, ltb-true, ltb-false, eq-eqb}
-use lib.Dec.{ltb, leb}
+use lib.Dec.{ltb}
 use lib.IntN.{ℤ, pos, negsuc}
 use Rattle.hub.specs.Moves.{Move}
 use Rattle.hub.specs.Moves.{Refuse, Tell, Act, Put, Wake}
@@ -14,18 +14,18 @@ use Rattle.hub.specs.declared.opening.Opening.{Opening}
 use Rattle.hub.specs.declared.record.Figures.{Figures}
 use Rattle.hub.specs.declared.record.Hub.{Hub}
 use Rattle.hub.specs.declared.record.Phase.{Phase}
-use Rattle.hub.specs.Basics.{allOf, bit, implies}
-use Rattle.hub.specs.Fits.{counterFits, figuresFit, ticketFits, placeListed}
+use Rattle.hub.specs.Basics.{bit, implies}
+use Rattle.hub.specs.Fits.{counterFits, figuresFit, ticketFits}
 use Rattle.hub.specs.Fits.{partyFits, placeFits, radiosFit, stateFits, fits}
 use Rattle.hub.specs.Ledger.{phaseIn}
 use Rattle.hub.specs.Look.{look, seenBy}
 use Rattle.hub.specs.Opening.{radiosDiffer}
-use Rattle.hub.specs.Phases.{isOneOf, isFree, isWaiting, ofRadios}
+use Rattle.hub.specs.Phases.{isOneOf, isFree, ofRadios}
 use Rattle.hub.specs.Queue.{Queue, phases}
 use Rattle.hub.specs.Queue as queue
 use Rattle.hub.specs.Radios.{rearranged}
 use Rattle.hub.specs.Record.{PARTIES, readSlot}
-use Rattle.hub.specs.Ring.{PLACES, readPlace}
+use Rattle.hub.specs.Ring.{PLACES}
 use Rattle.hub.specs.Table.{decide, step, stepIn}
 use Rattle.hub.proofs.Laws.Bools.{both, first, passed}
 use Rattle.hub.proofs.Laws.Lists.{weight-length, weight-add}
@@ -33,9 +33,7 @@ use Rattle.hub.proofs.Laws.Phases.{every-phase}
 use Rattle.hub.proofs.Laws.Ranges.{all-true}
 use Rattle.hub.proofs.Laws.Slots.{read-phase}
 use Rattle.hub.proofs.Laws.Table.{isListed, listed-is-tabled}
-use Rattle.hub.proofs.Invariant.Weights.{same, up, down, pick, one, drawing}
-use Rattle.hub.proofs.Invariant.Weights.{suspending, live, radioed}
-use Rattle.hub.proofs.Invariant.Weights.{sum, has-ticket}
+use Rattle.hub.proofs.Invariant.Weights.{up, down, pick, suspending, live, radioed}
 use Rattle.hub.proofs.Invariant.Potential.{restsIf}
 use Rattle.hub.proofs.Invariant.Rows.{Good}
 use Rattle.hub.proofs.Invariant.Walk.{decide-good}

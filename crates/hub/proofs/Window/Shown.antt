@@ -5,18 +5,15 @@ use mathlib.Core.Bool.{true}
 use mathlib.Core.List.{List}
 use lib.Dec.{leb}
 use lib.ListN.{length}
-use Rattle.hub.specs.declared.record.Figures.{Figures}
 use Rattle.hub.specs.declared.record.Hub.{Hub}
 use Rattle.hub.specs.declared.record.PartySlot.{PartySlot}
-use Rattle.hub.specs.declared.record.Place.{Place}
-use Rattle.hub.specs.declared.record.PlaceSlot.{PlaceSlot}
 use Rattle.hub.specs.Fits.{kindsFit}
 use Rattle.hub.specs.Kinds.{kindIn}
 use Rattle.hub.specs.Ledger.{phaseIn}
 use Rattle.hub.specs.Look.{look, seenBy}
 use Rattle.hub.specs.Opening.{radiosDiffer}
 use Rattle.hub.specs.Phases.{byTicket, byWaiter}
-use Rattle.hub.specs.Queue.{Queue, phases, places}
+use Rattle.hub.specs.Queue.{Queue, phases}
 use Rattle.hub.specs.Queue as queue
 use Rattle.hub.specs.Radios.{handOf}
 use Rattle.hub.specs.Record.{emptySeat, freeSlot, phasesOf, readSlot}

@@ -27,14 +27,18 @@ pub record CellQueue : Type 0 where
   pub resumed : ℕ
   pub cells : ℕ → PlaceSlot
 
+abbrev pub cellsFrom : ℕ → (ℕ → PlaceSlot) → CellQueue
+cellsFrom t g = record { resumed = t; cells = g }
+
+abbrev pub skippedAt : (ℕ → PlaceSlot) → ℕ → ℕ → PlaceSlot
+skippedAt g t = write g t (withPlace Done (g t))
+
 -- Cancelled cells from ticket t on are skipped, at most n of them.
 unfoldable pub skipCells : ℕ → ℕ → (ℕ → PlaceSlot) → CellQueue
-skipCells zero t g = record { resumed = t; cells = g }
-skipCells (suc n) t g =
-    cond (isCancelled (g t .place)) (skipCells n (t + 1) (write g t (withPlace Done (g t))))
-    (record { resumed = t; cells = g })
+skipCells zero t g = cellsFrom t g
+skipCells (suc n) t g = cond (isCancelled (g t .place)) (skipCells n (t + 1) (skippedAt g t)) (cellsFrom t g)
 
-abbrev ring : ℕ → ℕ → List PlaceSlot → Ring
+abbrev pub ring : ℕ → ℕ → List PlaceSlot → Ring
 ring t o a = record { resumed = t; oldest = o; places = a }
 
 -- A ring that tracks such a queue.
@@ -63,7 +67,7 @@ module _ {l : List Phase} {g : ℕ → PlaceSlot} {o : ℕ} {a : List PlaceSlot}
   issued-more c = lt-pos r i (omega (arith, x .tickets .at r .owned, ap spent c))
 
   skipped-tracked : g r .place ≡ Cancelled
-      → Tracked l (write g r (withPlace Done (g r))) o (skipped (ring r o a) .places) n i (r + 1) b q e
+      → Tracked l (skippedAt g r) o (skipped (ring r o a) .places) n i (r + 1) b q e
   skipped-tracked c =
       record {
         size = written-size a (x .size) r _;
@@ -93,22 +97,21 @@ module _ {l : List Phase} {g : ℕ → PlaceSlot} {o : ℕ} {a : List PlaceSlot}
       }
 
 -- Both first loops run alike, however much fuel each has beyond the tickets issued.
-skip-tracked : (k k′ : ℕ) {l : List Phase} {g : ℕ → PlaceSlot} {o : ℕ} {a : List PlaceSlot} {n i r b q e : ℕ}
-    → Tracked l g o a n i r b q e → i ≤ r + k → i ≤ r + k′
+skip-tracked : (k k′ : ℕ) {l : List Phase} {g : ℕ → PlaceSlot} {o : ℕ} {a : List PlaceSlot}
+    {n i r b q e : ℕ} → Tracked l g o a n i r b q e → i ≤ r + k → i ≤ r + k′
     → TrackedRing l (skip k (ring r o a)) (skipCells k′ r g) n i b q e
 unfolding skip skipCells
 skip-tracked zero zero x y z = record { resumed = refl; tracked = x }
 skip-tracked zero (suc k′) {l} {g} {o} {a} {n} {i} {r} {b} {q} {e} x y z = go _ refl
   where
     go : (d : Bool) → isCancelled (g r .place) ≡ d
-        → TrackedRing l (ring r o a)
-        (cond d (skipCells k′ (r + 1) (write g r (withPlace Done (g r)))) (record { resumed = r; cells = g })) n i b q e
+        → TrackedRing l (ring r o a) (cond d (skipCells k′ (r + 1) (skippedAt g r)) (cellsFrom r g)) n i b q e
     go false w = record { resumed = refl; tracked = x }
     go true w = let v : ⊥ = omega (arith, issued-more x (place-of Cancelled _ w)) in absurd v
 skip-tracked (suc k) zero {l} {g} {o} {a} {n} {i} {r} {b} {q} {e} x y z = go _ refl
   where
     go : (d : Bool) → canSkip (ring r o a) ≡ d
-        → TrackedRing l (cond d (skip k (skipped (ring r o a))) (ring r o a)) (record { resumed = r; cells = g }) n i b q e
+        → TrackedRing l (cond d (skip k (skipped (ring r o a))) (ring r o a)) (cellsFrom r g) n i b q e
     go false w = record { resumed = refl; tracked = x }
     go true w =
         let v : ⊥ = omega (arith, issued-more x (place-of Cancelled _ (sym (skip-test x) ∙ w))) in absurd v
@@ -116,7 +119,7 @@ skip-tracked (suc k) (suc k′) {l} {g} {o} {a} {n} {i} {r} {b} {q} {e} x y z =
     subst
     (λ (d : Bool).
     TrackedRing l (cond (canSkip (ring r o a)) (skip k (skipped (ring r o a))) (ring r o a))
-    (cond d (skipCells k′ (r + 1) (write g r (withPlace Done (g r)))) (record { resumed = r; cells = g })) n i b q e)
+    (cond d (skipCells k′ (r + 1) (skippedAt g r)) (cellsFrom r g)) n i b q e)
     (skip-test x)
     (go _ refl
     (λ w. skip-tracked k k′ (skipped-tracked x (place-of Cancelled _ (sym (skip-test x) ∙ w))) (omega arith)
@@ -124,9 +127,9 @@ skip-tracked (suc k) (suc k′) {l} {g} {o} {a} {n} {i} {r} {b} {q} {e} x y z =
   where
     go : (d : Bool) → canSkip (ring r o a) ≡ d
         → (canSkip (ring r o a) ≡ true
-        → TrackedRing l (skip k (skipped (ring r o a))) (skipCells k′ (r + 1) (write g r (withPlace Done (g r)))) n i b q e)
+        → TrackedRing l (skip k (skipped (ring r o a))) (skipCells k′ (r + 1) (skippedAt g r)) n i b q e)
         → TrackedRing l (cond d (skip k (skipped (ring r o a))) (ring r o a))
-        (cond d (skipCells k′ (r + 1) (write g r (withPlace Done (g r)))) (record { resumed = r; cells = g })) n i b q e
+        (cond d (skipCells k′ (r + 1) (skippedAt g r)) (cellsFrom r g)) n i b q e
     go false w f = record { resumed = refl; tracked = x }
     go true w f = f w
 
@@ -147,7 +150,7 @@ retire-tracked (suc k) {l} {s} {c} {n} {i} {b} {q} {e} x =
 -- Tidied, the ring tracks the cells as far as the queue skips them.
 pub tidied-tracked : {l : List Phase} {g : ℕ → PlaceSlot} {o : ℕ} {a : List PlaceSlot} {n i r b q e : ℕ} (t : ℕ)
     → t ≡ r → Tracked l g o a n i r b q e
-    → TrackedRing l (reclaimed (record { resumed = t; oldest = o; places = a })) (skipCells i r g) n i b q e
+    → TrackedRing l (reclaimed (ring t o a)) (skipCells i r g) n i b q e
 tidied-tracked {l} {g} {o} {a} {n} {i} {r} {b} {q} {e} t z x =
     subst (λ (u : ℕ). TrackedRing l (reclaimed (ring u o a)) (skipCells i r g) n i b q e) (sym z)
     (retire-tracked PLACES

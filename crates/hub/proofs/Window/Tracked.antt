@@ -3,22 +3,25 @@
 use Prim.Native.Nat.{ℕ, zero, suc, _+_, _≤_, _<_}
 use mathlib.Core.Path.{_≡_, refl, sym, ap, subst, subst₂, _∙_}
 use mathlib.Core.Bool.{Bool, true, false, cond}
-use mathlib.Core.List.{List}
+use mathlib.Core.List.{List, [], _∷_}
 use native.Mathlib.Decide.{decLe}
 use native.Mathlib.Omega.{arith}
+use borrow.Author.Tests.{leb-false}
+use lib.Dec.{leb}
 use lib.ListN.{length}
 use Rattle.hub.specs.declared.record.Phase.{Phase}
 use Rattle.hub.specs.declared.record.PlaceSlot.{PlaceSlot}
-use Rattle.hub.specs.Basics.{bit, weight}
+use Rattle.hub.specs.Basics.{bit, count, weight}
 use Rattle.hub.specs.Ledger.{phaseIn}
-use Rattle.hub.specs.Phases.{byTicket, isOneOf, isPlaceOf, ticketOf}
+use Rattle.hub.specs.Phases.{byTicket, drawsTicket, isOneOf, isPlaceOf, ticketOf}
 use Rattle.hub.specs.Queue.{write}
 use Rattle.hub.specs.Record.{emptySeat}
 use Rattle.hub.specs.Refinement.{Window}
 use Rattle.hub.specs.Ring.{PLACES, readSeat, writeSeat}
 use Rattle.hub.proofs.Laws.Phases.{by-ticket, ticketed}
 use Rattle.hub.proofs.Laws.Seats.{written-size}
-use Rattle.hub.proofs.Invariant.Weights.{lt-le, lt-pos, pick, drawing, own, hand, spent, served, has-ticket}
+use Rattle.hub.proofs.Invariant.Weights.{lt-le, lt-pos, pick, drawing, own, hand, spent, served}
+use Rattle.hub.proofs.Invariant.Weights.{count-pick, has-ticket}
 use Rattle.hub.proofs.Invariant.Tickets.{Tickets, one-in, drawing-most, resumed-most}
 use Rattle.hub.proofs.Window.Ring.{window-write}
 
@@ -30,6 +33,16 @@ pub record Tracked (l : List Phase) (g : ℕ → PlaceSlot) (o : ℕ) (a : List 
   pub window : Window o a g
   pub tickets : Tickets l (λ t. g t .place) n i r b q e
   pub room : i + weight drawing l ≤ o + PLACES
+
+-- Where the places are not full, one more may ask.
+pub room-left : (l : List Phase) (o i : ℕ) → leb (o + PLACES) (i + count drawsTicket l) ≡ false
+    → i + weight drawing l + 1 ≤ o + PLACES
+room-left l o i z =
+    omega (
+      arith,
+      leb-false (o + PLACES) (i + count drawsTicket l) z,
+      count-pick (Phase.Acquiring ∷ Phase.Suspending ∷ Phase.AcquiringMarked ∷ Phase.SuspendingMarked ∷ []) l,
+    )
 
 module _ {l : List Phase} {g : ℕ → PlaceSlot} {o : ℕ} {a : List PlaceSlot} {n i r b q e : ℕ}
     (x : Tracked l g o a n i r b q e) where

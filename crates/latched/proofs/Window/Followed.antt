@@ -2,28 +2,25 @@
 use Prim.Native.Nat.{ℕ, _+_, _≤_, _<_}
 use mathlib.Core.Path.{_≡_, refl, sym, ap, subst, _∙_}
 use mathlib.Core.Bool.{Bool, true, false}
-use mathlib.Core.List.{List, [], _∷_}
+use mathlib.Core.List.{List}
 use native.Mathlib.Omega.{arith}
-use borrow.Author.Tests.{ltb-true, leb-false}
+use borrow.Author.Tests.{ltb-true}
 use lib.Dec.{ltb}
 use lib.ListN.{length}
 use Rattle.hub.specs.declared.answers.Answer.{Answer}
 use Rattle.hub.specs.declared.answers.Refusal.{Refusal}
 use Rattle.hub.specs.declared.record.Phase.{Phase}
-use Rattle.hub.specs.Basics.{count}
 use Rattle.hub.specs.Ledger.{phaseIn}
-use Rattle.hub.specs.Phases.{drawsTicket}
 use Rattle.hub.specs.Refinement.{isSeven}
 use Rattle.hub.specs.Ring.{PLACES}
-use Rattle.hub.proofs.Invariant.Weights.{count-pick, drawing}
-use Rattle.hub.proofs.Window.Tracked.{placed-window}
+use Rattle.hub.proofs.Invariant.Weights.{drawing}
+use Rattle.hub.proofs.Window.Tracked.{placed-window, room-left}
 use Rattle.hub.proofs.Window.Followed.{not-seven}
 use Rattle.latch.specs.declared.moves.LatchCall.{LatchCall}
 use Rattle.latch.specs.declared.moves.LatchOp.{LatchOp}
 use Rattle.latch.specs.declared.moves.LatchOp.the-variants.{Await, Step, Cancel, CountDown}
 use Rattle.latch.specs.declared.moves.LatchSight.{LatchSight}
 use Rattle.latch.specs.declared.record.Latch.{Latch}
-use Rattle.latch.specs.declared.record.LatchFigures.{LatchFigures}
 use Rattle.latch.specs.declared.record.LatchSlot.{LatchSlot}
 use Rattle.latch.specs.Calls.{isFull, checked, moveOf, answerOf, apply, tidied}
 use Rattle.latch.specs.Fits.{fits}
@@ -32,7 +29,7 @@ use Rattle.latch.specs.Moves.{Move}
 use Rattle.latch.specs.Moves.{Refuse, Act, Put, Wake}
 use Rattle.latch.specs.Queue.{Queue, phases}
 use Rattle.latch.specs.Queue as queue
-use Rattle.latch.specs.Record.{phasesOf, writeSlot}
+use Rattle.latch.specs.Record.{writeSlot}
 use Rattle.latched.specs.Refinement.{Shows}
 use Rattle.latch.specs.Table.{decide, await}
 use Rattle.latch.proofs.Laws.Slots.{read-phase}
@@ -166,11 +163,8 @@ module _ (h : Latch) (m : Queue) (r : Tracks h m) (c : LatchCall) where
       made
       (omega (
         arith,
-        leb-false (h .oldest + PLACES)
-            (h .figures .issued + count drawsTicket (phasesOf (h .slots))) f,
-        ap (λ (g : LatchFigures). g .issued) (r .shows .figures),
-        ap (λ (l : List LatchSlot). count drawsTicket (phasesOf l)) (r .shows .slots),
-        count-pick (Phase.Acquiring ∷ Phase.Suspending ∷ Phase.AcquiringMarked ∷ Phase.SuspendingMarked ∷ []) (phases m),
+        room-left (phases m) (h .oldest) (m .figures .issued)
+            (sym (λ i. isFull (h .oldest) (r .shows .figures i .issued) (r .shows .slots i)) ∙ f),
         at-most (c .op),
       ))
       (decide o false seen) g e

@@ -2,9 +2,7 @@
 use Prim.Native.Nat.{ℕ, zero, suc}
 use mathlib.Core.Path.{_≡_, refl, sym, ap, subst}
 use mathlib.Core.Bool.{Bool, true, false, cond}
-use Rattle.hub.specs.declared.record.Place.{Place}
-use Rattle.hub.specs.declared.record.PlaceSlot.{PlaceSlot}
-use Rattle.hub.proofs.Window.Tidied.{CellQueue, skipCells, tidied-tracked}
+use Rattle.hub.proofs.Window.Tidied.{CellQueue, cellsFrom, skipCells, tidied-tracked}
 use Rattle.latch.specs.declared.record.Latch.{Latch}
 use Rattle.latch.specs.declared.record.LatchFigures.{LatchFigures}
 use Rattle.latch.specs.Calls.{tidied}
@@ -26,7 +24,7 @@ skip-cells (suc n) m = go (queue.canSkip m) (skip-cells n (queue.skipped m))
   where
     go : (b : Bool) {c : CellQueue} → queue.skip n (queue.skipped m) ≡ withCells m c
         → cond b (queue.skip n (queue.skipped m)) m
-        ≡ withCells m (cond b c (record { resumed = m .figures .resumed; cells = m .cells }))
+        ≡ withCells m (cond b c (cellsFrom (m .figures .resumed) (m .cells)))
     go true e = e
     go false e = refl
 

@@ -1,10 +1,10 @@
 -- Every record that a schedule reaches fits.
-use Prim.Native.Nat.{ℕ, _+_, _*_, _≤_, _<_}
+use Prim.Native.Nat.{ℕ, _+_, _≤_, _<_}
 use mathlib.Core.Path.{_≡_, refl, sym, ap, ap₂, subst, _∙_}
 use mathlib.Core.Bool.{Bool, true, false, cond, not, _||_}
 use native.Mathlib.Omega.{arith}
 use borrow.Author.Tests.{le-leb, ltb-true, ltb-false}
-use lib.Dec.{ltb, leb}
+use lib.Dec.{ltb}
 use Rattle.hub.specs.declared.record.Phase.{Phase}
 use Rattle.hub.specs.declared.record.Phase.the-variants.{Holding, Suspending, Resuming, ResumingAt, Fetching, Storing}
 use Rattle.hub.specs.declared.record.Place.{Place}
@@ -12,20 +12,19 @@ use Rattle.hub.specs.declared.record.Place.the-variants.{Empty, Waiting as Wait
 use Rattle.hub.specs.declared.record.Place.the-variants.{Cancelled, Refused, Done}
 use Rattle.hub.specs.Basics.{allOf, upTo32}
 use Rattle.hub.specs.Fits.{placeListed}
-use Rattle.hub.specs.Phases.{isFree, isOneOf, isPlaceOf, isWaiting, resumes}
+use Rattle.hub.specs.Phases.{isFree, isOneOf, isPlaceOf, resumes}
 use Rattle.hub.specs.Record.{PARTIES}
 use Rattle.hub.specs.Ring.{PLACES}
 use Rattle.hub.proofs.Laws.Bools.{both, first, passed}
 use Rattle.hub.proofs.Laws.Lists.{weight-one}
 use Rattle.hub.proofs.Laws.Phases.{places-alike}
 use Rattle.hub.proofs.Laws.Ranges.{all-true}
-use Rattle.hub.proofs.Invariant.Weights.{pick, one, drawing, resuming}
+use Rattle.hub.proofs.Invariant.Weights.{pick, one, resuming}
 use Rattle.hub.proofs.Window.Fitting.{absent-free, numbers-fit, ticket-fits, up-to-32, waiter-stands, where-true}
 use Rattle.latch.specs.declared.moves.LatchOp.{LatchOp}
 use Rattle.latch.specs.declared.moves.LatchSight.{LatchSight}
 use Rattle.latch.specs.declared.record.Latch.{Latch}
 use Rattle.latch.specs.declared.record.LatchFigures.{LatchFigures}
-use Rattle.latch.specs.declared.record.LatchSlot.{LatchSlot}
 use Rattle.latch.specs.Fits.{HUB-ONLY, figuresFit, ticketFits, slotFits, partyFits, placeFits, fits}
 use Rattle.latch.specs.Ledger.{slotIn}
 use Rattle.latch.specs.Look.{look, seenBy}
@@ -34,11 +33,11 @@ use Rattle.latch.specs.Moves.{Refuse, Act, Put, Wake}
 use Rattle.latch.specs.Queue.{Queue}
 use Rattle.latch.specs.Queue as queue
 use Rattle.latch.specs.Record.{freeSlot, readSlot}
-use Rattle.latch.specs.Table.{decide, step, stepIn, stepAcquiring, stepSuspending}
-use Rattle.latch.specs.Table.{stepTicketed, stepReleasing, stepResuming, resumeWaiter}
-use Rattle.latch.specs.Table.{stepResumingAt, stepAborting, stepCancelling, stepRefusing}
+use Rattle.latch.specs.Table.{decide, step, stepIn, stepSuspending}
+use Rattle.latch.specs.Table.{stepTicketed, stepResuming, resumeWaiter}
+use Rattle.latch.specs.Table.{stepResumingAt, stepCancelling, stepRefusing}
 use Rattle.latch.proofs.Laws.Slots.{read-phase}
-use Rattle.latched.proofs.Invariant.Weights.{holding, left, slotSum}
+use Rattle.latched.proofs.Invariant.Weights.{holding, left}
 use Rattle.latched.proofs.Invariant.Rows.{Good, isListed, restsIf}
 use Rattle.latched.proofs.Invariant.Walk.{decide-good}
 use Rattle.latched.proofs.Window.Shown.{Tracks, tracked, read-same, look-same}

@@ -3,8 +3,6 @@ use Prim.Native.Nat.{ℕ, _+_, _≤_}
 use mathlib.Core.Path.{_≡_, sym, ap, _∙_}
 use mathlib.Core.List.{List}
 use lib.ListN.{length}
-use Rattle.hub.specs.declared.record.Place.{Place}
-use Rattle.hub.specs.declared.record.PlaceSlot.{PlaceSlot}
 use Rattle.hub.specs.Kinds.{builtIn, kindIn}
 use Rattle.hub.specs.Ledger.{phaseIn}
 use Rattle.hub.specs.Phases.{byTicket, byWaiter}
@@ -15,7 +13,7 @@ use Rattle.hub.proofs.Window.Tracked.{Tracked, seat-same}
 use Rattle.latch.specs.declared.record.Latch.{Latch}
 use Rattle.latch.specs.declared.record.LatchSlot.{LatchSlot}
 use Rattle.latch.specs.Look.{look, seenBy}
-use Rattle.latch.specs.Queue.{Queue, phases, places}
+use Rattle.latch.specs.Queue.{Queue, phases}
 use Rattle.latch.specs.Queue as queue
 use Rattle.latch.specs.Record.{freeSlot, phasesOf, readSlot}
 use Rattle.latched.specs.Refinement.{Shows}
