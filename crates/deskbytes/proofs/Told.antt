@@ -20,7 +20,7 @@ use Rattle.perform.specs.Bytes.{answerBytes, answersTo, isOperationCode}
 use Rattle.perform.proofs.Laws.Codes.{among-three}
 use Rattle.operate.specs.Ending.{Ended, operatedIf}
 use Rattle.screen.specs.Moves.{callOf}
-use Rattle.screen.specs.Reached.{Request}
+use Rattle.screen.specs.Reached.{DeskRequest}
 use Rattle.shown.specs.Shows.{ScreenShows, callFor, hubTold}
 use Rattle.shown.proofs.Shows.{screen-shows}
 use Rattle.deskbytes.specs.Told.{WritesShown, operationIn, requestsOf, toldBytes}
@@ -37,7 +37,7 @@ calls-for (c ∷ p ∷ l) w =
     one = among-three (λ (c : ℕ). record { op = opOf c; party = p } ≡ callOf (operationIn c) p) refl refl refl c
 
 -- The answers to them are what is told at the hub.
-answers-told : (h : Hub) (rs : List Request) → answersTo h (map callFor rs) ≡ toldBytes (hubTold h rs)
+answers-told : (h : Hub) (rs : List DeskRequest) → answersTo h (map callFor rs) ≡ toldBytes (hubTold h rs)
 unfolding answersTo hubTold toldBytes
 answers-told h [] = refl
 answers-told h (r ∷ rs) =

@@ -15,14 +15,14 @@ use Rattle.perform.specs.Bytes.{isOperationCode}
 use Rattle.operate.specs.Ending.{operatedFrom}
 use Rattle.screen.specs.declared.record.Operation.{Operation}
 use Rattle.screen.specs.Moves.{lineOpening}
-use Rattle.screen.specs.Reached.{Request}
+use Rattle.screen.specs.Reached.{DeskRequest}
 use Rattle.shown.specs.Shows.{NoSixOrSeven, hubTold, lineTold}
 
 -- The clerk's requests that bytes are, two each: 10 ask, 12 give up, 13 give back.
 abbrev pub operationIn : ℕ → Operation
 operationIn c = cond (eqb c 0x10) Operation.Acquire (cond (eqb c 0x12) Operation.Cancel Operation.Release)
 
-unfoldable pub requestsOf : List ℕ → List Request
+unfoldable pub requestsOf : List ℕ → List DeskRequest
 requestsOf [] = []
 requestsOf (c ∷ []) = []
 requestsOf (c ∷ p ∷ l) = record { operation = operationIn c; party = p } ∷ requestsOf l

@@ -11,17 +11,17 @@ use Rattle.hub.specs.Record.{PARTIES}
 use Rattle.screen.specs.declared.record.Line.{Line}
 use Rattle.screen.specs.Moves.{noLine}
 use Rattle.deskfeed.specs.declared.session.Session.{Session}
-use Rattle.deskline.specs.Replies.{askedBy, respond}
+use Rattle.deskline.specs.Replies.{askedBy, replyTo}
 use Rattle.deskline.specs.Text.{lineText}
 
 -- What is printed for requests from a line on, and the line that they leave.
 unfoldable pub said : Line → List Request → List ℕ
 said l [] = []
-said l (q ∷ qs) = let r = respond l (askedBy q) in lineText r ++ said (r .line) qs
+said l (q ∷ qs) = let r = replyTo l (askedBy q) in lineText r ++ said (r .line) qs
 
 unfoldable pub left : Line → List Request → Line
 left l [] = l
-left l (q ∷ qs) = left (respond l (askedBy q) .line) qs
+left l (q ∷ qs) = left (replyTo l (askedBy q) .line) qs
 
 -- The whole output.
 unfoldable pub outputOf : List ℕ → List ℕ

@@ -1,7 +1,7 @@
 // A run over an input that comes in pieces.
 
-use deskline::reply::respond;
-use deskline::text::put_line;
+use deskline::reply::reply_to;
+use deskline::text::put_line_text;
 use openhub::sized;
 use reader::KEPT;
 use reader::Reader;
@@ -67,8 +67,8 @@ pub fn feed(session: Session, piece: &[u8], out: &mut [u8]) -> Fed
             len += 1;
             continue;
         }
-        let reply = respond(line, &text[0..len]);
-        at = put_line(out, at, reply);
+        let reply = reply_to(line, &text[0..len]);
+        at = put_line_text(out, at, reply);
         let next = reply.line;
         line = next;
         len = 0;

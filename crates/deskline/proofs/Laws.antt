@@ -1,4 +1,4 @@
 -- Working forms of the definitions.
-pub mod Placed
+pub mod PutAt
 pub mod Numbers
 pub mod Replies

@@ -7,20 +7,20 @@ use lib.ListN.{length, take, drop}
 use Rattle.encoding.specs.Hex.{hexOf}
 use Rattle.screen.specs.declared.record.Line.{Line}
 use Rattle.screen.specs.Line.{holders, waiters}
-use Rattle.deskline.specs.declared.reply.Reply.{Reply}
+use Rattle.deskline.specs.declared.reply.DeskReply.{DeskReply}
 
 abbrev pub SPACE : ℕ
 SPACE = 0x20
 
 -- A byte in base ten.
-abbrev pub digitChar : ℕ → ℕ
-digitChar d = 0x30 + d % 10
+abbrev pub decimalChar : ℕ → ℕ
+decimalChar d = 0x30 + d % 10
 
 unfoldable pub decimal : ℕ → List ℕ
 decimal n =
-    cond (ltb n 10) (digitChar n ∷ [])
-    (cond (ltb n 100) (digitChar (n / 10) ∷ digitChar n ∷ [])
-    (digitChar (n / 100) ∷ digitChar (n / 10) ∷ digitChar n ∷ []))
+    cond (ltb n 10) (decimalChar n ∷ [])
+    (cond (ltb n 100) (decimalChar (n / 10) ∷ decimalChar n ∷ [])
+    (decimalChar (n / 100) ∷ decimalChar (n / 10) ∷ decimalChar n ∷ []))
 
 -- Parties, each behind a space.
 unfoldable pub numbers : List ℕ → List ℕ
@@ -47,7 +47,7 @@ unfoldable pub partiesText : Line → List ℕ
 partiesText l =
     SPACE ∷ (HELD ++ (numbers (holders l) ++ SPACE ∷ (WAITING ++ (numbers (waiters l) ++ 0x0A ∷ []))))
 
-unfoldable pub lineText : Reply → List ℕ
+unfoldable pub lineText : DeskReply → List ℕ
 lineText r = headText (r .code) (r .party) (r .steps) ++ partiesText (r .line)
 
 -- No line is longer.
@@ -55,5 +55,5 @@ abbrev pub LONGEST-TEXT : ℕ
 LONGEST-TEXT = 279
 
 -- A text at a place of a buffer; the rest of the buffer is as it was.
-unfoldable pub placed : ℕ → List ℕ → List ℕ → List ℕ
-placed at t out = take at out ++ (t ++ drop (at + length t) out)
+unfoldable pub putAt : ℕ → List ℕ → List ℕ → List ℕ
+putAt at t out = take at out ++ (t ++ drop (at + length t) out)

@@ -12,9 +12,9 @@ use screenmove::open_line;
 use screensteps::steps_to_rest;
 ghost use mathlib.Core.Path.{_≡_};
 ghost use Rattle.line.specs.Requests.{requestOf};
-ghost use Rattle.deskline.specs.Replies.{askedBy, isOpen, opened, operated, respond, told};
+ghost use Rattle.deskline.specs.Replies.{askedBy, codeReply, isOpenLine, openingReply, operationReply, replyTo};
 
-pub struct Reply {
+pub struct DeskReply {
     pub code: u8,
     pub party: u8, // FF for openings and for 12
     pub steps: u8, // to rest; it counts where the code is 20
@@ -22,16 +22,16 @@ pub struct Reply {
 }
 
 // A line with permits is open.
-fn is_open(line: Line) -> bool
-    ensures { λ r. ⌜ r ≡ isOpen line ⌝ }
+fn is_open_line(line: Line) -> bool
+    ensures { λ r. ⌜ r ≡ isOpenLine line ⌝ }
 {
     1 <= line.permits
 }
 
-fn told(code: u8, party: u8, line: Line) -> Reply
-    ensures { λ r. ⌜ r ≡ told code party line ⌝ }
+fn code_reply(code: u8, party: u8, line: Line) -> DeskReply
+    ensures { λ r. ⌜ r ≡ codeReply code party line ⌝ }
 {
-    Reply {
+    DeskReply {
         code,
         party,
         steps: 0,
@@ -39,28 +39,28 @@ fn told(code: u8, party: u8, line: Line) -> Reply
     }
 }
 
-fn opened(o: Opening) -> Reply
-    ensures { λ r. ⌜ r ≡ opened o ⌝ }
+fn opening_reply(o: Opening) -> DeskReply
+    ensures { λ r. ⌜ r ≡ openingReply o ⌝ }
 {
     let m = open_line(o);
     let answer = m.answer;
     let p = print_of(answer);
     let line = m.line;
-    told(p.code, 0xFF, line)
+    code_reply(p.code, 0xFF, line)
 }
 
-fn operated(line: Line, operation: Operation, party: u8) -> Reply
-    ensures { λ r. ⌜ r ≡ operated line operation party ⌝ }
+fn operation_reply(line: Line, operation: Operation, party: u8) -> DeskReply
+    ensures { λ r. ⌜ r ≡ operationReply line operation party ⌝ }
 {
-    if !is_open(line) {
-        return told(13, party, line);
+    if !is_open_line(line) {
+        return code_reply(13, party, line);
     }
     let steps = steps_to_rest(line, operation, party);
     let m = call(line, operation, party);
     let answer = m.answer;
     let p = print_of(answer);
     let next = m.line;
-    Reply {
+    DeskReply {
         code: p.code,
         party,
         steps,
@@ -69,24 +69,24 @@ fn operated(line: Line, operation: Operation, party: u8) -> Reply
 }
 
 // The answer to a line of text.
-pub fn respond(line: Line, text: &[u8]) -> Reply
-    ensures { λ r. ⌜ r ≡ respond line (askedBy (requestOf (now (text .entry)))) ⌝ }
+pub fn reply_to(line: Line, text: &[u8]) -> DeskReply
+    ensures { λ r. ⌜ r ≡ replyTo line (askedBy (requestOf (now (text .entry)))) ⌝ }
 {
     let h = read_header(text);
     if h.code == OPENING {
-        if is_open(line) {
-            return told(13, 0xFF, line);
+        if is_open_line(line) {
+            return code_reply(13, 0xFF, line);
         }
-        return opened(read_opening(text));
+        return opening_reply(read_opening(text));
     }
     if h.code == 0x10 {
-        return operated(line, Operation::Acquire, h.party);
+        return operation_reply(line, Operation::Acquire, h.party);
     }
     if h.code == 0x12 {
-        return operated(line, Operation::Cancel, h.party);
+        return operation_reply(line, Operation::Cancel, h.party);
     }
     if h.code == 0x13 {
-        return operated(line, Operation::Release, h.party);
+        return operation_reply(line, Operation::Release, h.party);
     }
-    told(12, 0xFF, line)
+    code_reply(12, 0xFF, line)
 }

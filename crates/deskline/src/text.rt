@@ -4,14 +4,14 @@ use crate::digits::put_char;
 use crate::digits::put_decimal;
 use crate::digits::put_hex;
 use crate::digits::put_word;
-use crate::reply::Reply;
+use crate::reply::DeskReply;
 use screen::Line;
 ghost use mathlib.Core.Path.{_≡_};
 ghost use mathlib.Core.List.{[], _∷_};
 ghost use Prim.Native.Nat.{_+_, _≤_};
 ghost use lib.ListN.{length};
 ghost use Rattle.screen.specs.Line.{holders, waiters};
-ghost use Rattle.deskline.specs.Text.{LONGEST-TEXT, headText, lineText, numbers, partiesText, placed};
+ghost use Rattle.deskline.specs.Text.{LONGEST-TEXT, headText, lineText, numbers, partiesText, putAt};
 ghost use Rattle.deskline.specs.Text.{stepsText};
 
 const SPACE: u8 = 0x20;
@@ -20,7 +20,7 @@ const SPACE: u8 = 0x20;
 fn put_number(out: &mut [u8], at: usize, party: u8) -> usize
     requires { ⌜ at + 4 ≤ length (now out) ⌝ }
     ensures { λ r. ⌜ (r ≡ at + length (numbers (party ∷ [])))
-        × (now (out .exit) ≡ placed at (numbers (party ∷ [])) (now (out .entry))) ⌝ }
+        × (now (out .exit) ≡ putAt at (numbers (party ∷ [])) (now (out .entry))) ⌝ }
 {
     let next = put_char(out, at, SPACE);
     put_decimal(out, next, party)
@@ -30,7 +30,7 @@ fn put_number(out: &mut [u8], at: usize, party: u8) -> usize
 fn put_holders(out: &mut [u8], at: usize, line: Line) -> usize
     requires { ⌜ at + 128 ≤ length (now out) ⌝ }
     ensures { λ r. ⌜ (r ≡ at + length (numbers (holders line)))
-        × (now (out .exit) ≡ placed at (numbers (holders line)) (now (out .entry))) ⌝ }
+        × (now (out .exit) ≡ putAt at (numbers (holders line)) (now (out .entry))) ⌝ }
     ensures short { λ r. ⌜ r ≤ at + 128 ⌝ }
 {
     let holding = line.holding;
@@ -52,7 +52,7 @@ fn put_waiters(out: &mut [u8], at: usize, line: Line) -> usize
     requires { ⌜ line .waiting ≤ 32 ⌝ }
     requires { ⌜ at + 128 ≤ length (now out) ⌝ }
     ensures { λ r. ⌜ (r ≡ at + length (numbers (waiters line)))
-        × (now (out .exit) ≡ placed at (numbers (waiters line)) (now (out .entry))) ⌝ }
+        × (now (out .exit) ≡ putAt at (numbers (waiters line)) (now (out .entry))) ⌝ }
     ensures short { λ r. ⌜ r ≤ at + 128 ⌝ }
 {
     let queue = line.queue;
@@ -70,7 +70,7 @@ fn put_waiters(out: &mut [u8], at: usize, line: Line) -> usize
 fn put_steps(out: &mut [u8], at: usize, code: u8, steps: u8) -> usize
     requires { ⌜ at + 3 ≤ length (now out) ⌝ }
     ensures { λ r. ⌜ (r ≡ at + length (stepsText code steps))
-        × (now (out .exit) ≡ placed at (stepsText code steps) (now (out .entry))) ⌝ }
+        × (now (out .exit) ≡ putAt at (stepsText code steps) (now (out .entry))) ⌝ }
 {
     if code == 0x20 {
         return put_decimal(out, at, steps);
@@ -82,7 +82,7 @@ fn put_steps(out: &mut [u8], at: usize, code: u8, steps: u8) -> usize
 fn put_head(out: &mut [u8], at: usize, code: u8, party: u8, steps: u8) -> usize
     requires { ⌜ at + 9 ≤ length (now out) ⌝ }
     ensures { λ r. ⌜ (r ≡ at + length (headText code party steps))
-        × (now (out .exit) ≡ placed at (headText code party steps) (now (out .entry))) ⌝ }
+        × (now (out .exit) ≡ putAt at (headText code party steps) (now (out .entry))) ⌝ }
     ensures short { λ r. ⌜ r ≤ at + 9 ⌝ }
 {
     let a = put_hex(out, at, code);
@@ -97,7 +97,7 @@ fn put_parties(out: &mut [u8], at: usize, line: Line) -> usize
     requires { ⌜ line .waiting ≤ 32 ⌝ }
     requires { ⌜ at + 270 ≤ length (now out) ⌝ }
     ensures { λ r. ⌜ (r ≡ at + length (partiesText line))
-        × (now (out .exit) ≡ placed at (partiesText line) (now (out .entry))) ⌝ }
+        × (now (out .exit) ≡ putAt at (partiesText line) (now (out .entry))) ⌝ }
     ensures short { λ r. ⌜ r ≤ at + 270 ⌝ }
 {
     let a = put_word(out, at, b" held");
@@ -108,11 +108,11 @@ fn put_parties(out: &mut [u8], at: usize, line: Line) -> usize
 }
 
 // The whole line.
-pub fn put_line(out: &mut [u8], at: usize, r: Reply) -> usize
+pub fn put_line_text(out: &mut [u8], at: usize, r: DeskReply) -> usize
     requires { ⌜ r .line .waiting ≤ 32 ⌝ }
     requires { ⌜ at + LONGEST-TEXT ≤ length (now out) ⌝ }
     ensures { λ s. ⌜ (s ≡ at + length (lineText r))
-        × (now (out .exit) ≡ placed at (lineText r) (now (out .entry))) ⌝ }
+        × (now (out .exit) ≡ putAt at (lineText r) (now (out .entry))) ⌝ }
     ensures short { λ s. ⌜ s ≤ at + LONGEST-TEXT ⌝ }
 {
     let line = r.line;

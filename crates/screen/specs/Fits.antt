@@ -16,8 +16,8 @@ abbrev pub everybody : Line → List ℕ
 everybody l = holders l ++ waiters l
 
 -- How many hold.
-abbrev pub held : Line → ℕ
-held l = length (holders l)
+abbrev pub holderCount : Line → ℕ
+holderCount l = length (holders l)
 
 -- K and n are 1 to 32; the parties on the line are different, and below n; at most K hold, and nobody waits
 -- unless K do. The unused bytes of the queue are 0. The kinds meet neither 16 nor 17.
@@ -28,8 +28,8 @@ lineClauses l =
     ∷ leb (l .waiting) PARTIES
     ∷ differ (everybody l)
     ∷ allPass (λ p. ltb p (l .parties)) (everybody l)
-    ∷ leb (held l) (l .permits)
-    ∷ implies (leb 1 (l .waiting)) (eqb (held l) (l .permits))
+    ∷ leb (holderCount l) (l .permits)
+    ∷ implies (leb 1 (l .waiting)) (eqb (holderCount l) (l .permits))
     ∷ allPass (λ b. eqb b 0) (drop (l .waiting) (l .queue))
     ∷ kindsKnown (l .kinds)
     ∷ hasDesk (l .kinds)

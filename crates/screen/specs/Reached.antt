@@ -13,18 +13,18 @@ use Rattle.screen.specs.declared.record.Line.{Line}
 use Rattle.screen.specs.declared.record.Operation.{Operation}
 use Rattle.screen.specs.Fits.{lineFits}
 use Rattle.screen.specs.Line.{openedLine}
-use Rattle.screen.specs.Moves.{moved}
+use Rattle.screen.specs.Moves.{lineMove}
 
 -- An operation of a party.
-pub record Request : Type 0 where
+pub record DeskRequest : Type 0 where
   pub operation : Operation
   pub party : ℕ
 
 -- The line that a list of them leaves, each on the line that the one before it left, which after a refusal
 -- is the old one.
-unfoldable pub lineAfter : Line → List Request → Line
+unfoldable pub lineAfter : Line → List DeskRequest → Line
 lineAfter l [] = l
-lineAfter l (r ∷ rs) = lineAfter (moved l (r .operation) (r .party) .line) rs
+lineAfter l (r ∷ rs) = lineAfter (lineMove l (r .operation) (r .party) .line) rs
 
 -- Values of the types: their arrays have 32 elements.
 pub record OpeningArrays (o : Opening) : Type 0 where
@@ -41,7 +41,7 @@ pub record LineReached (l : Line) : Type 0 where
   pub start : Opening
   pub arrays : OpeningArrays start
   pub accepted : opening start .answer ≡ Answer.Opened
-  pub requests : List Request
+  pub requests : List DeskRequest
   pub leads : lineAfter (openedLine start) requests ≡ l
 
 -- Every line that is reached fits, and every line that fits is reached.

@@ -3,7 +3,7 @@ use Prim.Native.Nat.{ℕ}
 use mathlib.Core.Bool.{Bool, cond}
 use Rattle.screen.specs.declared.record.Line.{Line}
 use Rattle.screen.specs.declared.record.Operation.{Operation}
-use Rattle.screen.specs.Moves.{hasPermit, hasWaiter, isAccepted, moved, nextWaiter}
+use Rattle.screen.specs.Moves.{hasPermit, hasWaiter, isAccepted, lineMove, nextWaiter}
 
 -- A permit from the counter, 21, or back to it, 26. With radios one step more: 36, 38.
 abbrev pub toCounter : Bool → ℕ
@@ -27,7 +27,7 @@ ownSteps l Operation.Release = cond (hasWaiter l) TO-HAND-OVER (toCounter (l .na
 
 -- A refused operation takes none.
 unfoldable pub stepsToRest : Line → Operation → ℕ → ℕ
-stepsToRest l o p = cond (isAccepted (moved l o p .answer)) (ownSteps l o) 0
+stepsToRest l o p = cond (isAccepted (lineMove l o p .answer)) (ownSteps l o) 0
 
 -- Whom an operation wakes: the first that waits, where a permit is handed over; else FF.
 unfoldable pub ownWoken : Line → Operation → ℕ
@@ -36,4 +36,4 @@ ownWoken l Operation.Cancel = 0xFF
 ownWoken l Operation.Release = cond (hasWaiter l) (nextWaiter l) 0xFF
 
 unfoldable pub wokenBy : Line → Operation → ℕ → ℕ
-wokenBy l o p = cond (isAccepted (moved l o p .answer)) (ownWoken l o) 0xFF
+wokenBy l o p = cond (isAccepted (lineMove l o p .answer)) (ownWoken l o) 0xFF

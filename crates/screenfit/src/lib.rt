@@ -11,12 +11,12 @@ ghost use lib.Dec.{eqb, leb, ltb};
 ghost use lib.ListN.{drop};
 ghost use Rattle.hub.specs.Basics.{allPass, implies};
 ghost use Rattle.hub.specs.Radios.{differ};
-ghost use Rattle.screen.specs.Fits.{everybody, held, lineFits};
+ghost use Rattle.screen.specs.Fits.{everybody, holderCount, lineFits};
 ghost use Rattle.screen.specs.Line.{holders};
 
 // How many hold.
-pub fn held(line: Line) -> u8
-    ensures { λ r. ⌜ r ≡ held line ⌝ }
+pub fn holder_count(line: Line) -> u8
+    ensures { λ r. ⌜ r ≡ holderCount line ⌝ }
 {
     let holding = line.holding;
     let mut count: u8 = 0;
@@ -119,7 +119,7 @@ pub fn line_fits(line: Line) -> bool
     if !queue_fits(line) {
         return false;
     }
-    let held = held(line);
+    let held = holder_count(line);
     if line.permits < held {
         return false;
     }

@@ -15,17 +15,17 @@ use queue::place_of;
 use screen::record::Line;
 use screen::record::Moved;
 use screen::record::Operation;
-use screenfit::held;
+use screenfit::holder_count;
 use screenfit::line_fits;
 ghost use mathlib.Core.Path.{_≡_};
 ghost use mathlib.Core.Bool.{true};
 ghost use Prim.Native.Nat.{_<_};
 ghost use Rattle.hub.specs.Answers.{printed};
 ghost use Rattle.screen.specs.Fits.{lineFits};
-ghost use Rattle.screen.specs.Moves.{accepted, lineOpening, moved, ownMove, refused};
+ghost use Rattle.screen.specs.Moves.{acceptedMove, lineMove, lineOpening, ownMove, refusedMove};
 
-fn refused(why: Refusal, line: Line) -> Moved
-    ensures { λ r. ⌜ r ≡ refused why line ⌝ }
+fn refused_move(why: Refusal, line: Line) -> Moved
+    ensures { λ r. ⌜ r ≡ refusedMove why line ⌝ }
 {
     Moved {
         answer: Answer::Refused(why),
@@ -33,8 +33,8 @@ fn refused(why: Refusal, line: Line) -> Moved
     }
 }
 
-fn accepted(line: Line) -> Moved
-    ensures { λ r. ⌜ r ≡ accepted line ⌝ }
+fn accepted_move(line: Line) -> Moved
+    ensures { λ r. ⌜ r ≡ acceptedMove line ⌝ }
 {
     Moved {
         answer: Answer::Accepted,
@@ -48,7 +48,7 @@ pub fn open_line(o: Opening) -> Moved
 {
     let answer = opening_answer(o);
     if let Answer::Refused(why) = answer {
-        return refused(why, Line::open(sized(0, 0)));
+        return refused_move(why, Line::open(sized(0, 0)));
     }
     Moved {
         answer: Answer::Opened,
@@ -65,17 +65,17 @@ fn acquire_on(line: Line, party: u8) -> Moved
     let p = party as usize;
     let holding = line.holding;
     if holding[p] {
-        return refused(Refusal::NotFree, line);
+        return refused_move(Refusal::NotFree, line);
     }
     if place_of(line, party) < line.waiting as usize {
-        return refused(Refusal::NotFree, line);
+        return refused_move(Refusal::NotFree, line);
     }
-    if held(line) < line.permits {
+    if holder_count(line) < line.permits {
         let mut next = line;
         next.holding[p] = true;
-        return accepted(next);
+        return accepted_move(next);
     }
-    accepted(join(line, party))
+    accepted_move(join(line, party))
 }
 
 fn cancel_on(line: Line, party: u8) -> Moved
@@ -84,13 +84,13 @@ fn cancel_on(line: Line, party: u8) -> Moved
 {
     let at = place_of(line, party);
     if line.waiting as usize <= at {
-        return refused(Refusal::NotWaiting, line);
+        return refused_move(Refusal::NotWaiting, line);
     }
     let kinds = line.kinds;
     if kind_in(kinds, party) == 3 {
-        return refused(Refusal::NotCancellable, line);
+        return refused_move(Refusal::NotCancellable, line);
     }
-    accepted(leave(line, at))
+    accepted_move(leave(line, at))
 }
 
 fn release_on(line: Line, party: u8) -> Moved
@@ -101,31 +101,31 @@ fn release_on(line: Line, party: u8) -> Moved
     let p = party as usize;
     let holding = line.holding;
     if !holding[p] {
-        return refused(Refusal::NotHolding, line);
+        return refused_move(Refusal::NotHolding, line);
     }
     if line.waiting < 1 {
         let mut next = line;
         next.holding[p] = false;
-        return accepted(next);
+        return accepted_move(next);
     }
     let queue = line.queue;
     let first = queue[0] as usize;
     let mut next = leave(line, 0);
     next.holding[p] = false;
     next.holding[first] = true;
-    accepted(next)
+    accepted_move(next)
 }
 
 // Any of them: 1, then 4, then the operation's own.
 pub fn call(line: Line, operation: Operation, party: u8) -> Moved
-    ensures { λ r. ⌜ (r ≡ moved line operation party)
-        × (printed (r .answer) ≡ printed (moved line operation party .answer)) ⌝ }
+    ensures { λ r. ⌜ (r ≡ lineMove line operation party)
+        × (printed (r .answer) ≡ printed (lineMove line operation party .answer)) ⌝ }
 {
     if !line_fits(line) {
-        return refused(Refusal::Unfit, line);
+        return refused_move(Refusal::Unfit, line);
     }
     if line.parties <= party {
-        return refused(Refusal::NoSuchParty, line);
+        return refused_move(Refusal::NoSuchParty, line);
     }
     match operation {
         Operation::Acquire => acquire_on(line, party),
@@ -136,24 +136,24 @@ pub fn call(line: Line, operation: Operation, party: u8) -> Moved
 
 // Ask (10).
 pub fn acquire(line: Line, party: u8) -> Moved
-    ensures { λ r. ⌜ (r ≡ moved line Operation.Acquire party)
-        × (printed (r .answer) ≡ printed (moved line Operation.Acquire party .answer)) ⌝ }
+    ensures { λ r. ⌜ (r ≡ lineMove line Operation.Acquire party)
+        × (printed (r .answer) ≡ printed (lineMove line Operation.Acquire party .answer)) ⌝ }
 {
     call(line, Operation::Acquire, party)
 }
 
 // Give up (12).
 pub fn cancel(line: Line, party: u8) -> Moved
-    ensures { λ r. ⌜ (r ≡ moved line Operation.Cancel party)
-        × (printed (r .answer) ≡ printed (moved line Operation.Cancel party .answer)) ⌝ }
+    ensures { λ r. ⌜ (r ≡ lineMove line Operation.Cancel party)
+        × (printed (r .answer) ≡ printed (lineMove line Operation.Cancel party .answer)) ⌝ }
 {
     call(line, Operation::Cancel, party)
 }
 
 // Give back (13).
 pub fn release(line: Line, party: u8) -> Moved
-    ensures { λ r. ⌜ (r ≡ moved line Operation.Release party)
-        × (printed (r .answer) ≡ printed (moved line Operation.Release party .answer)) ⌝ }
+    ensures { λ r. ⌜ (r ≡ lineMove line Operation.Release party)
+        × (printed (r .answer) ≡ printed (lineMove line Operation.Release party .answer)) ⌝ }
 {
     call(line, Operation::Release, party)
 }

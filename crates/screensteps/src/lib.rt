@@ -3,7 +3,7 @@
 use hub::answers::Answer;
 use screen::record::Line;
 use screen::record::Operation;
-use screenfit::held;
+use screenfit::holder_count;
 use screenmove::call;
 ghost use mathlib.Core.Path.{_≡_};
 ghost use Rattle.screen.specs.Steps.{ownSteps, stepsToRest, toCounter};
@@ -29,7 +29,7 @@ fn own_steps(line: Line, operation: Operation) -> u8
 {
     match operation {
         Operation::Acquire => {
-            if held(line) < line.permits {
+            if holder_count(line) < line.permits {
                 return to_counter(line.named);
             }
             TO_WAIT

@@ -33,9 +33,9 @@ use Rattle.screen.specs.declared.record.Line.{Line}
 use Rattle.screen.specs.declared.record.Moved.{Moved}
 use Rattle.screen.specs.declared.record.Operation.{Operation}
 use Rattle.screen.specs.Line.{waiters, withHolding, withWaiters}
-use Rattle.screen.specs.Moves.{acquire, callOf, cancel, hasPermit, hasWaiter, isAccepted, moved, nextWaiter}
-use Rattle.screen.specs.Moves.{ownMove, refused, release, without}
-use Rattle.screen.specs.Moves as screen
+use Rattle.screen.specs.Moves.{acquire, callOf, cancel, checkedMove, hasPermit, hasWaiter, isAccepted, lineMove}
+use Rattle.screen.specs.Moves.{nextWaiter}
+use Rattle.screen.specs.Moves.{ownMove, refusedMove, release, without}
 use Rattle.screen.specs.Steps.{TO-HAND-OVER, TO-WAIT, ownSteps, ownWoken, toCounter}
 use Rattle.screen.proofs.Laws.Fit.{fits as fits-line}
 use Rattle.screen.proofs.Reached.Sound.{Sound, waiters-of}
@@ -79,7 +79,7 @@ module _ (h : Hub) (l : Line) (o : SameOpening (h .opening) l) (ls : List Phase)
 -- A refusal.
 refused-same : (h : Hub) (l : Line) (o : Operation) (r : Refusal) → Seen h l
     → isAccepted (Answer.Refused r) ≡ false
-    → Same (record { answer = Answer.Refused r; woken = 0xFF; steps = 0; hub = h }) l o (refused r l)
+    → Same (record { answer = Answer.Refused r; woken = 0xFF; steps = 0; hub = h }) l o (refusedMove r l)
 refused-same h l o r s e =
     record {
       answer = refl;
@@ -300,28 +300,28 @@ module _ (h : Hub) (l : Line) (r : AtRest h) (g : Sound l) (s : Seen h l) (p : �
       h (callOf o p)
 
   checked-same : (o : Operation) (b : Bool) → ltb p (h .opening .parties) ≡ b
-      → Follows (hubBy true b o) o (screen.checked true b l (ownMove l o p))
-  unfolding checked screen.checked
+      → Follows (hubBy true b o) o (checkedMove true b l (ownMove l o p))
+  unfolding checked checkedMove
   checked-same o false e = λ n j. refused-same h l o Refusal.NoSuchParty s refl
   checked-same o true e =
       own-same (omega (arith, ltb-true p (h .opening .parties) e, r .few)) o
       (isFull (h .oldest) (h .figures .issued) (h .slots))
 
   fitting-same : (o : Operation)
-      → Follows (hubBy (fits h) (ltb p (h .opening .parties)) o) o (moved l o p)
-  unfolding moved run
+      → Follows (hubBy (fits h) (ltb p (h .opening .parties)) o) o (lineMove l o p)
+  unfolding lineMove run
   fitting-same o =
       let fit : fits h ≡ true = r .fit [] in
       let there = ltb p (h .opening .parties) in
       let own = ownMove l o p in
-      subst (λ (b : Bool). Follows (hubBy b there o) o (moved l o p)) (sym fit)
-      (subst (λ (b : Bool). Follows (hubBy true there o) o (screen.checked b (ltb p (l .parties)) l own))
+      subst (λ (b : Bool). Follows (hubBy b there o) o (lineMove l o p)) (sym fit)
+      (subst (λ (b : Bool). Follows (hubBy true there o) o (checkedMove b (ltb p (l .parties)) l own))
       (sym (fits-line l (g .fit)))
-      (subst (λ (n : ℕ). Follows (hubBy true there o) o (screen.checked true (ltb p n) l own)) (sym (s .opened .parties))
+      (subst (λ (n : ℕ). Follows (hubBy true there o) o (checkedMove true (ltb p n) l own)) (sym (s .opened .parties))
       (checked-same o there refl)))
 
   -- Every operation.
-  pub operation-same : (o : Operation) → Follows (operatedAtRest h (callOf o p)) o (moved l o p)
+  pub operation-same : (o : Operation) → Follows (operatedAtRest h (callOf o p)) o (lineMove l o p)
   unfolding operatedAtRest
   operation-same Operation.Acquire = fitting-same Operation.Acquire
   operation-same Operation.Cancel = fitting-same Operation.Cancel

@@ -17,7 +17,7 @@ use Rattle.hub.specs.Table.{aboveZero, belowZero}
 use Rattle.operations.proofs.Rest.{AtRest}
 use Rattle.operations.proofs.Waits.{permit-left}
 use Rattle.screen.specs.declared.record.Line.{Line}
-use Rattle.screen.specs.Fits.{held}
+use Rattle.screen.specs.Fits.{holderCount}
 use Rattle.screen.specs.Line.{holders, holdersFrom, holdsIn, waiters, waitsIn}
 use Rattle.screen.specs.Moves.{hasPermit, hasWaiter, nextWaiter}
 use Rattle.screen.proofs.Reached.Sound.{Sound, waiting-is}
@@ -62,10 +62,10 @@ module _ (h : Hub) (l : Line) (r : AtRest h) (g : Sound l) (s : Seen h l) where
   pub permit-same : hasPermit l ≡ aboveZero (h .figures .counter)
   unfolding hasPermit holders
   permit-same =
-      ap₂ ltb held-same (s .opened .permits) ∙ sym (permit-left h r)
+      ap₂ ltb holder-count-same (s .opened .permits) ∙ sym (permit-left h r)
     where
-      held-same : held l ≡ count isHolding (phases h)
-      held-same =
+      holder-count-same : holderCount l ≡ count isHolding (phases h)
+      holder-count-same =
           ap (λ (b : List Bool). length (holdersFrom 0 b)) (s .holding)
           ∙ ap length (sym (parties-bits 0 isHolding (phases h))) ∙ parties-count isHolding (phases h)
 

@@ -27,10 +27,10 @@ use Rattle.screen.specs.declared.record.Line.{Line}
 use Rattle.screen.specs.declared.record.Moved.{Moved}
 use Rattle.screen.specs.declared.record.Operation.{Operation}
 use Rattle.screen.specs.Line.{holders, holdersFrom, openedLine, waiters}
-use Rattle.screen.specs.Moves.{callOf, lineOpening, moved}
-use Rattle.screen.specs.Reached.{Request, lineAfter}
+use Rattle.screen.specs.Moves.{callOf, lineMove, lineOpening}
+use Rattle.screen.specs.Reached.{DeskRequest, lineAfter}
 use Rattle.screen.specs.Steps.{stepsToRest, wokenBy}
-use Rattle.screen.proofs.Reached.Moved.{moved-sound, opened-sound}
+use Rattle.screen.proofs.Reached.Moved.{move-sound, opened-sound}
 use Rattle.screen.proofs.Reached.Sound.{Sound}
 use Rattle.shown.specs.Parties.{holdersOf, waitersFrom, waitersOf}
 use Rattle.shown.specs.Shows.{Alike, NoSixOrSeven, ScreenShows, callFor, hubAfter, hubTold}
@@ -92,15 +92,15 @@ module _ (o : Opening) (e : opening o .answer ≡ Answer.Opened) where
       subst C (x .ran) (f o e (x .calls) (λ p. ap (λ (g : Hub). rests g p) (x .ran) ∙ x .calm p))
 
   -- One operation more.
-  module _ (h : Hub) (l : Line) (x : Pair h l) (r : Request) where
+  module _ (h : Hub) (l : Line) (x : Pair h l) (r : DeskRequest) where
     abbrev after : Operated
     after = operated h (callFor r)
 
     abbrev shown : Moved
-    shown = moved l (r .operation) (r .party)
+    shown = lineMove l (r .operation) (r .party)
 
     sound-on : Sound (shown .line)
-    sound-on = moved-sound l (r .operation) (r .party) (x .sound)
+    sound-on = move-sound l (r .operation) (r .party) (x .sound)
 
     same-move : isSixOrSeven (after .answer) ≡ false → Same after l (r .operation) shown
     unfolding ComesTo
@@ -127,7 +127,7 @@ module _ (o : Opening) (e : opening o .answer ≡ Answer.Opened) where
           seen = same-move n .seen;
         }
 
-  every : (h : Hub) (l : Line) (rs : List Request) → Pair h l → NoSixOrSeven (hubTold h rs)
+  every : (h : Hub) (l : Line) (rs : List DeskRequest) → Pair h l → NoSixOrSeven (hubTold h rs)
       → (hubTold h rs ≡ lineTold l rs) × Pair (hubAfter h rs) (lineAfter l rs)
   unfolding hubTold hubAfter lineTold lineAfter NoSixOrSeven wokenBy stepsToRest
   every h l [] x n = (refl, x)
@@ -151,7 +151,7 @@ module _ (o : Opening) (e : opening o .answer ≡ Answer.Opened) where
   unfolding lineOpening
   same-line = if-true _ firstLine _ (by-opened o _ _ (ends o (tests o)) e .0)
 
-  alike : (rs : List Request) → NoSixOrSeven (hubTold first rs) → Alike first firstLine rs
+  alike : (rs : List DeskRequest) → NoSixOrSeven (hubTold first rs) → Alike first firstLine rs
   alike rs n =
       let y = every first firstLine rs first-pair n in
       let x = y .1 in

@@ -15,35 +15,35 @@ use Rattle.operations.specs.declared.Told.{Told}
 use Rattle.operations.specs.Operation.{operated, toldOf}
 use Rattle.screen.specs.declared.record.Line.{Line}
 use Rattle.screen.specs.Line.{holders, waiters}
-use Rattle.screen.specs.Moves.{callOf, lineOpening, moved}
-use Rattle.screen.specs.Reached.{Request, lineAfter}
+use Rattle.screen.specs.Moves.{callOf, lineMove, lineOpening}
+use Rattle.screen.specs.Reached.{DeskRequest, lineAfter}
 use Rattle.screen.specs.Steps.{stepsToRest, wokenBy}
 use Rattle.shown.specs.Parties.{holdersOf, waitersOf}
 
 -- The hub's call by which a clerk's request begins there.
-abbrev pub callFor : Request → Call
+abbrev pub callFor : DeskRequest → Call
 callFor r = callOf (r .operation) (r .party)
 
 -- At the hub, each operation run to rest on the record that the one before it left: the last record, and what
 -- each of them came to.
-unfoldable pub hubAfter : Hub → List Request → Hub
+unfoldable pub hubAfter : Hub → List DeskRequest → Hub
 hubAfter h [] = h
 hubAfter h (r ∷ rs) = hubAfter (operated h (callFor r) .hub) rs
 
-unfoldable pub hubTold : Hub → List Request → List Told
+unfoldable pub hubTold : Hub → List DeskRequest → List Told
 hubTold h [] = []
 hubTold h (r ∷ rs) =
     let x = operated h (callFor r) in
     toldOf x ∷ hubTold (x .hub) rs
 
 -- What the screen tells of each, from its line alone; `lineAfter` is the line that they leave.
-unfoldable pub lineTold : Line → List Request → List Told
+unfoldable pub lineTold : Line → List DeskRequest → List Told
 lineTold l [] = []
 lineTold l (r ∷ rs) =
     let o = r .operation in
     let p = r .party in
-    record { answer = moved l o p .answer; woken = wokenBy l o p; steps = stepsToRest l o p }
-    ∷ lineTold (moved l o p .line) rs
+    record { answer = lineMove l o p .answer; woken = wokenBy l o p; steps = stepsToRest l o p }
+    ∷ lineTold (lineMove l o p .line) rs
 
 -- No ask meets 6 or 7.
 abbrev pub isSixOrSeven : Answer → Bool
@@ -54,7 +54,7 @@ NoSixOrSeven [] = Unit {0}
 NoSixOrSeven (x ∷ xs) = (isSixOrSeven (x .answer) ≡ false) × NoSixOrSeven xs
 
 -- After these operations the hub h and the line l, both just opened, show the same.
-pub record Alike (h : Hub) (l : Line) (rs : List Request) : Type 0 where
+pub record Alike (h : Hub) (l : Line) (rs : List DeskRequest) : Type 0 where
   pub holders : holdersOf (hubAfter h rs) ≡ holders (lineAfter l rs)
   pub waiters : waitersOf (hubAfter h rs) ≡ waiters (lineAfter l rs)
   pub told : hubTold h rs ≡ lineTold l rs
@@ -67,6 +67,6 @@ pub record Alike (h : Hub) (l : Line) (rs : List Request) : Type 0 where
 -- of operations.
 unfoldable pub ScreenShows : Type 0
 ScreenShows =
-    (o : Opening) → opening o .answer ≡ Answer.Opened → (rs : List Request)
+    (o : Opening) → opening o .answer ≡ Answer.Opened → (rs : List DeskRequest)
     → let h = opening o .hub in
     NoSixOrSeven (hubTold h rs) → Alike h (lineOpening o .line) rs

@@ -18,17 +18,18 @@ use Rattle.screen.specs.declared.record.Line.{Line}
 use Rattle.screen.specs.declared.record.Operation.{Operation}
 use Rattle.screen.specs.Fits.{lineFits}
 use Rattle.screen.specs.Line.{openedLine}
-use Rattle.screen.specs.Moves.{lineOpening, moved, noLine}
+use Rattle.screen.specs.Moves.{lineMove, lineOpening, noLine}
 use Rattle.screen.proofs.Laws.Answers.{unfit}
 use Rattle.screen.proofs.Laws.Fit.{fit}
-use Rattle.screen.proofs.Reached.Moved.{moved-sound}
-use Rattle.deskline.specs.declared.reply.Reply.{Reply}
+use Rattle.screen.proofs.Reached.Moved.{move-sound}
+use Rattle.deskline.specs.declared.reply.DeskReply.{DeskReply}
 use Rattle.deskfeed.specs.declared.session.Fed.{Fed}
 use Rattle.deskfeed.specs.declared.session.Session.{Session}
-use Rattle.deskline.specs.Replies.{Asked, anOpening, anOperation, askedBy, isOpen, nothing, opened, operated, respond}
+use Rattle.deskline.specs.Replies.{Asked, anOpening, anOperation, askedBy, isOpenLine, nothing, openingReply}
+use Rattle.deskline.specs.Replies.{operationReply, replyTo}
 use Rattle.deskfeed.specs.Session.{Printable, Sound, fed, left, said, told}
-use Rattle.deskline.specs.Text.{LONGEST-TEXT, lineText, placed}
-use Rattle.deskline.proofs.Laws.Placed.{Written, from-start, next as then, none, placed-length}
+use Rattle.deskline.specs.Text.{LONGEST-TEXT, lineText, putAt}
+use Rattle.deskline.proofs.Laws.PutAt.{Written, from-start, next as then, none, put-at-length}
 
 -- Every answer leaves a line that can be printed.
 pub opened-printable : (o : Opening) → Printable (openedLine o)
@@ -36,13 +37,13 @@ unfolding openedLine
 opened-printable o =
     record { holding = length-replicate 32 false; queue = length-replicate {A = ℕ} 32 0; few = omega arith }
 
-moved-printable : (l : Line) (o : Operation) (p : ℕ) → Printable l → Printable (moved l o p .line)
-moved-printable l o p r = go (lineFits l) refl
+move-printable : (l : Line) (o : Operation) (p : ℕ) → Printable l → Printable (lineMove l o p .line)
+move-printable l o p r = go (lineFits l) refl
   where
-    go : (b : Bool) → lineFits l ≡ b → Printable (moved l o p .line)
+    go : (b : Bool) → lineFits l ≡ b → Printable (lineMove l o p .line)
     go false e = subst (λ m. Printable (m .line)) (sym (unfit l p o e)) r
     go true e =
-        let s = moved-sound l o p (record { fit = fit l e; holding = r .holding; queue = r .queue }) in
+        let s = move-sound l o p (record { fit = fit l e; holding = r .holding; queue = r .queue }) in
         record { holding = s .holding; queue = s .queue; few = s .fit .short }
 
 opening-printable : (o : Opening) → Printable (lineOpening o .line)
@@ -53,18 +54,18 @@ opening-printable o = go (allPassed (tests o))
     go true = opened-printable o
     go false = opened-printable nobody
 
-either : (b : Bool) (r t : Reply) → Printable (r .line) → Printable (t .line) → Printable (cond b r t .line)
+either : (b : Bool) (r t : DeskReply) → Printable (r .line) → Printable (t .line) → Printable (cond b r t .line)
 either true r t p q = p
 either false r t p q = q
 
-pub printable : (l : Line) (a : Asked) → Printable l → Printable (respond l a .line)
-unfolding respond opened operated
+pub printable : (l : Line) (a : Asked) → Printable l → Printable (replyTo l a .line)
+unfolding replyTo openingReply operationReply
 printable l nothing r = r
-printable l (anOpening o) r = either (isOpen l) _ _ r (opening-printable o)
-printable l (anOperation o p) r = either (isOpen l) _ _ (moved-printable l o p r) r
+printable l (anOpening o) r = either (isOpenLine l) _ _ r (opening-printable o)
+printable l (anOperation o p) r = either (isOpenLine l) _ _ (move-printable l o p r) r
 
-pub reply-printable : (l : Line) (a : Asked) (r : Reply) → Printable l → r ≡ respond l a → Printable (r .line)
-reply-printable l a r p e = subst (λ (x : Reply). Printable (x .line)) (sym e) (printable l a p)
+pub reply-printable : (l : Line) (a : Asked) (r : DeskReply) → Printable l → r ≡ replyTo l a → Printable (r .line)
+reply-printable l a r p e = subst (λ (x : DeskReply). Printable (x .line)) (sym e) (printable l a p)
 
 -- After i characters, from the line l₀, the reader r₀ and the buffer out₀; n lines have ended.
 pub record Upto (l₀ : Line) (r₀ : Reader) (piece out₀ : List ℕ) (l : Line) (r : Reader) (out : List ℕ) (at i : ℕ)
@@ -160,9 +161,9 @@ module _ {l₀ : Line} {r₀ : Reader} {piece out₀ : List ℕ} {l : Line} {r :
       omega (arith, u .room, u .long, u .small, u .count, ap length (asked-here h f))
 
   -- The end of a line: it is answered, and the answer is printed.
-  pub line-end : i < length piece → getD piece i 0 ≡ 0x0A → (a : Reply)
-      → a ≡ respond l (askedBy (requestOf (lineIn r))) → (end : ℕ) (v : List ℕ) → end ≡ at + length (lineText a)
-      → v ≡ placed at (lineText a) out → end ≤ at + LONGEST-TEXT
+  pub line-end : i < length piece → getD piece i 0 ≡ 0x0A → (a : DeskReply)
+      → a ≡ replyTo l (askedBy (requestOf (lineIn r))) → (end : ℕ) (v : List ℕ) → end ≡ at + length (lineText a)
+      → v ≡ putAt at (lineText a) out → end ≤ at + LONGEST-TEXT
       → Upto l₀ r₀ piece out₀ (a .line) (emptied r) v end (i + 1)
   unfolding said left
   line-end h f a e end v x y z =
@@ -179,17 +180,17 @@ module _ {l₀ : Line} {r₀ : Reader} {piece out₀ : List ℕ} {l : Line} {r :
         short = omega arith;
         size = u .size;
         room = u .room;
-        long = ap length y ∙ placed-length out (lineText a) at (omega (arith, x)) ∙ u .long;
+        long = ap length y ∙ put-at-length out (lineText a) at (omega (arith, x)) ∙ u .long;
         small = omega (arith, u .small);
         reader =
             sym (ap (past r) (here h) ∙ past-one r c cs ∙ ap (λ (p : Reader). past p cs) (ended r c f))
             ∙ u .reader;
-        line = ap (λ (p : Reply). left (p .line) rs) e ∙ ap (left l) (sym b) ∙ u .line;
+        line = ap (λ (p : DeskReply). left (p .line) rs) e ∙ ap (left l) (sym b) ∙ u .line;
         count = omega (arith, u .count, ap length b);
         done = then (u .done) (lineText a) x y (omega (arith, x, u .long));
         sum =
             append-assoc (u .text) (lineText a) (said (a .line) rs)
-            ∙ ap (λ (p : Reply). u .text ++ (lineText p ++ said (p .line) rs)) e
+            ∙ ap (λ (p : DeskReply). u .text ++ (lineText p ++ said (p .line) rs)) e
             ∙ ap (λ (q : List Request). u .text ++ said l q) (sym b)
             ∙ u .sum;
       }

@@ -16,7 +16,7 @@ use Rattle.screen.specs.declared.record.Line.{Line}
 use Rattle.screen.specs.Moves.{noLine}
 use Rattle.deskfeed.specs.declared.session.Fed.{Fed}
 use Rattle.deskfeed.specs.declared.session.Session.{Session}
-use Rattle.deskline.specs.Replies.{askedBy, respond}
+use Rattle.deskline.specs.Replies.{askedBy, replyTo}
 use Rattle.deskfeed.specs.Session.{InPieces, Printable, Sound, atStart, fed, finished, left, outputOf, said}
 use Rattle.deskfeed.specs.Session.{told, toldAll}
 use Rattle.deskline.specs.Text.{LONGEST-TEXT, lineText}
@@ -46,7 +46,7 @@ said-append : (qs rs : List Request) (l : Line) → said l (qs ++ rs) ≡ said l
 unfolding said left
 said-append [] rs l = refl
 said-append (q ∷ qs) rs l =
-    let r = respond l (askedBy q) in
+    let r = replyTo l (askedBy q) in
     ap (λ (x : List ℕ). lineText r ++ x) (said-append qs rs (r .line))
     ∙ sym (append-assoc (lineText r) (said (r .line) qs) (said (left (r .line) qs) rs))
 

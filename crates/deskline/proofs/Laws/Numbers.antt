@@ -10,19 +10,19 @@ use lib.Dec.{eqb, ltb}
 use lib.ListN.{length, getD, take, drop, drop-of-length-le, length-append}
 use lib.Seq.{drop-cons, getD-take, length-take-le}
 use Rattle.screen.specs.Line.{holdersFrom}
-use Rattle.deskline.specs.Text.{HELD, SPACE, WAITING, decimal, digitChar, numbers, placed, stepsText}
-use Rattle.deskline.proofs.Laws.Placed.{Written, gives, next, none, placed-length, text-is}
+use Rattle.deskline.specs.Text.{HELD, SPACE, WAITING, decimal, decimalChar, numbers, putAt, stepsText}
+use Rattle.deskline.proofs.Laws.PutAt.{Written, gives, next, none, put-at-length, text-is}
 
-pub one-digit : (n : ℕ) → n < 10 → decimal n ≡ digitChar n ∷ []
+pub one-digit : (n : ℕ) → n < 10 → decimal n ≡ decimalChar n ∷ []
 unfolding decimal
 one-digit n h = rw (lt-ltb n 10 h)
 
-pub two-digits : (n : ℕ) → 10 ≤ n → n < 100 → decimal n ≡ digitChar (n / 10) ∷ digitChar n ∷ []
+pub two-digits : (n : ℕ) → 10 ≤ n → n < 100 → decimal n ≡ decimalChar (n / 10) ∷ decimalChar n ∷ []
 unfolding decimal
 two-digits n h k = rw (le-ltb n 10 h, lt-ltb n 100 k)
 
 pub three-digits : (n : ℕ) → 10 ≤ n → 100 ≤ n
-    → decimal n ≡ digitChar (n / 100) ∷ digitChar (n / 10) ∷ digitChar n ∷ []
+    → decimal n ≡ decimalChar (n / 100) ∷ decimalChar (n / 10) ∷ decimalChar n ∷ []
 unfolding decimal
 three-digits n h k = rw (le-ltb n 10 h, le-ltb n 100 k)
 
@@ -31,8 +31,9 @@ unfolding decimal
 decimal-short n = go (ltb n 10) (ltb n 100)
   where
     go : (a b : Bool)
-        → length (cond a (digitChar n ∷ [])
-        (cond b (digitChar (n / 10) ∷ digitChar n ∷ []) (digitChar (n / 100) ∷ digitChar (n / 10) ∷ digitChar n ∷ [])))
+        → length (cond a (decimalChar n ∷ [])
+        (cond b (decimalChar (n / 10) ∷ decimalChar n ∷ [])
+        (decimalChar (n / 100) ∷ decimalChar (n / 10) ∷ decimalChar n ∷ [])))
         ≤ 3
     go true b = omega arith
     go false true = omega arith
@@ -97,7 +98,7 @@ module _ {at : ℕ} {out₀ all rest : List ℕ} {i end : ℕ} {out : List ℕ} 
       }
 
   pub listed-one : {rest′ : List ℕ} {x end′ : ℕ} {out′ : List ℕ} → i < 32 → rest ≡ x ∷ rest′
-      → end′ ≡ end + length (numbers (x ∷ [])) → out′ ≡ placed end (numbers (x ∷ [])) out
+      → end′ ≡ end + length (numbers (x ∷ [])) → out′ ≡ putAt end (numbers (x ∷ [])) out
       → Listed at out₀ all rest′ (i + 1) end′ out′
   listed-one {rest′} {x} h e f g =
       record {
@@ -115,12 +116,12 @@ module _ {at : ℕ} {out₀ all rest : List ℕ} {i end : ℕ} {out : List ℕ} 
         room = l .room;
         long =
             ap length g
-            ∙ placed-length out (numbers (x ∷ [])) end
+            ∙ put-at-length out (numbers (x ∷ [])) end
             (omega (arith, l .done .past, l .few, l .room, l .long, number-short x))
             ∙ l .long;
       }
 
-  pub listed-all : rest ≡ [] → (end ≡ at + length (numbers all)) × (out ≡ placed at (numbers all) out₀)
+  pub listed-all : rest ≡ [] → (end ≡ at + length (numbers all)) × (out ≡ putAt at (numbers all) out₀)
   listed-all e =
       gives
       (text-is

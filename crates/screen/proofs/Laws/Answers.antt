@@ -14,10 +14,11 @@ use Rattle.hub.specs.Kinds.{kindIn}
 use Rattle.hub.proofs.Laws.Bools.{first, second}
 use Rattle.screen.specs.declared.record.Line.{Line}
 use Rattle.screen.specs.declared.record.Operation.{Operation}
-use Rattle.screen.specs.Fits.{held, lineFits}
+use Rattle.screen.specs.Fits.{holderCount, lineFits}
 use Rattle.screen.specs.Line.{holders, holdsIn, placeOf, waiters, waitsIn, withHolding, withWaiters}
-use Rattle.screen.specs.Moves.{accepted, acquire, cancel, checked, hasPermit, hasWaiter, moved, nextWaiter}
-use Rattle.screen.specs.Moves.{ownMove, refused, release, without}
+use Rattle.screen.specs.Moves.{acceptedMove, acquire, cancel, checkedMove, hasPermit, hasWaiter, lineMove}
+use Rattle.screen.specs.Moves.{nextWaiter}
+use Rattle.screen.specs.Moves.{ownMove, refusedMove, release, without}
 use Rattle.screen.proofs.Laws.Fit.{Fit, room, waits-cons}
 use Rattle.screen.proofs.Laws.Holders.{held-weight}
 use Rattle.screen.proofs.Laws.Lists.{among-here}
@@ -26,66 +27,67 @@ use Rattle.screen.proofs.Laws.Places.{place-among, place-left}
 
 module _ (l : Line) (p : ℕ) where
   -- 1 and 4.
-  pub unfit : (o : Operation) → lineFits l ≡ false → moved l o p ≡ refused Refusal.Unfit l
-  unfolding moved checked
+  pub unfit : (o : Operation) → lineFits l ≡ false → lineMove l o p ≡ refusedMove Refusal.Unfit l
+  unfolding lineMove checkedMove
   unfit o e = rw e
 
-  pub no-party : (o : Operation) → lineFits l ≡ true → l .parties ≤ p → moved l o p ≡ refused Refusal.NoSuchParty l
-  unfolding moved checked
+  pub no-party : (o : Operation) → lineFits l ≡ true → l .parties ≤ p
+      → lineMove l o p ≡ refusedMove Refusal.NoSuchParty l
+  unfolding lineMove checkedMove
   no-party o e h = rw (e, le-ltb p (l .parties) h)
 
-  pub own : (o : Operation) → lineFits l ≡ true → p < l .parties → moved l o p ≡ ownMove l o p
-  unfolding moved checked
+  pub own : (o : Operation) → lineFits l ≡ true → p < l .parties → lineMove l o p ≡ ownMove l o p
+  unfolding lineMove checkedMove
   own o e h = rw (e, lt-ltb p (l .parties) h)
 
   -- Ask.
-  pub holds-already : getD (l .holding) p false ≡ true → ownMove l Operation.Acquire p ≡ refused Refusal.NotFree l
+  pub holds-already : getD (l .holding) p false ≡ true → ownMove l Operation.Acquire p ≡ refusedMove Refusal.NotFree l
   unfolding ownMove acquire holdsIn
   holds-already e = rw e
 
   pub waits-already : getD (l .holding) p false ≡ false → among (waiters l) p ≡ true
-      → ownMove l Operation.Acquire p ≡ refused Refusal.NotFree l
+      → ownMove l Operation.Acquire p ≡ refusedMove Refusal.NotFree l
   unfolding ownMove acquire holdsIn waitsIn
   waits-already e f = rw (e, f)
 
-  pub acquires : getD (l .holding) p false ≡ false → among (waiters l) p ≡ false → held l < l .permits
-      → ownMove l Operation.Acquire p ≡ accepted (withHolding (set (l .holding) p true) l)
+  pub acquires : getD (l .holding) p false ≡ false → among (waiters l) p ≡ false → holderCount l < l .permits
+      → ownMove l Operation.Acquire p ≡ acceptedMove (withHolding (set (l .holding) p true) l)
   unfolding ownMove acquire holdsIn waitsIn hasPermit
-  acquires e f h = rw (e, f, lt-ltb (held l) (l .permits) h)
+  acquires e f h = rw (e, f, lt-ltb (holderCount l) (l .permits) h)
 
-  pub queues : getD (l .holding) p false ≡ false → among (waiters l) p ≡ false → l .permits ≤ held l
-      → ownMove l Operation.Acquire p ≡ accepted (withWaiters (waiters l ++ (p ∷ [])) l)
+  pub queues : getD (l .holding) p false ≡ false → among (waiters l) p ≡ false → l .permits ≤ holderCount l
+      → ownMove l Operation.Acquire p ≡ acceptedMove (withWaiters (waiters l ++ (p ∷ [])) l)
   unfolding ownMove acquire holdsIn waitsIn hasPermit
-  queues e f h = rw (e, f, le-ltb (held l) (l .permits) h)
+  queues e f h = rw (e, f, le-ltb (holderCount l) (l .permits) h)
 
   -- Give up.
-  pub waits-not : among (waiters l) p ≡ false → ownMove l Operation.Cancel p ≡ refused Refusal.NotWaiting l
+  pub waits-not : among (waiters l) p ≡ false → ownMove l Operation.Cancel p ≡ refusedMove Refusal.NotWaiting l
   unfolding ownMove cancel waitsIn
   waits-not e = rw e
 
   pub may-not : among (waiters l) p ≡ true → kindIn (l .kinds) p ≡ 3
-      → ownMove l Operation.Cancel p ≡ refused Refusal.NotCancellable l
+      → ownMove l Operation.Cancel p ≡ refusedMove Refusal.NotCancellable l
   unfolding ownMove cancel waitsIn
   may-not e k = ap₂ (λ (w t : Bool). cancel w t l p) e (eq-eqb (kindIn (l .kinds) p) 3 k)
 
   pub cancels : among (waiters l) p ≡ true → (kindIn (l .kinds) p ≡ 3 → ⊥)
-      → ownMove l Operation.Cancel p ≡ accepted (withWaiters (without p (waiters l)) l)
+      → ownMove l Operation.Cancel p ≡ acceptedMove (withWaiters (without p (waiters l)) l)
   unfolding ownMove cancel waitsIn
   cancels e k = ap₂ (λ (w t : Bool). cancel w t l p) e (ne-eqb (kindIn (l .kinds) p) 3 k)
 
   -- Give back.
-  pub holds-not : getD (l .holding) p false ≡ false → ownMove l Operation.Release p ≡ refused Refusal.NotHolding l
+  pub holds-not : getD (l .holding) p false ≡ false → ownMove l Operation.Release p ≡ refusedMove Refusal.NotHolding l
   unfolding ownMove release holdsIn
   holds-not e = rw e
 
   pub returns : getD (l .holding) p false ≡ true → l .waiting < 1
-      → ownMove l Operation.Release p ≡ accepted (withHolding (set (l .holding) p false) l)
+      → ownMove l Operation.Release p ≡ acceptedMove (withHolding (set (l .holding) p false) l)
   unfolding ownMove release holdsIn hasWaiter
   returns e h = rw (e, lt-leb 1 (l .waiting) h)
 
   pub hands-over : getD (l .holding) p false ≡ true → 1 ≤ l .waiting
       → ownMove l Operation.Release p
-      ≡ accepted
+      ≡ acceptedMove
       (withWaiters (drop 1 (waiters l))
       (withHolding (set (set (l .holding) p false) (nextWaiter l) true) l))
   unfolding ownMove release holdsIn hasWaiter
@@ -109,7 +111,7 @@ module _ (l : Line) (f : Fit l) (size : length (l .queue) ≡ 32) (p i : ℕ) (e
 
 -- There is a byte for one more that waits: whoever asks is on the line nowhere, and somebody holds.
 pub has-room : (l : Line) (p : ℕ) → Fit l → length (l .queue) ≡ 32 → length (l .holding) ≡ 32
-    → p < l .parties → getD (l .holding) p false ≡ false → among (waiters l) p ≡ false → l .permits ≤ held l
+    → p < l .parties → getD (l .holding) p false ≡ false → among (waiters l) p ≡ false → l .permits ≤ holderCount l
     → l .waiting < 32
 unfolding holders
 has-room l p f size sizes h e a k =
@@ -149,12 +151,12 @@ first-small l f size h =
 -- The line that a hand-over leaves, as the code makes it.
 pub handed-over : (l m : Line) (p : ℕ) → getD (l .holding) p false ≡ true → 1 ≤ l .waiting
     → m ≡ withWaiters (drop 1 (waiters l)) l
-    → accepted (withHolding (set (set (m .holding) p false) (getD (l .queue) 0 0) true) m)
+    → acceptedMove (withHolding (set (set (m .holding) p false) (getD (l .queue) 0 0) true) m)
     ≡ ownMove l Operation.Release p
 handed-over l m p e h i =
-    ap (λ (n : Line). accepted (withHolding (set (set (n .holding) p false) (getD (l .queue) 0 0) true) n)) i
+    ap (λ (n : Line). acceptedMove (withHolding (set (set (n .holding) p false) (getD (l .queue) 0 0) true) n)) i
     ∙ ap
     (λ (q : ℕ).
-    accepted (withWaiters (drop 1 (waiters l)) (withHolding (set (set (l .holding) p false) q true) l)))
+    acceptedMove (withWaiters (drop 1 (waiters l)) (withHolding (set (set (l .holding) p false) q true) l)))
     (sym (next-first l h))
     ∙ sym (hands-over l p e h)

@@ -10,7 +10,7 @@ use Rattle.hub.specs.Kinds.{hasDesk, kindsKnown}
 use Rattle.hub.specs.Radios.{differ}
 use Rattle.hub.proofs.Laws.Bools.{both, clause, first, none, passed, second}
 use Rattle.screen.specs.declared.record.Line.{Line}
-use Rattle.screen.specs.Fits.{everybody, held, lineClauses, lineFits}
+use Rattle.screen.specs.Fits.{everybody, holderCount, lineClauses, lineFits}
 use Rattle.screen.specs.Line.{holders}
 use Rattle.screen.proofs.Laws.Fit.{front-below}
 use Rattle.screen.proofs.Laws.Lists.{never, not-so}
@@ -40,9 +40,9 @@ module _ (l : Line) where
   -- All are met but one: does anybody wait, and do K hold?
   pub passes : upTo32 (l .permits) ≡ true → upTo32 (l .parties) ≡ true → l .waiting ≤ 32
       → differ (everybody l) && allPass (λ p. ltb p (l .parties)) (everybody l) ≡ true
-      → held l ≤ l .permits → allPass (λ b. eqb b 0) (drop (l .waiting) (l .queue)) ≡ true
+      → holderCount l ≤ l .permits → allPass (λ b. eqb b 0) (drop (l .waiting) (l .queue)) ≡ true
       → kindsKnown (l .kinds) ≡ true → hasDesk (l .kinds) ≡ true
-      → implies (leb 1 (l .waiting)) (eqb (held l) (l .permits)) ≡ lineFits l
+      → implies (leb 1 (l .waiting)) (eqb (holderCount l) (l .permits)) ≡ lineFits l
   unfolding lineFits
   passes k n w q h z known desk =
       same-truth _ _

@@ -16,7 +16,7 @@ use Rattle.hub.specs.Record.{PARTIES}
 use Rattle.hub.proofs.Laws.Bools.{clause, none, passed}
 use Rattle.hub.proofs.Laws.Lists.{weight-length, weight-set}
 use Rattle.screen.specs.declared.record.Line.{Line}
-use Rattle.screen.specs.Fits.{everybody, held, lineClauses, lineFits}
+use Rattle.screen.specs.Fits.{everybody, holderCount, lineClauses, lineFits}
 use Rattle.screen.specs.Line.{holders, waiters}
 use Rattle.screen.proofs.Laws.Holders.{holders-differ, holds-there}
 use Rattle.screen.proofs.Laws.Lists.{all-zero, among-back, among-cases, among-drop, among-either, among-front}
@@ -141,8 +141,8 @@ pub record Fit (l : Line) : Type 0 where
   pub short : l .waiting ≤ PARTIES
   pub below : (p : ℕ) → getD (l .holding) p false ≡ true → p < l .parties
   pub waits : Waits (l .holding) (l .parties) (waiters l)
-  pub few : held l ≤ l .permits
-  pub full : 1 ≤ l .waiting → held l ≡ l .permits
+  pub few : holderCount l ≤ l .permits
+  pub full : 1 ≤ l .waiting → holderCount l ≡ l .permits
   pub rest : (i : ℕ) → l .waiting ≤ i → getD (l .queue) i 0 ≡ 0
 
 module _ (l : Line) where

@@ -19,10 +19,11 @@ use Rattle.hub.proofs.Laws.Printed.{no-refusal}
 use Rattle.screen.specs.declared.record.Line.{Line}
 use Rattle.screen.specs.declared.record.Moved.{Moved}
 use Rattle.screen.specs.declared.record.Operation.{Operation}
-use Rattle.screen.specs.Fits.{held}
+use Rattle.screen.specs.Fits.{holderCount}
 use Rattle.screen.specs.Line.{openedLine}
-use Rattle.screen.specs.Moves.{acquire, cancel, checked, hasPermit, hasWaiter, isAccepted, lineOpening, moved}
-use Rattle.screen.specs.Moves.{noLine, ownMove, refused, release}
+use Rattle.screen.specs.Moves.{acquire, cancel, checkedMove, hasPermit, hasWaiter, isAccepted, lineMove}
+use Rattle.screen.specs.Moves.{lineOpening}
+use Rattle.screen.specs.Moves.{noLine, ownMove, refusedMove, release}
 use Rattle.screen.specs.Steps.{TO-HAND-OVER, TO-WAIT, ownSteps, stepsToRest, toCounter}
 
 pub with-printed : {m d : Moved} → m ≡ d → (m ≡ d) × (printed (m .answer) ≡ printed (d .answer))
@@ -57,14 +58,14 @@ own-told l Operation.Acquire p = acquire-told _ _ l p
 own-told l Operation.Cancel p = cancel-told _ _ l p
 own-told l Operation.Release p = release-told _ _ l p
 
-checked-told : (a b : Bool) (l : Line) (m : Moved) → Told (m .answer) → Told (checked a b l m .answer)
-unfolding checked
+checked-told : (a b : Bool) (l : Line) (m : Moved) → Told (m .answer) → Told (checkedMove a b l m .answer)
+unfolding checkedMove
 checked-told false b l m t = turned Refusal.Unfit
 checked-told true false l m t = turned Refusal.NoSuchParty
 checked-told true true l m t = t
 
-pub told : (l : Line) (o : Operation) (p : ℕ) → Told (moved l o p .answer)
-unfolding moved
+pub told : (l : Line) (o : Operation) (p : ℕ) → Told (lineMove l o p .answer)
+unfolding lineMove
 told l o p = checked-told _ _ l _ (own-told l o p)
 
 -- The tags of all answers but 20: here they are refusals.
@@ -78,23 +79,23 @@ not-taken taken t = absurd (miss OTHERS 2 tt t)
 not-taken (turned r) t = no-refusal r 0x20 (omega arith)
 
 module _ (l : Line) (o : Operation) (p : ℕ) where
-  pub no-steps : isAccepted (moved l o p .answer) ≡ false → stepsToRest l o p ≡ 0
+  pub no-steps : isAccepted (lineMove l o p .answer) ≡ false → stepsToRest l o p ≡ 0
   unfolding stepsToRest
   no-steps e = rw e
 
-  pub some-steps : moved l o p .answer ≡ Answer.Accepted → stepsToRest l o p ≡ ownSteps l o
+  pub some-steps : lineMove l o p .answer ≡ Answer.Accepted → stepsToRest l o p ≡ ownSteps l o
   unfolding stepsToRest
   some-steps e = rw e
 
 -- The steps of each operation.
 module _ (l : Line) where
-  pub at-counter : held l < l .permits → ownSteps l Operation.Acquire ≡ toCounter (l .named)
+  pub at-counter : holderCount l < l .permits → ownSteps l Operation.Acquire ≡ toCounter (l .named)
   unfolding ownSteps hasPermit
-  at-counter h = rw (lt-ltb (held l) (l .permits) h)
+  at-counter h = rw (lt-ltb (holderCount l) (l .permits) h)
 
-  pub must-wait : l .permits ≤ held l → ownSteps l Operation.Acquire ≡ TO-WAIT
+  pub must-wait : l .permits ≤ holderCount l → ownSteps l Operation.Acquire ≡ TO-WAIT
   unfolding ownSteps hasPermit
-  must-wait h = rw (le-ltb (held l) (l .permits) h)
+  must-wait h = rw (le-ltb (holderCount l) (l .permits) h)
 
   pub hands-over : 1 ≤ l .waiting → ownSteps l Operation.Release ≡ TO-HAND-OVER
   unfolding ownSteps hasWaiter
@@ -110,11 +111,11 @@ module _ (o : Opening) where
   lineBy b x = record { answer = x .answer; line = cond b (openedLine o) noLine }
 
   refused-by : (b : Bool) (x : Outcome) (r : Refusal) → Ends o b x → x .answer ≡ Answer.Refused r
-      → lineBy b x ≡ refused r noLine
+      → lineBy b x ≡ refusedMove r noLine
   refused-by false x r (Ends.refused q) e = ap (λ (y : Answer). record { answer = y; line = noLine }) e
   refused-by true x r Ends.opened e = let z : _≡_ {A = ℕ} 0 1 = cc in let w : ⊥ = omega arith in absurd w
 
-  pub not-opened : (r : Refusal) → opening o .answer ≡ Answer.Refused r → lineOpening o ≡ refused r noLine
+  pub not-opened : (r : Refusal) → opening o .answer ≡ Answer.Refused r → lineOpening o ≡ refusedMove r noLine
   unfolding lineOpening
   not-opened r e = refused-by _ _ r (ends o (tests o)) e
 

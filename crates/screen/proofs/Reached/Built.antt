@@ -18,24 +18,26 @@ use Rattle.hub.proofs.Laws.Radios.{radios-of}
 use Rattle.screen.specs.declared.record.Line.{Line}
 use Rattle.screen.specs.declared.record.Operation.{Operation}
 use Rattle.screen.specs.Line.{holdersFrom, openedLine, waiters}
-use Rattle.screen.specs.Moves.{moved}
-use Rattle.screen.specs.Reached.{LineReached, Request, lineAfter}
+use Rattle.screen.specs.Moves.{lineMove}
+use Rattle.screen.specs.Reached.{DeskRequest, LineReached, lineAfter}
 use Rattle.screen.proofs.Laws.Answers.{acquires, own, queues}
 use Rattle.screen.proofs.Laws.Fit.{Bounds, Waits, fits, waits-none}
 use Rattle.screen.proofs.Laws.Lists.{among-back, among-front, among-here, differ-apart, differ-cons, differ-head}
 use Rattle.screen.proofs.Laws.Lists.{differ-tail, never, not-so}
-use Rattle.screen.proofs.Reached.Sound.{Good, Sound, good, good-fits, held-is, lineOf, same-line, waiters-of}
+use Rattle.screen.proofs.Reached.Sound.{Good, Sound, good, good-fits, holder-count-is, lineOf, same-line}
+use Rattle.screen.proofs.Reached.Sound.{waiters-of}
 
 -- Parties ask one after the other.
-abbrev asks : List ℕ → List Request
+abbrev asks : List ℕ → List DeskRequest
 asks ps = map (λ p. record { operation = Operation.Acquire; party = p }) ps
 
-after-append : (l : Line) (a b : List Request) → lineAfter l (a ++ b) ≡ lineAfter (lineAfter l a) b
+after-append : (l : Line) (a b : List DeskRequest) → lineAfter l (a ++ b) ≡ lineAfter (lineAfter l a) b
 unfolding lineAfter
 after-append l [] b = refl
 after-append l (r ∷ a) b = after-append _ a b
 
-after-one : (l : Line) (r : Request) (rs : List Request) (m : Line) → moved l (r .operation) (r .party) .line ≡ m
+after-one : (l : Line) (r : DeskRequest) (rs : List DeskRequest) (m : Line)
+    → lineMove l (r .operation) (r .party) .line ≡ m
     → lineAfter l (r ∷ rs) ≡ lineAfter m rs
 unfolding lineAfter
 after-one l r rs m e = ap (λ (x : Line). lineAfter x rs) e
@@ -67,18 +69,18 @@ module _ (l : Line) (hs : List Bool) (w : List ℕ) (p : ℕ) (g : Good l hs w) 
   nowhere = ap (λ (v : List ℕ). among v p) (waiters-of l hs w (g .short)) ∙ a
 
   ask-holds : weight bit hs < l .permits
-      → moved (lineOf l hs w) Operation.Acquire p .line ≡ lineOf l (set hs p true) w
+      → lineMove (lineOf l hs w) Operation.Acquire p .line ≡ lineOf l (set hs p true) w
   ask-holds k =
       ap (λ m. m .line)
       (own (lineOf l hs w) p Operation.Acquire (fits _ (sound .fit)) h
-      ∙ acquires (lineOf l hs w) p e nowhere (omega (arith, held-is (lineOf l hs w))))
+      ∙ acquires (lineOf l hs w) p e nowhere (omega (arith, holder-count-is (lineOf l hs w))))
 
   ask-waits : l .permits ≤ weight bit hs
-      → moved (lineOf l hs w) Operation.Acquire p .line ≡ lineOf l hs (w ++ (p ∷ []))
+      → lineMove (lineOf l hs w) Operation.Acquire p .line ≡ lineOf l hs (w ++ (p ∷ []))
   ask-waits k =
       ap (λ m. m .line)
       (own (lineOf l hs w) p Operation.Acquire (fits _ (sound .fit)) h
-      ∙ queues (lineOf l hs w) p e nowhere (omega (arith, held-is (lineOf l hs w))))
+      ∙ queues (lineOf l hs w) p e nowhere (omega (arith, holder-count-is (lineOf l hs w))))
       ∙ ap (λ (v : List ℕ). lineOf l hs (v ++ (p ∷ []))) (waiters-of l hs w (g .short))
 
 -- The holders ask.

@@ -17,16 +17,17 @@ use Rattle.hub.proofs.Laws.Opening.{by-opened, each-passed, ends}
 use Rattle.screen.specs.declared.record.Line.{Line}
 use Rattle.screen.specs.declared.record.Moved.{Moved}
 use Rattle.screen.specs.declared.record.Operation.{Operation}
-use Rattle.screen.specs.Fits.{held}
+use Rattle.screen.specs.Fits.{holderCount}
 use Rattle.screen.specs.Line.{openedLine, waiters}
-use Rattle.screen.specs.Moves.{moved, nextWaiter, ownMove}
-use Rattle.screen.specs.Reached.{LineReached, Request, lineAfter}
+use Rattle.screen.specs.Moves.{lineMove, nextWaiter, ownMove}
+use Rattle.screen.specs.Reached.{DeskRequest, LineReached, lineAfter}
 use Rattle.screen.proofs.Laws.Answers.{acquires, cancels, hands-over, has-room, holds-already, holds-not}
 use Rattle.screen.proofs.Laws.Answers.{may-not, no-party, own, party-small, queues, returns, waits-already, waits-not}
 use Rattle.screen.proofs.Laws.Fit.{Bounds, fits, waits-none}
 use Rattle.screen.proofs.Laws.Lists.{never}
 use Rattle.screen.proofs.Reached.Sound.{Good, Sound, good, good-fits, good-handed, good-holder, good-queued}
-use Rattle.screen.proofs.Reached.Sound.{good-returned, good-without, held-is, lineOf, same-line, waiting-is}
+use Rattle.screen.proofs.Reached.Sound.{good-returned, good-without, holder-count-is, lineOf, same-line}
+use Rattle.screen.proofs.Reached.Sound.{waiting-is}
 
 -- An opened line.
 free-at : (n p : ℕ) → getD (replicate n false) p false ≡ false
@@ -55,23 +56,23 @@ module _ (l : Line) (p : ℕ) (s : Sound l) (h : p < l .parties) where
 
   ask-sound : Sound (ownMove l Operation.Acquire p .line)
   ask-sound =
-      go (getD (l .holding) p false) refl (among (waiters l) p) refl (decLe (suc (held l)) (l .permits))
+      go (getD (l .holding) p false) refl (among (waiters l) p) refl (decLe (suc (holderCount l)) (l .permits))
     where
       go : (b : Bool) → getD (l .holding) p false ≡ b → (c : Bool) → among (waiters l) p ≡ c
-          → Dec (held l < l .permits) → Sound (ownMove l Operation.Acquire p .line)
+          → Dec (holderCount l < l .permits) → Sound (ownMove l Operation.Acquire p .line)
       go true e c a d = by (holds-already l p e) s
       go false e true a d = by (waits-already l p e a) s
       go false e false a (yes d) =
           by (acquires l p e a d)
           (subst Sound (sym (same-line l s (set (l .holding) p true)))
           (good-fits l _ _
-          (good-holder l (l .holding) (waiters l) p (good l s) i h e a (omega (arith, held-is l)))))
+          (good-holder l (l .holding) (waiters l) p (good l s) i h e a (omega (arith, holder-count-is l)))))
       go false e false a (no d) =
           let r = has-room l p (s .fit) (s .queue) (s .holding) h e a (omega arith) in
           by (queues l p e a (omega arith))
           (good-fits l (l .holding) _
           (good-queued l (l .holding) (waiters l) p (good l s) i h e a
-          (omega (arith, held-is l, s .fit .few)) (omega (arith, waiting-is l s))))
+          (omega (arith, holder-count-is l, s .fit .few)) (omega (arith, waiting-is l s))))
 
   cancel-sound : Sound (ownMove l Operation.Cancel p .line)
   cancel-sound = go (among (waiters l) p) refl (ℕ-discrete (kindIn (l .kinds) p) 3)
@@ -107,17 +108,17 @@ module _ (l : Line) (p : ℕ) (s : Sound l) (h : p < l .parties) where
   own-sound Operation.Cancel = cancel-sound
   own-sound Operation.Release = release-sound
 
-pub moved-sound : (l : Line) (o : Operation) (p : ℕ) → Sound l → Sound (moved l o p .line)
-moved-sound l o p s = go (decLe (suc p) (l .parties))
+pub move-sound : (l : Line) (o : Operation) (p : ℕ) → Sound l → Sound (lineMove l o p .line)
+move-sound l o p s = go (decLe (suc p) (l .parties))
   where
-    go : Dec (p < l .parties) → Sound (moved l o p .line)
+    go : Dec (p < l .parties) → Sound (lineMove l o p .line)
     go (yes h) = by (own l p o (fits l (s .fit)) h) (own-sound l p s h o)
     go (no h) = by (no-party l p o (fits l (s .fit)) (omega arith)) s
 
-pub after-sound : (l : Line) (rs : List Request) → Sound l → Sound (lineAfter l rs)
+pub after-sound : (l : Line) (rs : List DeskRequest) → Sound l → Sound (lineAfter l rs)
 unfolding lineAfter
 after-sound l [] s = s
-after-sound l (r ∷ rs) s = after-sound _ rs (moved-sound l (r .operation) (r .party) s)
+after-sound l (r ∷ rs) s = after-sound _ rs (move-sound l (r .operation) (r .party) s)
 
 pub opened-sound : (o : Opening) → opening o .answer ≡ Answer.Opened → Sound (openedLine o)
 unfolding openedLine padded

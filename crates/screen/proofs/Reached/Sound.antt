@@ -15,7 +15,7 @@ use Rattle.hub.proofs.Laws.Bools.{second}
 use Rattle.hub.proofs.Laws.Lists.{weight-set}
 use Rattle.hub.proofs.Laws.Radios.{padded-length}
 use Rattle.screen.specs.declared.record.Line.{Line}
-use Rattle.screen.specs.Fits.{held}
+use Rattle.screen.specs.Fits.{holderCount}
 use Rattle.screen.specs.Line.{holders, waiters, withHolding, withWaiters}
 use Rattle.screen.specs.Moves.{without}
 use Rattle.screen.proofs.Laws.Fit.{Bounds, Fit, Waits}
@@ -31,9 +31,9 @@ pub record Sound (l : Line) : Type 0 where
   pub holding : length (l .holding) ≡ 32
   pub queue : length (l .queue) ≡ 32
 
-pub held-is : (l : Line) → held l ≡ weight bit (l .holding)
+pub holder-count-is : (l : Line) → holderCount l ≡ weight bit (l .holding)
 unfolding holders
-held-is l = held-weight (l .holding) 0
+holder-count-is l = held-weight (l .holding) 0
 
 -- The line of l's opening where these hold and those wait.
 abbrev pub lineOf : Line → List Bool → List ℕ → Line
@@ -63,8 +63,8 @@ good-fits l hs w g =
             short = g .short;
             below = g .below;
             waits = subst (Waits hs (l .parties)) (sym (waiters-of l hs w (g .short))) (g .waits);
-            few = omega (arith, held-is (lineOf l hs w), g .few);
-            full = λ h. held-is (lineOf l hs w) ∙ g .full h;
+            few = omega (arith, holder-count-is (lineOf l hs w), g .few);
+            full = λ h. holder-count-is (lineOf l hs w) ∙ g .full h;
             rest = λ i h. go i h (decLe (suc i) 32);
           };
       holding = g .size;
@@ -88,8 +88,8 @@ module _ (l : Line) (s : Sound l) where
         short = omega (arith, waiting-is, s .fit .short);
         below = s .fit .below;
         waits = s .fit .waits;
-        few = omega (arith, held-is l, s .fit .few);
-        full = λ h. sym (held-is l) ∙ s .fit .full (omega (arith, waiting-is));
+        few = omega (arith, holder-count-is l, s .fit .few);
+        full = λ h. sym (holder-count-is l) ∙ s .fit .full (omega (arith, waiting-is));
       }
 
   pub queue-is : l .queue ≡ padded (waiters l)

@@ -49,12 +49,12 @@ queue-fits-requires c κs =
 returns-5 : tie.Need-returns-5
 returns-5 c = fails-queue _ (sym (c .before .queue-fits .ensures) ∙ not-true _ (c .if5 .taken))
 
-held-requires : tie.Need-held-requires
-held-requires c κs = search needs
+holder-count-requires : tie.Need-holder-count-requires
+holder-count-requires c κs = search needs
 
 returns-6 : tie.Need-returns-6
 returns-6 c =
-    fails _ 5 (lt-leb _ _ (gt-by (c .before .before .held .ensures) (c .if6 .taken)))
+    fails _ 5 (lt-leb _ _ (gt-by (c .before .before .holder-count .ensures) (c .if6 .taken)))
 
 rest-is-zero-requires : tie.Need-rest-is-zero-requires
 rest-is-zero-requires c κs = search needs
@@ -89,11 +89,11 @@ returns-10 c =
     let e1 = e2 .before .before in
     let l = e1 .before .before .args .line in
     c .full-if-waiting .ensures
-    ∙ ap (λ (n : ℕ). implies (leb 1 (l .waiting)) (eqb n (l .permits))) (e6 .before .before .held .ensures)
+    ∙ ap (λ (n : ℕ). implies (leb 1 (l .waiting)) (eqb n (l .permits))) (e6 .before .before .holder-count .ensures)
     ∙ passes l (sym (e1 .before .up-to-32 .ensures) ∙ not-false _ (e1 .if1 .left))
     (sym (e2 .before .up-to-322 .ensures) ∙ not-false _ (e2 .if2 .left)) (e3 .if3 .left)
     (sym (e5 .before .queue-fits .ensures) ∙ not-false _ (e5 .if5 .left))
-    (omega (arith, e6 .before .before .held .ensures, e6 .if6 .left))
+    (omega (arith, e6 .before .before .holder-count .ensures, e6 .if6 .left))
     (sym (e7 .before .rest-is-zero .ensures) ∙ not-false _ (e7 .if7 .left))
     (sym (e8 .before .kinds-known .ensures) ∙ not-false _ (e8 .if8 .left))
     (sym (e9 .before .has-desk .ensures) ∙ not-false _ (e9 .if9 .left))
@@ -111,7 +111,7 @@ line-fits-spec =
     returns-4
     queue-fits-requires
     returns-5
-    held-requires
+    holder-count-requires
     returns-6
     rest-is-zero-requires
     returns-7

@@ -3,7 +3,7 @@ use borrow.Author.Needs.{needs}
 use native.Mathlib.Omega.{arith}
 use mathlib.Core.Path.{_≡_, sym, ap, _∙_}
 use lib.ListN.{length}
-use Rattle.screen.specs.Moves.{accepted}
+use Rattle.screen.specs.Moves.{acceptedMove}
 use Rattle.screen.proofs.Laws.Fit.{fit}
 use Rattle.screen.proofs.Laws.Answers.{acquires, has-place, has-room, holds-already}
 use Rattle.screen.proofs.Laws.Answers.{no-place, party-small, queues, waits-already}
@@ -23,12 +23,12 @@ array-read-if1 c =
     let f = fit (s .args .line) (s .pre .0) in
     party-small _ _ f (s .pre .1)
 
-refused-requires : tie.Need-refused-requires
-refused-requires c κs = search needs
+refused-move-requires : tie.Need-refused-move-requires
+refused-move-requires c κs = search needs
 
 returns : tie.Need-returns
 returns c =
-    c .refused .ensures ∙ sym (holds-already _ _ (c .before .if1 .taken))
+    c .refused-move .ensures ∙ sym (holds-already _ _ (c .before .if1 .taken))
 
 place-of-requires : tie.Need-place-of-requires
 place-of-requires c κs =
@@ -39,19 +39,19 @@ place-of-requires c κs =
 cast-if2 : tie.Need-cast-if2
 cast-if2 c = search needs
 
-refused-requires-2 : tie.Need-refused-requires-2
-refused-requires-2 c κs = search needs
+refused-move-requires-2 : tie.Need-refused-move-requires-2
+refused-move-requires-2 c κs = search needs
 
 returns-2 : tie.Need-returns-2
 returns-2 c =
     let s = c .before .before .before .before .before .before in
     let f = fit (s .args .line) (s .pre .0) in
-    c .refused2 .ensures
+    c .refused-move2 .ensures
     ∙ sym (waits-already _ _ (c .before .before .before .before .if1 .left)
     (has-place _ f (waiting-size s) _ _ (c .before .before .before .place-of .ensures) (c .before .if2 .taken)))
 
-held-requires : tie.Need-held-requires
-held-requires c κs = search needs
+holder-count-requires : tie.Need-holder-count-requires
+holder-count-requires c κs = search needs
 
 element-write-next : tie.Need-element-write-next
 element-write-next c =
@@ -59,19 +59,19 @@ element-write-next c =
     let f = fit (s .args .line) (s .pre .0) in
     party-small _ _ f (s .pre .1)
 
-accepted-requires : tie.Need-accepted-requires
-accepted-requires c κs = search needs
+accepted-move-requires : tie.Need-accepted-move-requires
+accepted-move-requires c κs = search needs
 
 returns-3 : tie.Need-returns-3
 returns-3 c =
     let s = c .before .before .before .before .before .before .before .before .before in
     let f = fit (s .args .line) (s .pre .0) in
-    c .accepted .ensures
+    c .accepted-move .ensures
     ∙ sym (acquires (s .args .line) (s .args .party)
     (c .before .before .before .before .before .before .before .if1 .left)
     (no-place _ f (waiting-size s) _ _ (c .before .before .before .before .before .before .place-of .ensures)
     (c .before .before .before .before .if2 .left))
-    (omega (arith, c .before .before .before .held .ensures, c .before .if3 .taken)))
+    (omega (arith, c .before .before .before .holder-count .ensures, c .before .if3 .taken)))
 
 join-requires : tie.Need-join-requires
 join-requires c κs =
@@ -82,40 +82,40 @@ join-requires c κs =
           (c .before .before .before .before .before .before .if1 .left)
           (no-place _ f (waiting-size s) _ _ (c .before .before .before .before .before .place-of .ensures)
           (c .before .before .before .if2 .left))
-          (omega (arith, c .before .before .held .ensures, c .if3 .left)),
+          (omega (arith, c .before .before .holder-count .ensures, c .if3 .left)),
     )
 
-accepted-requires-2 : tie.Need-accepted-requires-2
-accepted-requires-2 c κs = search needs
+accepted-move-requires-2 : tie.Need-accepted-move-requires-2
+accepted-move-requires-2 c κs = search needs
 
 returns-4 : tie.Need-returns-4
 returns-4 c =
     let s = c .before .before .before .before .before .before .before .before .before .before in
     let f = fit (s .args .line) (s .pre .0) in
-    c .accepted2 .ensures
-    ∙ ap accepted (c .before .join .ensures)
+    c .accepted-move2 .ensures
+    ∙ ap acceptedMove (c .before .join .ensures)
     ∙ sym (queues (s .args .line) (s .args .party)
     (c .before .before .before .before .before .before .before .before .if1 .left)
     (no-place _ f (waiting-size s) _ _
     (c .before .before .before .before .before .before .before .place-of .ensures)
     (c .before .before .before .before .before .if2 .left))
-    (omega (arith, c .before .before .before .before .held .ensures, c .before .before .if3 .left)))
+    (omega (arith, c .before .before .before .before .holder-count .ensures, c .before .before .if3 .left)))
 
 pub acquire-on-spec : {M : Type 1} → statement M
 acquire-on-spec =
     tie.close
     (tie.spec
     array-read-if1
-    refused-requires
+    refused-move-requires
     returns
     place-of-requires
     cast-if2
-    refused-requires-2
+    refused-move-requires-2
     returns-2
-    held-requires
+    holder-count-requires
     element-write-next
-    accepted-requires
+    accepted-move-requires
     returns-3
     join-requires
-    accepted-requires-2
+    accepted-move-requires-2
     returns-4)

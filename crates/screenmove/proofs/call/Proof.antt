@@ -3,7 +3,7 @@ use borrow.Author.Needs.{needs}
 use borrow.Author.Tests.{not-false, not-true}
 use mathlib.Core.Path.{sym, ap, _∙_}
 use Rattle.screen.specs.declared.record.Operation.{Operation}
-use Rattle.screen.specs.Moves.{moved}
+use Rattle.screen.specs.Moves.{lineMove}
 use Rattle.screen.proofs.Laws.Answers.{no-party, own, unfit}
 use Rattle.screen.proofs.Laws.Steps.{with-printed}
 use Rattle.screenmove.proofs.call.Statement.{statement}
@@ -12,19 +12,19 @@ use Rattle.screenmove.proofs.call.Tie as tie
 line-fits-requires : tie.Need-line-fits-requires
 line-fits-requires c κs = search needs
 
-refused-requires : tie.Need-refused-requires
-refused-requires c κs = search needs
+refused-move-requires : tie.Need-refused-move-requires
+refused-move-requires c κs = search needs
 
 returns : tie.Need-returns
-returns c = with-printed (c .refused .ensures ∙ sym (unfit _ _ _ (sym (c .before .before .line-fits .ensures)
+returns c = with-printed (c .refused-move .ensures ∙ sym (unfit _ _ _ (sym (c .before .before .line-fits .ensures)
     ∙ not-true _ (c .before .if1 .taken))))
 
-refused-requires-2 : tie.Need-refused-requires-2
-refused-requires-2 c κs = search needs
+refused-move-requires-2 : tie.Need-refused-move-requires-2
+refused-move-requires-2 c κs = search needs
 
 returns-2 : tie.Need-returns-2
 returns-2 c =
-    with-printed (c .refused2 .ensures
+    with-printed (c .refused-move2 .ensures
     ∙ sym (no-party _ _ _ (sym (c .before .before .before .before .line-fits .ensures) ∙ not-false _
     (c .before .before .before .if1 .left)) (c .before .if2 .taken)))
 
@@ -64,7 +64,7 @@ returns-3 c =
     let s = p4 in
     with-printed (c .acquire-on .ensures
     ∙ sym (own _ _ _ (sym (p3 .line-fits .ensures) ∙ not-false _ (p2 .if1 .left)) (p1 .if2 .left))
-    ∙ ap (λ (o : Operation). moved (s .args .line) o (s .args .party)) (sym (c .before .enum-told .given .1)))
+    ∙ ap (λ (o : Operation). lineMove (s .args .line) o (s .args .party)) (sym (c .before .enum-told .given .1)))
 
 returns-4 : tie.Need-returns-4
 returns-4 c =
@@ -75,7 +75,7 @@ returns-4 c =
     let s = p4 in
     with-printed (c .cancel-on .ensures
     ∙ sym (own _ _ _ (sym (p3 .line-fits .ensures) ∙ not-false _ (p2 .if1 .left)) (p1 .if2 .left))
-    ∙ ap (λ (o : Operation). moved (s .args .line) o (s .args .party)) (sym (c .before .enum-told2 .given .1)))
+    ∙ ap (λ (o : Operation). lineMove (s .args .line) o (s .args .party)) (sym (c .before .enum-told2 .given .1)))
 
 returns-5 : tie.Need-returns-5
 returns-5 c =
@@ -86,16 +86,16 @@ returns-5 c =
     let s = p4 in
     with-printed (c .release-on .ensures
     ∙ sym (own _ _ _ (sym (p3 .line-fits .ensures) ∙ not-false _ (p2 .if1 .left)) (p1 .if2 .left))
-    ∙ ap (λ (o : Operation). moved (s .args .line) o (s .args .party)) (sym (c .before .enum-told3 .given .1)))
+    ∙ ap (λ (o : Operation). lineMove (s .args .line) o (s .args .party)) (sym (c .before .enum-told3 .given .1)))
 
 pub call-spec : {M : Type 1} → statement M
 call-spec =
     tie.close
     (tie.spec
     line-fits-requires
-    refused-requires
+    refused-move-requires
     returns
-    refused-requires-2
+    refused-move-requires-2
     returns-2
     enum-told
     acquire-on-requires

@@ -6,7 +6,7 @@ use Rattle.hub.proofs.Laws.Opening.{NotRefused}
 use Rattle.screen.specs.declared.record.Line.{Line}
 use Rattle.screen.specs.declared.record.Moved.{Moved}
 use Rattle.screen.specs.Line.{openedLine}
-use Rattle.screen.specs.Moves.{refused}
+use Rattle.screen.specs.Moves.{refusedMove}
 use Rattle.screen.proofs.Laws.Steps.{not-opened, opens, with-printed}
 use Rattle.screenmove.proofs.open_line.Statement.{statement}
 use Rattle.screenmove.proofs.open_line.Tie as tie
@@ -26,15 +26,15 @@ sized-requires c κs = search needs
 open-requires : tie.Need-open-requires
 open-requires c κs = search needs
 
-refused-requires : tie.Need-refused-requires
-refused-requires c κs = search needs
+refused-move-requires : tie.Need-refused-move-requires
+refused-move-requires c κs = search needs
 
 returns : tie.Need-returns
 returns c =
     let z = c .before .before in
     let a = z .before .before .before .before in
-    with-printed (c .refused .ensures
-    ∙ ap (refused _) (c .before .«open» .ensures ∙ ap openedLine (z .sized .ensures))
+    with-printed (c .refused-move .ensures
+    ∙ ap (refusedMove _) (c .before .«open» .ensures ∙ ap openedLine (z .sized .ensures))
     ∙ sym (not-opened (a .before .args .o) _
     (sym (a .opening-answer .ensures) ∙ z .before .before .answer .given .1)))
 
@@ -56,7 +56,7 @@ open-line-spec =
     enum-known-answer
     sized-requires
     open-requires
-    refused-requires
+    refused-move-requires
     returns
     open-requires-2
     returns-2)

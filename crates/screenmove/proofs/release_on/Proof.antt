@@ -25,12 +25,12 @@ array-read-if1 c =
     let f = fit (s .args .line) (s .pre .0) in
     party-small _ _ f (s .pre .1)
 
-refused-requires : tie.Need-refused-requires
-refused-requires c κs = search needs
+refused-move-requires : tie.Need-refused-move-requires
+refused-move-requires c κs = search needs
 
 returns : tie.Need-returns
 returns c =
-    c .refused .ensures ∙ sym (holds-not _ _ (not-true _ (c .before .if1 .taken)))
+    c .refused-move .ensures ∙ sym (holds-not _ _ (not-true _ (c .before .if1 .taken)))
 
 element-write-next : tie.Need-element-write-next
 element-write-next c =
@@ -38,12 +38,12 @@ element-write-next c =
     let f = fit (s .args .line) (s .pre .0) in
     party-small _ _ f (s .pre .1)
 
-accepted-requires : tie.Need-accepted-requires
-accepted-requires c κs = search needs
+accepted-move-requires : tie.Need-accepted-move-requires
+accepted-move-requires c κs = search needs
 
 returns-2 : tie.Need-returns-2
 returns-2 c =
-    c .accepted .ensures ∙ sym (gives-back _ _ (not-false _ (c .before .before .before .if1 .left))
+    c .accepted-move .ensures ∙ sym (gives-back _ _ (not-false _ (c .before .before .before .if1 .left))
     (c .before .if2 .taken))
 
 array-read-first : tie.Need-array-read-first
@@ -67,14 +67,14 @@ element-write-next-3 c =
     let f = fit (s .args .line) (s .pre .0) in
     first-small _ f (size s) (c .before .before .if2 .left)
 
-accepted-requires-2 : tie.Need-accepted-requires-2
-accepted-requires-2 c κs = search needs
+accepted-move-requires-2 : tie.Need-accepted-move-requires-2
+accepted-move-requires-2 c κs = search needs
 
 returns-3 : tie.Need-returns-3
 returns-3 c =
     let p1 = c .before .before .before in
     let p2 = p1 .before .before in
-    c .accepted2 .ensures
+    c .accepted-move2 .ensures
     ∙ handed-over _ _ _ (not-false _ (p2 .if1 .left)) (p1 .if2 .left) (c .before .leave .ensures)
 
 pub release-on-spec : {M : Type 1} → statement M
@@ -82,15 +82,15 @@ release-on-spec =
     tie.close
     (tie.spec
     array-read-if1
-    refused-requires
+    refused-move-requires
     returns
     element-write-next
-    accepted-requires
+    accepted-move-requires
     returns-2
     array-read-first
     cast-first
     leave-requires
     element-write-next-2
     element-write-next-3
-    accepted-requires-2
+    accepted-move-requires-2
     returns-3)

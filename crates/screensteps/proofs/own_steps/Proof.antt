@@ -10,8 +10,8 @@ use Rattle.screensteps.proofs.own_steps.Tie as tie
 enum-told : tie.Need-enum-told
 enum-told c = search needs
 
-held-requires : tie.Need-held-requires
-held-requires c κs = search needs
+holder-count-requires : tie.Need-holder-count-requires
+holder-count-requires c κs = search needs
 
 to-counter-requires : tie.Need-to-counter-requires
 to-counter-requires c κs = search needs
@@ -21,7 +21,7 @@ returns c =
     let p1 = c .before .before .before in
     let p2 = p1 .before in
     let p3 = p2 .before .before in
-    c .to-counter .ensures ∙ sym (at-counter _ (lt-by (p1 .held .ensures) (c .before .if1 .taken))) ∙ ap
+    c .to-counter .ensures ∙ sym (at-counter _ (lt-by (p1 .holder-count .ensures) (c .before .if1 .taken))) ∙ ap
     (ownSteps (p3 .args .line)) (sym (p2 .enum-told .given .1))
 
 enum-told-2 : tie.Need-enum-told-2
@@ -41,7 +41,7 @@ returns-3 : tie.Need-returns-3
 returns-3 c =
     let p1 = c .before .before .before in
     let p2 = p1 .before .before in
-    sym (must-wait _ (ge-by (c .before .before .held .ensures) (c .if1 .left))) ∙ ap (ownSteps
+    sym (must-wait _ (ge-by (c .before .before .holder-count .ensures) (c .if1 .left))) ∙ ap (ownSteps
     (p2 .args .line)) (sym (p1 .enum-told .given .1))
 
 returns-4 : tie.Need-returns-4
@@ -60,7 +60,7 @@ own-steps-spec =
     tie.close
     (tie.spec
     enum-told
-    held-requires
+    holder-count-requires
     to-counter-requires
     returns
     enum-told-2

@@ -7,7 +7,7 @@ use Prim.Native.Nat.{ℕ, _-_}
 use lib.ListN.{length}
 use Rattle.reader.proofs.Laws.Pieces.{whole}
 use Rattle.line.specs.Requests.{requestOf}
-use Rattle.deskline.specs.Replies.{askedBy, respond}
+use Rattle.deskline.specs.Replies.{askedBy, replyTo}
 use Rattle.deskfeed.proofs.Laws.Feeding.{Upto, char-kept, char-lost, finished, line-end, line-room}
 use Rattle.deskfeed.proofs.Laws.Feeding.{reply-printable, start}
 use Rattle.deskfeed.proofs.session.feed.Statement.{statement}
@@ -53,25 +53,25 @@ loop-again-2 c =
     char-kept (c .before .before .before .before .loop .inv) (c .before .before .before .loop-test .taken)
     (c .before .if1 .taken) (omega arith)
 
-sub-respond : tie.Need-sub-respond Inv-loop μ-loop
-sub-respond c = search needs
+sub-reply-to : tie.Need-sub-reply-to Inv-loop μ-loop
+sub-reply-to c = search needs
 
-part-respond-start : tie.Need-part-respond-start Inv-loop μ-loop
-part-respond-start c = search needs
+part-reply-to-start : tie.Need-part-reply-to-start Inv-loop μ-loop
+part-reply-to-start c = search needs
 
-part-respond-end : tie.Need-part-respond-end Inv-loop μ-loop
-part-respond-end c = search needs
+part-reply-to-end : tie.Need-part-reply-to-end Inv-loop μ-loop
+part-reply-to-end c = search needs
 
-respond-requires : tie.Need-respond-requires Inv-loop μ-loop
-respond-requires c κs = search needs
+reply-to-requires : tie.Need-reply-to-requires Inv-loop μ-loop
+reply-to-requires c κs = search needs
 
-put-line-requires : tie.Need-put-line-requires Inv-loop μ-loop
-put-line-requires c κs =
+put-line-text-requires : tie.Need-put-line-text-requires Inv-loop μ-loop
+put-line-text-requires c κs =
     let p1 = c .before .before .before .before in
     let p2 = p1 .before .before in
     let p3 = p2 .before in
     let u = (p3 .loop .inv) in (
-      reply-printable _ _ _ (u .printable) (c .before .respond .ensures) .few,
+      reply-printable _ _ _ (u .printable) (c .before .reply-to .ensures) .few,
       line-room u (p2 .loop-test .taken) (p1 .if1 .left),
     )
 
@@ -86,9 +86,9 @@ loop-again-3 c =
     let p4 = p3 .before .before in
     let p5 = p4 .before in
     line-end (p5 .loop .inv) (p4 .loop-test .taken) (p3 .if1 .left) _
-    (p2 .respond .ensures ∙ ap (λ (x : List ℕ). respond (p5 .loop .line) (askedBy (requestOf x))) (whole
+    (p2 .reply-to .ensures ∙ ap (λ (x : List ℕ). replyTo (p5 .loop .line) (askedBy (requestOf x))) (whole
     (record { line = p5 .loop .text; len = p5 .loop .len }))) _ _
-    (p1 .put-line .ensures .0 .0) (p1 .put-line .ensures .0 .1) (p1 .put-line .ensures .1)
+    (p1 .put-line-text .ensures .0 .0) (p1 .put-line-text .ensures .0 .1) (p1 .put-line-text .ensures .1)
 
 same-length : tie.Need-same-length Inv-loop μ-loop
 same-length c = search needs
@@ -112,11 +112,11 @@ feed-spec =
     add-len
     loop-less-2
     loop-again-2
-    sub-respond
-    part-respond-start
-    part-respond-end
-    respond-requires
-    put-line-requires
+    sub-reply-to
+    part-reply-to-start
+    part-reply-to-end
+    reply-to-requires
+    put-line-text-requires
     loop-less-3
     loop-again-3
     same-length

@@ -2,7 +2,7 @@
 use borrow.Author.Needs.{needs}
 use native.Mathlib.Omega.{arith}
 use mathlib.Core.Path.{refl}
-use Rattle.deskline.proofs.Laws.Placed.{placed-one}
+use Rattle.deskline.proofs.Laws.PutAt.{put-at-one}
 use Rattle.deskline.proofs.digits.put_char.Statement.{statement}
 use Rattle.deskline.proofs.digits.put_char.Tie as tie
 
@@ -16,7 +16,7 @@ same-length : tie.Need-same-length
 same-length c = search needs
 
 returns : tie.Need-returns
-returns c = (refl, placed-one _ _ _ (omega arith))
+returns c = (refl, put-at-one _ _ _ (omega arith))
 
 pub put-char-spec : {M : Type 1} → statement M
 put-char-spec = tie.close (tie.spec slice-write-out add-result same-length returns)

@@ -2,7 +2,7 @@
 use borrow.Author.Needs.{needs}
 use native.Mathlib.Omega.{arith}
 use mathlib.Core.List.{[], _∷_}
-use Rattle.deskline.proofs.Laws.Placed.{first, gives, next, text-is}
+use Rattle.deskline.proofs.Laws.PutAt.{first, gives, next, text-is}
 use Rattle.deskline.proofs.digits.put_hex.Statement.{statement}
 use Rattle.deskline.proofs.digits.put_hex.Tie as tie
 

@@ -3,7 +3,7 @@ use borrow.Author.Needs.{needs}
 use native.Mathlib.Omega.{arith}
 use Prim.Native.Nat.{_-_}
 use lib.ListN.{length}
-use Rattle.deskline.proofs.Laws.Placed.{Copied, copied-all, copied-none, copied-one}
+use Rattle.deskline.proofs.Laws.PutAt.{Copied, copied-all, copied-none, copied-one}
 use Rattle.deskline.proofs.digits.put_word.Statement.{statement}
 use Rattle.deskline.proofs.digits.put_word.Tie as tie
 

@@ -5,7 +5,7 @@ use mathlib.Core.List.{[], _∷_}
 use Rattle.encoding.specs.Hex.{hexOf}
 use Rattle.deskline.specs.Text.{SPACE, headText, stepsText}
 use Rattle.deskline.proofs.Laws.Numbers.{head-laid, steps-short}
-use Rattle.deskline.proofs.Laws.Placed.{first, gives, next, text-is}
+use Rattle.deskline.proofs.Laws.PutAt.{first, gives, next, text-is}
 use Rattle.deskline.proofs.text.put_head.Statement.{statement}
 use Rattle.deskline.proofs.text.put_head.Tie as tie
 

@@ -4,7 +4,7 @@ use native.Mathlib.Omega.{arith}
 use mathlib.Core.List.{[], _∷_}
 use Rattle.deskline.specs.Text.{decimal}
 use Rattle.deskline.proofs.Laws.Numbers.{decimal-short, numbers-one}
-use Rattle.deskline.proofs.Laws.Placed.{first, gives, next, text-is}
+use Rattle.deskline.proofs.Laws.PutAt.{first, gives, next, text-is}
 use Rattle.deskline.proofs.text.put_number.Statement.{statement}
 use Rattle.deskline.proofs.text.put_number.Tie as tie
 

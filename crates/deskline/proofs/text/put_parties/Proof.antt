@@ -5,7 +5,7 @@ use mathlib.Core.List.{[], _∷_}
 use Rattle.screen.specs.Line.{holders, waiters}
 use Rattle.deskline.specs.Text.{HELD, SPACE, WAITING, numbers, partiesText}
 use Rattle.deskline.proofs.Laws.Numbers.{parties-laid}
-use Rattle.deskline.proofs.Laws.Placed.{first, gives, next, text-is}
+use Rattle.deskline.proofs.Laws.PutAt.{first, gives, next, text-is}
 use Rattle.deskline.proofs.text.put_parties.Statement.{statement}
 use Rattle.deskline.proofs.text.put_parties.Tie as tie
 

@@ -1,10 +1,10 @@
--- `put_line` meets its contract: its two parts, one behind the other.
+-- `put_line_text` meets its contract: its two parts, one behind the other.
 use borrow.Author.Needs.{needs}
 use native.Mathlib.Omega.{arith}
 use Rattle.deskline.specs.Text.{headText, lineText, partiesText}
-use Rattle.deskline.proofs.Laws.Placed.{first, gives, next}
-use Rattle.deskline.proofs.text.put_line.Statement.{statement}
-use Rattle.deskline.proofs.text.put_line.Tie as tie
+use Rattle.deskline.proofs.Laws.PutAt.{first, gives, next}
+use Rattle.deskline.proofs.text.put_line_text.Statement.{statement}
+use Rattle.deskline.proofs.text.put_line_text.Tie as tie
 
 put-head-requires : tie.Need-put-head-requires
 put-head-requires c κs = search needs
@@ -28,5 +28,5 @@ returns c =
       omega arith,
     )
 
-pub put-line-spec : {M : Type 1} → statement M
-put-line-spec = tie.close (tie.spec put-head-requires put-parties-requires same-length returns)
+pub put-line-text-spec : {M : Type 1} → statement M
+put-line-text-spec = tie.close (tie.spec put-head-requires put-parties-requires same-length returns)

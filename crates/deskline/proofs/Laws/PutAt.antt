@@ -6,17 +6,17 @@ use native.Mathlib.Numerals.{add-one}
 use native.Mathlib.Omega.{arith}
 use lib.ListN.{length, getD, take, drop, set, length-append, length-drop, length-set, take-append-drop}
 use lib.Seq.{drop-at, drop-drop, length-take-le, set-split, take-all, take-at, take-suc}
-use Rattle.deskline.specs.Text.{placed}
+use Rattle.deskline.specs.Text.{putAt}
 
-pub placed-one : (out : List ℕ) (at c : ℕ) → at < length out → set out at c ≡ placed at (c ∷ []) out
-unfolding placed
-placed-one out at c h =
+pub put-at-one : (out : List ℕ) (at c : ℕ) → at < length out → set out at c ≡ putAt at (c ∷ []) out
+unfolding putAt
+put-at-one out at c h =
     let e : suc at ≡ at + 1 = omega arith in
     set-split out at c h ∙ ap (λ (n : ℕ). take at out ++ c ∷ drop n out) e
 
-pub placed-length : (out t : List ℕ) (at : ℕ) → at + length t ≤ length out → length (placed at t out) ≡ length out
-unfolding placed
-placed-length out t at h =
+pub put-at-length : (out t : List ℕ) (at : ℕ) → at + length t ≤ length out → length (putAt at t out) ≡ length out
+unfolding putAt
+put-at-length out t at h =
     omega (
       arith,
       length-append (take at out) (t ++ drop (at + length t) out),
@@ -25,16 +25,16 @@ placed-length out t at h =
       length-drop (at + length t) out,
     )
 
-pub placed-none : (out : List ℕ) (at : ℕ) → placed at [] out ≡ out
-unfolding placed
-placed-none out at =
+pub put-at-none : (out : List ℕ) (at : ℕ) → putAt at [] out ≡ out
+unfolding putAt
+put-at-none out at =
     let e : at + 0 ≡ at = omega arith in
     ap (λ (n : ℕ). take at out ++ drop n out) e ∙ take-append-drop at out
 
-pub placed-more : (out t u : List ℕ) (at : ℕ) → at + length t + length u ≤ length out
-    → placed (at + length t) u (placed at t out) ≡ placed at (t ++ u) out
-unfolding placed
-placed-more out t u at h =
+pub put-at-more : (out t u : List ℕ) (at : ℕ) → at + length t + length u ≤ length out
+    → putAt (at + length t) u (putAt at t out) ≡ putAt at (t ++ u) out
+unfolding putAt
+put-at-more out t u at h =
     let n = at + length t in
     let d = drop n out in
     let a : length (take at out ++ t) ≡ n =
@@ -54,38 +54,38 @@ placed-more out t u at h =
 -- A text t stands at a place of what was out₀, and the next goes to the end.
 pub record Written (at : ℕ) (t out₀ : List ℕ) (end : ℕ) (out : List ℕ) : Type 0 where
   pub past : end ≡ at + length t
-  pub same : out ≡ placed at t out₀
+  pub same : out ≡ putAt at t out₀
   pub room : at + length t ≤ length out₀
 
 pub none : (at : ℕ) (out : List ℕ) → at ≤ length out → Written at [] out at out
-none at out h = record { past = omega arith; same = sym (placed-none out at); room = omega arith }
+none at out h = record { past = omega arith; same = sym (put-at-none out at); room = omega arith }
 
-pub first : {at end : ℕ} {out₀ out : List ℕ} (u : List ℕ) → end ≡ at + length u → out ≡ placed at u out₀
+pub first : {at end : ℕ} {out₀ out : List ℕ} (u : List ℕ) → end ≡ at + length u → out ≡ putAt at u out₀
     → at + length u ≤ length out₀ → Written at u out₀ end out
 first u e f h = record { past = e; same = f; room = h }
 
 pub next : {at end end′ : ℕ} {t out₀ out out′ : List ℕ} → Written at t out₀ end out → (u : List ℕ)
-    → end′ ≡ end + length u → out′ ≡ placed end u out → end + length u ≤ length out₀
+    → end′ ≡ end + length u → out′ ≡ putAt end u out → end + length u ≤ length out₀
     → Written at (t ++ u) out₀ end′ out′
 next {at} {end} {end′} {t} {out₀} {out} {out′} w u e f h =
     record {
       past = omega (arith, w .past, length-append t u);
       same =
-          f ∙ (λ i. placed (w .past i) u (w .same i))
-          ∙ placed-more out₀ t u at (omega (arith, w .past));
+          f ∙ (λ i. putAt (w .past i) u (w .same i))
+          ∙ put-at-more out₀ t u at (omega (arith, w .past));
       room = omega (arith, w .past, length-append t u);
     }
 
 pub gives : {at end : ℕ} {t out₀ out : List ℕ} → Written at t out₀ end out
-    → (end ≡ at + length t) × (out ≡ placed at t out₀)
+    → (end ≡ at + length t) × (out ≡ putAt at t out₀)
 gives w = (w .past, w .same)
 
 pub text-is : {at end : ℕ} {t u out₀ out : List ℕ} → t ≡ u → Written at t out₀ end out → Written at u out₀ end out
 text-is {at} {end} {t} {u} {out₀} {out} e w = subst (λ (x : List ℕ). Written at x out₀ end out) e w
 
 -- From the start of the buffer on.
-pub from-start : (out t : List ℕ) → placed 0 t out ≡ t ++ drop (length t) out
-unfolding placed
+pub from-start : (out t : List ℕ) → putAt 0 t out ≡ t ++ drop (length t) out
+unfolding putAt
 from-start out t = let e : 0 + length t ≡ length t = omega arith in ap (λ (n : ℕ). t ++ drop n out) e
 
 -- A word, character by character: the first i of them are written.
@@ -116,11 +116,11 @@ module _ {at : ℕ} {word out₀ : List ℕ} {i : ℕ} {out : List ℕ} (c : Cop
         long = length-set out (at + i) x ∙ c .long;
         done =
             text-is e
-            (next (c .done) (x ∷ []) (omega arith) (placed-one out (at + i) x (omega (arith, c .room, c .long)))
+            (next (c .done) (x ∷ []) (omega arith) (put-at-one out (at + i) x (omega (arith, c .room, c .long)))
             (omega (arith, c .room)));
       }
 
-  pub copied-all : length word ≤ i → (at + i ≡ at + length word) × (out ≡ placed at word out₀)
+  pub copied-all : length word ≤ i → (at + i ≡ at + length word) × (out ≡ putAt at word out₀)
   copied-all h =
       let e : i ≡ length word = omega (arith, c .within) in
       (ap (λ (n : ℕ). at + n) e, gives (text-is (take-all i word h) (c .done)) .1)

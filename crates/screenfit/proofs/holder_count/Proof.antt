@@ -1,12 +1,12 @@
--- `held` meets its contract: those counted and those still to come are all that hold.
+-- `holder_count` meets its contract: those counted and those still to come are all that hold.
 use borrow.Author.Needs.{needs}
 use borrow.Author.Tests.{not-true, not-false}
 use native.Mathlib.Omega.{arith}
 use Prim.Native.Nat.{_-_}
 use Rattle.screen.specs.Line.{holders}
 use Rattle.screen.proofs.Laws.Walks.{Counted, counted-all, counted-not, counted-one}
-use Rattle.screenfit.proofs.held.Statement.{statement}
-use Rattle.screenfit.proofs.held.Tie as tie
+use Rattle.screenfit.proofs.holder_count.Statement.{statement}
+use Rattle.screenfit.proofs.holder_count.Tie as tie
 
 abbrev Inv-loop : tie.InvT-loop
 Inv-loop holding count₀ p₀ count p = Counted holding count p
@@ -46,8 +46,8 @@ returns : tie.Need-returns Inv-loop μ-loop
 unfolding holders
 returns c = counted-all _ _ _ (c .before .loop .inv) (c .loop-test .left)
 
-pub held-spec : {M : Type 1} → statement M
-held-spec =
+pub holder-count-spec : {M : Type 1} → statement M
+holder-count-spec =
     tie.close
     (tie.spec
     Inv-loop
