@@ -126,8 +126,8 @@ notYet =
 
 -- Giving up early: party 1 in asked, party 2 in numbered, each once; where a wait would begin it is given up. Party
 -- 0, given up early too, got its permit first.
-abbrev pub early : List Row
-early =
+abbrev pub cancelledEarly : List Row
+cancelledEarly =
     at (pos 1) Acquire 0 (plain 0x20)
     ∷ at (pos 1) Cancel 0 (plain 0x20)
     ∷ at (pos 1) Step 0 (plain 0x21)
@@ -185,7 +185,7 @@ edges =
     ∷ runs (withRadios 2 3 (0x0A ∷ 0x0B ∷ [])) inTurn 1 0 (pos 1)
     ∷ runs (withRadios 1 2 (0x2F ∷ [])) notYet 1 0 (pos 0)
     ∷ runs (sized 1 3) (at (pos 1) Op.Radio 0 (plain 0x39) ∷ []) 0 0 (pos 1)
-    ∷ runs (sized 1 3) early 1 1 (negsuc 0)
+    ∷ runs (sized 1 3) cancelledEarly 1 1 (negsuc 0)
     ∷ opens (withKinds (replicate 32 0) (sized 1 3)) 0x1F
     ∷ opens (withKinds (replicate 31 0) (sized 1 3)) 0x0F
     ∷ opens (withKinds (replicate 33 0) (sized 1 3)) 0x0F

@@ -175,8 +175,8 @@ cameFirst =
     ∷ []
 
 -- Giving up early, party 0 in asked and party 1 in raising; where the wait would begin it is given up.
-abbrev pub early : List Row
-early =
+abbrev pub cancelledEarly : List Row
+cancelledEarly =
     at 2 Await 0 (plain 0x20)
     ∷ at 2 Cancel 0 (plain 0x20)
     ∷ at 2 Step 0 (plain 0x22)
@@ -235,7 +235,7 @@ edges =
     ∷ runs 1 3 passedOn 0 0 1
     ∷ runs 1 3 passedBy 0 0 1
     ∷ runs 1 2 cameFirst 0 0 1
-    ∷ runs 2 2 early 0 2 0
+    ∷ runs 2 2 cancelledEarly 0 2 0
     ∷ runs 1 3 bounded 0 1 0
     ∷ runs 200 32 kinds 0 200 0
     ∷ []

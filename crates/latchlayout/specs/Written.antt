@@ -41,8 +41,8 @@ leftBytes l =
 abbrev pub markBytes : List LatchSlot → List ℕ
 markBytes l = each PARTIES (λ p. markOf (getD l p freeSlot .phase))
 
-abbrev pub bytesOf : Latch → List ℕ
-bytesOf h =
+abbrev pub recordBytes : Latch → List ℕ
+recordBytes h =
     figureBytes h
     ++ placeBytes (h .places)
     ++ phaseBytes (h .slots)

@@ -19,7 +19,7 @@ use parties::slots_of;
 ghost use mathlib.Core.Path.{_≡_};
 ghost use lib.ListN.{length};
 ghost use Rattle.latchlayout.specs.Read.{recordIn};
-ghost use Rattle.latchlayout.specs.Written.{bytesOf};
+ghost use Rattle.latchlayout.specs.Written.{recordBytes};
 
 pub fn record_of(bytes: &[u8]) -> Latch
     requires { ⌜ length (now bytes) ≡ 1523 ⌝ }
@@ -38,8 +38,8 @@ pub fn record_of(bytes: &[u8]) -> Latch
     }
 }
 
-pub fn bytes_of(latch: Latch) -> [u8; 1523]
-    ensures { λ r. ⌜ r ≡ bytesOf latch ⌝ }
+pub fn record_bytes(latch: Latch) -> [u8; 1523]
+    ensures { λ r. ⌜ r ≡ recordBytes latch ⌝ }
 {
     let mut out = [0u8; 1523];
     let figures = figure_bytes(latch);

@@ -6,7 +6,7 @@ use encoding::answer::print_of;
 use encoding::answer::put;
 use latch::moves::LatchOp;
 use latch::record::LatchOutcome;
-use latchlayout::bytes_of;
+use latchlayout::record_bytes;
 use latchlayout::record_of;
 use latchstep::calls::call;
 use libc::STDIN_FILENO;
@@ -30,7 +30,7 @@ fn print_reply(party: u8, o: LatchOutcome) -> bool {
     if !io::write_all(STDOUT_FILENO, &line) {
         return false;
     }
-    let record = bytes_of(o.latch);
+    let record = record_bytes(o.latch);
     io::write_all(STDOUT_FILENO, &record)
 }
 

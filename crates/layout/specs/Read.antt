@@ -12,7 +12,7 @@ use Rattle.hub.specs.Record.{PARTIES, freeSlot, withPhase}
 use Rattle.cells.specs.Bytes.{each, numberAt}
 use Rattle.cells.specs.Phases.{marked, phaseNamed}
 use Rattle.cells.specs.Places.{placesAt}
-use Rattle.radiobytes.specs.Read.{openingIn, poolIn}
+use Rattle.radiobytes.specs.Read.{openingOfBytes, poolIn}
 
 -- A number from its two's complement.
 abbrev pub signed : ℕ → ℤ
@@ -41,7 +41,7 @@ slotsIn b = each PARTIES (slotIn b)
 abbrev pub recordIn : List ℕ → Hub
 recordIn b =
     record {
-      opening = openingIn b;
+      opening = openingOfBytes b;
       figures = figuresIn b;
       oldest = numberAt b 18;
       places = placesAt b 22;

@@ -29,8 +29,8 @@ phaseBytes l = bytesOfAll (λ s. phaseName (s .phase) ∷ fourOf (ticketOf (s .p
 abbrev pub markBytes : List PartySlot → List ℕ
 markBytes l = each PARTIES (λ p. markOf (getD l p freeSlot .phase))
 
-abbrev pub bytesOf : Hub → List ℕ
-bytesOf h =
+abbrev pub recordBytes : Hub → List ℕ
+recordBytes h =
     figureBytes h
     ++ placeBytes (h .places)
     ++ phaseBytes (h .slots)

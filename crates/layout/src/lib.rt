@@ -21,7 +21,7 @@ use radiobytes::radio_bytes;
 ghost use mathlib.Core.Path.{_≡_};
 ghost use lib.ListN.{length};
 ghost use Rattle.layout.specs.Read.{recordIn};
-ghost use Rattle.layout.specs.Written.{bytesOf};
+ghost use Rattle.layout.specs.Written.{recordBytes};
 
 pub fn record_of(bytes: &[u8]) -> Hub
     requires { ⌜ length (now bytes) ≡ 1881 ⌝ }
@@ -43,8 +43,8 @@ pub fn record_of(bytes: &[u8]) -> Hub
     }
 }
 
-pub fn bytes_of(hub: Hub) -> [u8; 1881]
-    ensures { λ r. ⌜ r ≡ bytesOf hub ⌝ }
+pub fn record_bytes(hub: Hub) -> [u8; 1881]
+    ensures { λ r. ⌜ r ≡ recordBytes hub ⌝ }
 {
     let mut out = [0u8; 1881];
     let figures = figure_bytes(hub);

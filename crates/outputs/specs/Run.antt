@@ -16,18 +16,18 @@ inDigits zero x = []
 inDigits (suc n) x = inDigits n (x / 16) ++ (digitChar (x % 16) ∷ [])
 
 -- A line of input, of so many digits, and its answer.
-pub record Row : Type 0 where
+pub record RunRow : Type 0 where
   pub width : ℕ
   pub asks : ℕ
   pub answers : ℕ
 
-abbrev pub openingRow : ℕ → ℕ → Row
+abbrev pub openingRow : ℕ → ℕ → RunRow
 openingRow x y = record { width = 6; asks = x; answers = y }
 
-abbrev pub callRow : ℕ → ℕ → Row
+abbrev pub callRow : ℕ → ℕ → RunRow
 callRow x y = record { width = 4; asks = x; answers = y }
 
-abbrev pub rows : List Row
+abbrev pub rows : List RunRow
 rows =
     openingRow 0x010103 0x1FFFFFFFFFFFFF
     ∷ callRow 0x1000 0x2000FFFFFFFFFF
@@ -45,11 +45,11 @@ rows =
     ∷ callRow 0x1101 0x3301FF00000000
     ∷ []
 
-unfoldable pub inputs : List Row → List ℕ
+unfoldable pub inputs : List RunRow → List ℕ
 inputs [] = []
 inputs (r ∷ rs) = inDigits (r .width) (r .asks) ++ (0x0A ∷ inputs rs)
 
-unfoldable pub outputs : List Row → List ℕ
+unfoldable pub outputs : List RunRow → List ℕ
 outputs [] = inDigits 14 0x7E000000000001 ++ (0x0A ∷ [])
 outputs (r ∷ rs) = inDigits 14 (r .answers) ++ (0x0A ∷ outputs rs)
 

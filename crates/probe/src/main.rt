@@ -6,7 +6,7 @@ use encoding::answer::print_of;
 use encoding::answer::put;
 use hub::moves::Op;
 use hub::record::Outcome;
-use layout::bytes_of;
+use layout::record_bytes;
 use layout::record_of;
 use libc::STDIN_FILENO;
 use libc::STDOUT_FILENO;
@@ -31,7 +31,7 @@ fn print_reply(party: u8, o: Outcome) -> bool {
     if !io::write_all(STDOUT_FILENO, &line) {
         return false;
     }
-    let record = bytes_of(o.hub);
+    let record = record_bytes(o.hub);
     io::write_all(STDOUT_FILENO, &record)
 }
 

@@ -10,8 +10,8 @@ use Rattle.hub.specs.Radios.{STORE}
 use Rattle.cells.specs.Bytes.{bytesAt, each}
 
 -- What it was opened with: K, n, whether there are radios, those of the opening, the kinds.
-abbrev pub openingIn : List ℕ → Opening
-openingIn b =
+abbrev pub openingOfBytes : List ℕ → Opening
+openingOfBytes b =
     record {
       permits = getD b 0 0;
       parties = getD b 1 0;
@@ -22,8 +22,8 @@ openingIn b =
     }
 
 -- A ring that begins at `first`, from its radios in order.
-abbrev pub turned : List ℕ → ℕ → List ℕ
-turned rs first = each STORE (λ j. getD rs ((j + 32 - first % 32) % 32) 0)
+abbrev pub rotated : List ℕ → ℕ → List ℕ
+rotated rs first = each STORE (λ j. getD rs ((j + 32 - first % 32) % 32) 0)
 
 -- With parties, at places, and stored.
 abbrev pub poolIn : List ℕ → Pool
@@ -31,7 +31,7 @@ poolIn b =
     record {
       hands = bytesAt b 1495 32;
       laid = bytesAt b 1527 256;
-      store = turned (bytesAt b 1785 32) (getD b 1783 0);
+      store = rotated (bytesAt b 1785 32) (getD b 1783 0);
       first = getD b 1783 0;
       stored = getD b 1784 0 % 33;
     }

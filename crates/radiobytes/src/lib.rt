@@ -16,12 +16,12 @@ ghost use mathlib.Core.Bool.{cond};
 ghost use mathlib.Core.Path.{_≡_};
 ghost use lib.ListN.{length};
 ghost use Rattle.cells.specs.Bytes.{bytesAt};
-ghost use Rattle.radiobytes.specs.Read.{openingIn, poolIn, turned};
+ghost use Rattle.radiobytes.specs.Read.{openingOfBytes, poolIn, rotated};
 ghost use Rattle.radiobytes.specs.Written.{handsShown, inOrder, laidShown, radioBytes};
 
 pub fn opening_of(bytes: &[u8]) -> Opening
     requires { ⌜ length (now bytes) ≡ 1881 ⌝ }
-    ensures { λ r. ⌜ r ≡ openingIn (now (bytes .entry)) ⌝ }
+    ensures { λ r. ⌜ r ≡ openingOfBytes (now (bytes .entry)) ⌝ }
 {
     let radios = few_at(bytes, 1463);
     let kinds = few_at(bytes, 1849);
@@ -43,7 +43,7 @@ pub fn pool_of(bytes: &[u8]) -> Pool
     let hands = few_at(bytes, 1495);
     let mut laid = [0u8; 256];
     put_bytes(&mut laid, &bytes[1527..1783]);
-    let store = turned(few_at(bytes, 1785), first);
+    let store = rotated(few_at(bytes, 1785), first);
     Pool {
         hands,
         laid,
@@ -65,8 +65,8 @@ fn few_at(bytes: &[u8], at: usize) -> [u8; 32]
 }
 
 // A ring that begins at `first`, from its radios in order.
-fn turned(radios: [u8; 32], first: u32) -> [u8; 32]
-    ensures { λ r. ⌜ r ≡ turned radios first ⌝ }
+fn rotated(radios: [u8; 32], first: u32) -> [u8; 32]
+    ensures { λ r. ⌜ r ≡ rotated radios first ⌝ }
 {
     let begin = (first % 32) as usize;
     let mut ring = [0u8; 32];

@@ -1,7 +1,7 @@
 -- `pool_of` meets its contract: each field is read where it stands.
 use borrow.Author.Needs.{needs}
 use mathlib.Core.Path.{_∙_}
-use Rattle.radiobytes.specs.Read.{turned}
+use Rattle.radiobytes.specs.Read.{rotated}
 use Rattle.radiobytes.proofs.pool_of.Statement.{statement}
 use Rattle.radiobytes.proofs.pool_of.Tie as tie
 
@@ -32,8 +32,8 @@ put-bytes-requires c κs = search needs
 few-at-requires-2 : tie.Need-few-at-requires-2
 few-at-requires-2 c κs = search needs
 
-turned-requires : tie.Need-turned-requires
-turned-requires c κs = search needs
+rotated-requires : tie.Need-rotated-requires
+rotated-requires c κs = search needs
 
 shared-slice-read-wide-2 : tie.Need-shared-slice-read-wide-2
 shared-slice-read-wide-2 c = search needs
@@ -49,8 +49,8 @@ returns c =
       hands = c .before .before .before .before .before .before .before .before .few-at .ensures j;
       laid = c .before .before .before .before .before .put-bytes .ensures j;
       store =
-          (c .before .before .turned .ensures
-          ∙ (λ k. turned (c .before .before .before .few-at2 .ensures k) (first k)))
+          (c .before .before .rotated .ensures
+          ∙ (λ k. rotated (c .before .before .before .few-at2 .ensures k) (first k)))
           j;
       first = first j;
       stored = c .wide2 .ensures .0 j;
@@ -69,7 +69,7 @@ pool-of-spec =
     part-put-bytes-end
     put-bytes-requires
     few-at-requires-2
-    turned-requires
+    rotated-requires
     shared-slice-read-wide-2
     wide-requires-2
     returns)

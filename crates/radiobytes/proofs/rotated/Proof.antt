@@ -1,11 +1,11 @@
--- `turned` meets its contract: the ring so far is filled.
+-- `rotated` meets its contract: the ring so far is filled.
 use borrow.Author.Needs.{needs}
 use Prim.Native.Nat.{ℕ, _+_, _-_, _%_}
 use mathlib.Core.Path.{refl}
 use lib.ListN.{getD}
 use Rattle.cells.proofs.Laws.Each.{Filled, start, onward, full}
-use Rattle.radiobytes.proofs.turned.Statement.{statement}
-use Rattle.radiobytes.proofs.turned.Tie as tie
+use Rattle.radiobytes.proofs.rotated.Statement.{statement}
+use Rattle.radiobytes.proofs.rotated.Tie as tie
 
 abbrev Inv-loop : tie.InvT-loop
 Inv-loop first radios begin ring₀ j₀ ring j =
@@ -44,8 +44,8 @@ loop-again c = onward _ _ _ _ _ (c .before .loop .inv) (c .loop-test .taken) ref
 returns : tie.Need-returns Inv-loop μ-loop
 returns c = full _ _ _ _ (c .before .loop .inv) (c .loop-test .left)
 
-pub turned-spec : {M : Type 1} → statement M
-turned-spec =
+pub rotated-spec : {M : Type 1} → statement M
+rotated-spec =
     tie.close
     (tie.spec
     Inv-loop
