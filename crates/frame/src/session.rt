@@ -16,7 +16,7 @@ ghost use Prim.Native.Nat.{suc, _*_, _≤_};
 ghost use lib.ListN.{length, drop};
 ghost use Rattle.batch.specs.Batch.{Reachable};
 ghost use Rattle.beforeopen.specs.Opening.{askedOpen};
-ghost use Rattle.reader.specs.Reading.{KEPT, asked, written};
+ghost use Rattle.reader.specs.Reading.{KEPT, asked, requestsWritten};
 ghost use Rattle.frame.specs.Session.{Sound, atStart, fed, finished, rest, told};
 
 // The record, and the line that is being read.
@@ -56,7 +56,7 @@ fn feed_open(session: Session, piece: &[u8], requests: &mut [u8], out: &mut [u8]
       lines = length (asked (session .reader) (now (piece .entry)));
     })
         × (now (requests .exit)
-        ≡ written (asked (session .reader) (now (piece .entry))) (now (requests .entry)))
+        ≡ requestsWritten (asked (session .reader) (now (piece .entry))) (now (requests .entry)))
         × (now (out .exit) ≡ told session (now (piece .entry))
         ++ drop (15 * length (asked (session .reader) (now (piece .entry)))) (now (out .entry))) ⌝ }
 {
@@ -83,7 +83,7 @@ pub fn feed(session: Session, piece: &[u8], requests: &mut [u8], out: &mut [u8])
       lines = length (asked (session .reader) (now (piece .entry)));
     })
         × (now (requests .exit)
-        ≡ written (askedOpen (session .hub) (session .reader) (now (piece .entry)))
+        ≡ requestsWritten (askedOpen (session .hub) (session .reader) (now (piece .entry)))
         (now (requests .entry)))
         × (now (out .exit) ≡ told session (now (piece .entry))
         ++ drop (15 * length (asked (session .reader) (now (piece .entry)))) (now (out .entry))) ⌝ }

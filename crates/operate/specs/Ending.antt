@@ -9,7 +9,7 @@ use Rattle.hub.specs.Answers.{printed}
 use Rattle.hub.specs.Opening.{opening}
 use Rattle.line.specs.Requests.{Request, malformed, toOpen, toCall}
 use Rattle.run.specs.Bytes.{wellFormed}
-use Rattle.perform.specs.Bytes.{isOperationCode, written}
+use Rattle.perform.specs.Bytes.{answersWritten, isOperationCode}
 
 -- 0 done, else why not, as a number for callers in other languages.
 pub record Ended : Type 0 where
@@ -27,7 +27,7 @@ operatedIf false w m o operations out = unmade (printed (o .answer) .code) out
 operatedIf true false m o operations out = unmade 254 out
 operatedIf true true false o operations out = unmade 255 out
 operatedIf true true true o operations out =
-    record { result = 0; out = written (o .hub) operations out }
+    record { result = 0; out = answersWritten (o .hub) operations out }
 
 -- From what an opening is answered, 1F if it is made.
 abbrev pub operatedFrom : Outcome → List ℕ → List ℕ → Ended
@@ -36,7 +36,7 @@ operatedFrom o operations out =
     (leb (length operations / 2) (length out / 3)) o operations out
 
 -- The opening as a frame; one that is malformed, or a call, opens nothing.
-abbrev pub framedRun : Request → List ℕ → List ℕ → Ended
-framedRun malformed operations out = unmade 12 out
-framedRun (toCall c) operations out = unmade 12 out
-framedRun (toOpen o) operations out = operatedFrom (opening o) operations out
+abbrev pub operatedFramed : Request → List ℕ → List ℕ → Ended
+operatedFramed malformed operations out = unmade 12 out
+operatedFramed (toCall c) operations out = unmade 12 out
+operatedFramed (toOpen o) operations out = operatedFrom (opening o) operations out

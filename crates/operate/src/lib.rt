@@ -9,7 +9,7 @@ ghost use mathlib.Core.Path.{_≡_};
 ghost use Rattle.line.specs.Requests.{requested};
 ghost use Rattle.perform.specs.Bytes.{isOperationCode};
 ghost use Rattle.run.specs.Bytes.{wellFormed};
-ghost use Rattle.operate.specs.Ending.{framedRun};
+ghost use Rattle.operate.specs.Ending.{operatedFramed};
 
 fn is_operation(code: u8) -> bool
     ensures { λ r. ⌜ r ≡ isOperationCode code ⌝ }
@@ -45,8 +45,10 @@ fn well_formed(operations: &[u8]) -> bool
 // malformed opening, 2, 3 or 14 to 17 not opened, 254 malformed operations, 255 no room.
 #[no_mangle]
 pub extern "C" fn hub_operate(opening: &[u8], operations: &[u8], out: &mut [u8]) -> u8
-    ensures { λ r. ⌜ (r ≡ framedRun (requested (now (opening .entry))) (now (operations .entry)) (now (out .entry)) .result)
-        × (now (out .exit) ≡ framedRun (requested (now (opening .entry))) (now (operations .entry)) (now (out .entry)) .out) ⌝ }
+    ensures { λ r. ⌜ (r
+        ≡ operatedFramed (requested (now (opening .entry))) (now (operations .entry)) (now (out .entry)) .result)
+        × (now (out .exit)
+        ≡ operatedFramed (requested (now (opening .entry))) (now (operations .entry)) (now (out .entry)) .out) ⌝ }
 {
     if !is_opening_frame(opening) {
         return 12;

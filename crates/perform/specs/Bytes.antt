@@ -25,8 +25,8 @@ answersTo h [] = []
 answersTo h (c ∷ cs) = answerBytes (operated h c) ++ answersTo (operated h c .hub) cs
 
 -- They are written in front of what the buffer holds past them.
-abbrev pub written : Hub → List ℕ → List ℕ → List ℕ
-written h operations out =
+abbrev pub answersWritten : Hub → List ℕ → List ℕ → List ℕ
+answersWritten h operations out =
     answersTo h (callsOf operations) ++ drop (3 * (length operations / 2)) out
 
 -- A buffer in which the answer to operation i is written.

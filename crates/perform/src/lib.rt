@@ -18,7 +18,7 @@ use plan::Seen;
 use plan::is_full_for;
 use plan::place_for;
 use plan::plan_for;
-use plan::radios_after;
+use plan::radios_after_operation;
 use transition::tidy::can_retire;
 use transition::tidy::can_skip;
 ghost use mathlib.Core.Path.{_≡_};
@@ -28,7 +28,7 @@ ghost use lib.Dec.{ltb};
 ghost use lib.ListN.{length};
 ghost use Rattle.hub.specs.Phases.{isCancelled};
 ghost use Rattle.run.specs.Bytes.{wellFormed};
-ghost use Rattle.perform.specs.Bytes.{isOperationCode, written};
+ghost use Rattle.perform.specs.Bytes.{answersWritten, isOperationCode};
 ghost use Rattle.perform.specs.Rested.{Rested};
 
 // May the tidying pass ticket `resumed`, whose place this is, with so many left to pass?
@@ -46,7 +46,7 @@ pub fn perform_operations(hub: Hub, operations: &[u8], out: &mut [u8])
     requires { ⌜ Rested hub ⌝ }
     requires { ⌜ wellFormed isOperationCode (now operations) ≡ true ⌝ }
     requires { ⌜ 3 * (length (now operations) / 2) ≤ length (now out) ⌝ }
-    ensures { λ r. ⌜ now (out .exit) ≡ written hub (now (operations .entry)) (now (out .entry)) ⌝ }
+    ensures { λ r. ⌜ now (out .exit) ≡ answersWritten hub (now (operations .entry)) (now (out .entry)) ⌝ }
 {
     let opening = hub.opening;
     let mut figures = hub.figures;
@@ -93,7 +93,7 @@ pub fn perform_operations(hub: Hub, operations: &[u8], out: &mut [u8])
         places[t] = left;
         put_at(out, at, plan.code, woken, plan.steps);
         if opening.named {
-            pool = radios_after(code, plan.steps, woken, party, pool);
+            pool = radios_after_operation(code, plan.steps, woken, party, pool);
         }
         let next = plan.figures;
         figures = next;

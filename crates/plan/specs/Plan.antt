@@ -27,11 +27,11 @@ abbrev pub ticketFor : ℕ → Phase → Figures → ℕ
 ticketFor c x f = byCode (f .issued) (ticketOf x) (f .resumed) c
 
 -- The figures after an ask, with the next ticket t; after a give-up or a give-back, with the next to resume t.
-abbrev pub asked : ℕ → Figures → Figures
-asked t f = withCounter (predℤ (f .counter)) (withIssued t (withBegun (f .begun + 1) f))
+abbrev pub afterAcquire : ℕ → Figures → Figures
+afterAcquire t f = withCounter (predℤ (f .counter)) (withIssued t (withBegun (f .begun + 1) f))
 
-abbrev pub given : ℕ → Figures → Figures
-given t f = withCounter (sucℤ (f .counter)) (withResumed t f)
+abbrev pub afterReturn : ℕ → Figures → Figures
+afterReturn t f = withCounter (sucℤ (f .counter)) (withResumed t f)
 
 abbrev pub refusedBy : ℕ → Seen → Plan
 refusedBy c s =
@@ -64,7 +64,7 @@ planAcquire false b full a s = refusedBy 5 s
 planAcquire true true full a s = refusedBy 6 s
 planAcquire true false true a s = refusedBy 7 s
 planAcquire true false false true s =
-    short (asked (s .figures .issued) (s .figures)) Phase.Holding s
+    short (afterAcquire (s .figures .issued) (s .figures)) Phase.Holding s
 planAcquire true false false false s =
     let t = s .figures .issued in
     record {
@@ -72,7 +72,7 @@ planAcquire true false false false s =
       woken = 0xFF;
       steps = 3;
       turns = 0;
-      figures = asked (t + 1) (s .figures);
+      figures = afterAcquire (t + 1) (s .figures);
       slot = withPhase (Phase.Waiting t) (s .slot);
       seat = withPlace (Place.Waiting (s .party)) (s .seat);
     }
@@ -87,7 +87,7 @@ planCancel true false s =
       woken = 0xFF;
       steps = 2;
       turns = PLACES;
-      figures = given (s .figures .resumed) (s .figures);
+      figures = afterReturn (s .figures .resumed) (s .figures);
       slot = withPhase Phase.Free (s .slot);
       seat = withPlace Place.Cancelled (s .seat);
     }
@@ -95,14 +95,14 @@ planCancel true false s =
 -- Give back: does the party hold; does anybody wait?
 unfoldable pub planRelease : Bool → Bool → Seen → Plan
 planRelease false b s = refusedBy 11 s
-planRelease true false s = short (given (s .figures .resumed) (s .figures)) Phase.Free s
+planRelease true false s = short (afterReturn (s .figures .resumed) (s .figures)) Phase.Free s
 planRelease true true s =
     record {
       code = 0x20;
       woken = byWaiter 0xFF (λ q. q) (s .seat .place);
       steps = 3;
       turns = PLACES;
-      figures = given (s .figures .resumed + 1) (s .figures);
+      figures = afterReturn (s .figures .resumed + 1) (s .figures);
       slot = withPhase Phase.Free (s .slot);
       seat = withPlace Place.Done (s .seat);
     }

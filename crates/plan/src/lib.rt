@@ -29,7 +29,7 @@ ghost use Rattle.hub.specs.Ring.{PLACES};
 ghost use Rattle.hub.specs.Table.{aboveZero, belowZero};
 ghost use Rattle.effects.specs.Small.{CounterFits};
 ghost use Rattle.transition.specs.Room.{fullFor};
-ghost use Rattle.plan.specs.Plan.{asked, given, operationOf, planAcquire, planCancel, planOf};
+ghost use Rattle.plan.specs.Plan.{afterAcquire, afterReturn, operationOf, planAcquire, planCancel, planOf};
 ghost use Rattle.plan.specs.Plan.{planRelease, radioBy, refusedBy, short, ticketFor};
 
 // What an operation looks at.
@@ -95,9 +95,9 @@ pub fn place_for(code: u8, slot: PartySlot, figures: Figures) -> usize
     (ticket_for(code, slot, figures) % Hub::PLACES) as usize
 }
 
-fn asked(issued: u32, figures: Figures) -> Figures
+fn after_acquire(issued: u32, figures: Figures) -> Figures
     requires { ⌜ CounterFits (figures .counter) × (figures .begun < 1000000) ⌝ }
-    ensures { λ r. ⌜ r ≡ asked issued figures ⌝ }
+    ensures { λ r. ⌜ r ≡ afterAcquire issued figures ⌝ }
 {
     let counter = figures.counter - 1;
     Figures {
@@ -108,9 +108,9 @@ fn asked(issued: u32, figures: Figures) -> Figures
     }
 }
 
-fn given(resumed: u32, figures: Figures) -> Figures
+fn after_return(resumed: u32, figures: Figures) -> Figures
     requires { ⌜ CounterFits (figures .counter) ⌝ }
-    ensures { λ r. ⌜ r ≡ given resumed figures ⌝ }
+    ensures { λ r. ⌜ r ≡ afterReturn resumed figures ⌝ }
 {
     let counter = figures.counter + 1;
     Figures {
@@ -201,7 +201,7 @@ fn plan_acquire(full: bool, s: Seen) -> Plan
     }
     let t = figures.issued;
     if above_zero(figures.counter) {
-        return short(asked(t, figures), Phase::Holding, s);
+        return short(after_acquire(t, figures), Phase::Holding, s);
     }
     let seat = s.seat;
     Plan {
@@ -209,7 +209,7 @@ fn plan_acquire(full: bool, s: Seen) -> Plan
         woken: 0xFF,
         steps: 3,
         turns: 0,
-        figures: asked(t + 1, figures),
+        figures: after_acquire(t + 1, figures),
         slot: with_phase(Phase::Waiting(t), slot),
         seat: waited_by(s.party, seat),
     }
@@ -234,7 +234,7 @@ fn plan_cancel(s: Seen) -> Plan
         woken: 0xFF,
         steps: 2,
         turns: 256,
-        figures: given(figures.resumed, figures),
+        figures: after_return(figures.resumed, figures),
         slot: with_phase(Phase::Free, slot),
         seat: with_place(Place::Cancelled, seat),
     }
@@ -252,7 +252,7 @@ fn plan_release(s: Seen) -> Plan
     let figures = s.figures;
     let t = figures.resumed;
     if !below_zero(figures.counter) {
-        return short(given(t, figures), Phase::Free, s);
+        return short(after_return(t, figures), Phase::Free, s);
     }
     let seat = s.seat;
     Plan {
@@ -260,7 +260,7 @@ fn plan_release(s: Seen) -> Plan
         woken: waiter_at(seat),
         steps: 3,
         turns: 256,
-        figures: given(t + 1, figures),
+        figures: after_return(t + 1, figures),
         slot: with_phase(Phase::Free, slot),
         seat: with_place(Place::Done, seat),
     }
@@ -303,7 +303,7 @@ fn radio_by(code: u8, steps: u8, woken: u32) -> Answer
 }
 
 // Who has which radio after the operation, on a hub with radios.
-pub fn radios_after(code: u8, steps: u8, woken: u32, party: u8, pool: Pool) -> Pool
+pub fn radios_after_operation(code: u8, steps: u8, woken: u32, party: u8, pool: Pool) -> Pool
     requires { ⌜ pool .stored ≤ 32 ⌝ }
     ensures { λ r. ⌜ r ≡ moved (printed (radioBy code steps woken)) party pool ⌝ }
 {

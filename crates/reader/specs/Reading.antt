@@ -47,5 +47,5 @@ requestBytes [] = []
 requestBytes (r ∷ rs) = headerBytes (headerOf r) ++ requestBytes rs
 
 -- Requests, in front of what the buffer holds past them.
-abbrev pub written : List Request → List ℕ → List ℕ
-written rs out = requestBytes rs ++ drop (2 * length rs) out
+abbrev pub requestsWritten : List Request → List ℕ → List ℕ
+requestsWritten rs out = requestBytes rs ++ drop (2 * length rs) out

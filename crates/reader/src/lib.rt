@@ -8,7 +8,7 @@ ghost use mathlib.Core.Path.{_≡_};
 ghost use Prim.Native.Nat.{_*_, _≤_};
 ghost use lib.ListN.{length};
 ghost use Rattle.encoding.specs.Tables.{Values};
-ghost use Rattle.reader.specs.Reading.{KEPT, asked, headerBytes, past, written};
+ghost use Rattle.reader.specs.Reading.{KEPT, asked, headerBytes, past, requestsWritten};
 
 // One character more than a line may have makes it too long, so that no more are kept.
 pub const KEPT: usize = LONGEST + 1;
@@ -44,7 +44,7 @@ pub fn read_piece(values: &[u16; 256], reader: Reader, piece: &[u8], requests: &
       reader = past reader (now (piece .entry));
       count = length (asked reader (now (piece .entry)));
     })
-        × (now (requests .exit) ≡ written (asked reader (now (piece .entry))) (now (requests .entry))) ⌝ }
+        × (now (requests .exit) ≡ requestsWritten (asked reader (now (piece .entry))) (now (requests .entry))) ⌝ }
 {
     let mut line = reader.line;
     let mut len = reader.len;

@@ -79,8 +79,8 @@ ledger-more e h [] c = refl
 ledger-more e h (x ∷ cs) c = ledger-more _ (called h x .hub) cs c
 
 module _ (o : Opening) (e : opening o .answer ≡ Answer.Opened) where
-  abbrev Reached : Hub → Type 0
-  Reached h = (cs : List Call) × (run (opening o .hub) cs ≡ h)
+  abbrev ReachedBy : Hub → Type 0
+  ReachedBy h = (cs : List Call) × (run (opening o .hub) cs ≡ h)
 
   -- What the ledger says of rest, the record shows.
   ledger-rests : (cs : List Call) (q : ℕ)
@@ -91,17 +91,17 @@ module _ (o : Opening) (e : opening o .answer ≡ Answer.Opened) where
       ap (λ (l : List Phase). atRest (phaseIn l q)) (sym (demand3 o e cs .phases))
       ∙ ap atRest (sym (read-phase (run (opening o .hub) cs .slots) q))
 
-  called-reached : (h : Hub) (c : Call) → Reached h → Reached (called h c .hub)
+  call-reaches : (h : Hub) (c : Call) → ReachedBy h → ReachedBy (called h c .hub)
   unfolding run
-  called-reached h c r =
+  call-reaches h c r =
       (r .0 ++ c ∷ [], sym (run-more (opening o .hub) (r .0) (c ∷ [])) ∙ ap (λ (g : Hub). called g c .hub) (r .1))
 
   -- A call makes nobody else busy.
-  others-rest : (h : Hub) (c : Call) → Reached h → (q : ℕ) → q ≢ c .party → rests h q ≡ true
+  others-rest : (h : Hub) (c : Call) → ReachedBy h → (q : ℕ) → q ≢ c .party → rests h q ≡ true
       → rests (called h c .hub) q ≡ true
-  unfolding called-reached
+  unfolding call-reaches
   others-rest h c r q d i =
-      ap (λ (g : Hub). rests g q) (sym (called-reached h c r .1))
+      ap (λ (g : Hub). rests g q) (sym (call-reaches h c r .1))
       ∙ sym (ledger-rests (r .0 ++ c ∷ []) q)
       ∙ ap (λ (a : Ledger). atRest (phaseIn (a .phases) q)) (ledger-more (opened o) (opening o .hub) (r .0) c)
       ∙ enter-rests (c .party) q d _ c _ refl
@@ -116,7 +116,7 @@ module _ (o : Opening) (e : opening o .answer ≡ Answer.Opened) where
       go (no d) = absurd (never (sym (others q d) ∙ b))
 
   -- So busy parties take p's steps.
-  walk : (n : ℕ) (g : Hub) (p : ℕ) → Reached g → ((q : ℕ) → q ≢ p → rests g q ≡ true)
+  walk : (n : ℕ) (g : Hub) (p : ℕ) → ReachedBy g → ((q : ℕ) → q ≢ p → rests g q ≡ true)
       → rests (run g (stepsOf n g p)) p ≡ true → (ps : List ℕ) → BusySteps g ps
       → ((q : ℕ) → rests (stepped g ps) q ≡ true) → map stepBy ps ≡ stepsOf n g p
   unfolding stepsOf run BusySteps stepped
@@ -126,7 +126,7 @@ module _ (o : Opening) (e : opening o .answer ≡ Answer.Opened) where
       absurd (never (sym end ∙ ap (rests g) (sym (busy-is g p q others (b .0))) ∙ b .0))
   walk (suc n) g p r others end (q ∷ qs) b z =
       ap₂ _∷_ (ap stepBy same)
-      (walk n next p (called-reached g (stepBy p) r) (λ u d. others-rest g (stepBy p) r u d (others u d))
+      (walk n next p (call-reaches g (stepBy p) r) (λ u d. others-rest g (stepBy p) r u d (others u d))
       (sym (ap (λ (c : Bool). rests (run g (cond c [] (stepBy p ∷ stepsOf n next p))) p) busy) ∙ end)
       qs (subst (λ (u : ℕ). BusySteps (called g (stepBy u) .hub) qs) same (b .1))
       (subst (λ (u : ℕ). (v : ℕ) → rests (stepped (called g (stepBy u) .hub) qs) v ≡ true) same z))
@@ -161,5 +161,5 @@ one-way o e cs calm c i ps t = go (turnsDown (called h c .answer)) (ends-at-rest
         → map stepBy ps ≡ cond b [] steps
     go true end = nobody-steps _ end ps (t .0)
     go false end =
-        walk o e MOST-STEPS _ (c .party) (called-reached o e _ c (cs, refl))
+        walk o e MOST-STEPS _ (c .party) (call-reaches o e _ c (cs, refl))
         (λ q d. others-rest o e _ c (cs, refl) q d (calm q)) (end (c .party)) ps (t .0) (t .1)

@@ -31,7 +31,7 @@ use Rattle.reader.specs.declared.Read.{Read}
 use Rattle.reader.specs.declared.Reader.{Reader}
 use Rattle.beforeopen.specs.Opening.{SessionHub, refusal, opensHub, untilOpen, openAt, early, begunBy}
 use Rattle.reader.specs.Reading.{lineIn, next, past, asked}
-use Rattle.reader.specs.Reading.{headerBytes, requestBytes, written}
+use Rattle.reader.specs.Reading.{headerBytes, requestBytes, requestsWritten}
 use Rattle.reader.proofs.Laws.Pieces.{Kept, past-kept}
 use Rattle.beforeopen.proofs.Laws.Appended.{lines, replies-append, after-append}
 use Rattle.beforeopen.proofs.Laws.Appended.{past-append, asked-append}
@@ -335,7 +335,7 @@ module _ {r₀ : Reader} {piece out₀ : List ℕ} {r : Reader} {out : List ℕ}
 
     module _ (header : List ℕ) {read : Read} {header′ : List ℕ}
         (e : read ≡ record { reader = past r chunk; count = length (asked r chunk) })
-        (f : header′ ≡ written (asked r chunk) header) where
+        (f : header′ ≡ requestsWritten (asked r chunk) header) where
       counted : read .count ≡ length (cond (eqb c 0x0A) (requestOf (lineIn r) ∷ []) [])
       counted = ap (λ (x : Read). x .count) e ∙ ap length asked-is
 
@@ -401,7 +401,7 @@ module _ {r₀ : Reader} {piece out₀ : List ℕ} {r : Reader} {out : List ℕ}
 
         header-is : header′ ≡ headerBytes (headerOf q) ++ drop 2 header
         unfolding requestBytes
-        header-is = f ∙ ap (λ (l : List Request). written l header) asks
+        header-is = f ∙ ap (λ (l : List Request). requestsWritten l header) asks
 
         pub code-is : getD header′ 0 0 ≡ headerOf q .code
         code-is = ap (λ (l : List ℕ). getD l 0 0) header-is

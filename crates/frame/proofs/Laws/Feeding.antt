@@ -30,7 +30,7 @@ use Rattle.frame.specs.declared.session.Session.{Session}
 use Rattle.beforeopen.specs.declared.opening.Begun.{Begun}
 use Rattle.beforeopen.specs.Opening.{openAt, early, late, begunBy, askedOpen}
 use Rattle.reader.specs.Reading.{KEPT, lineIn, past, asked}
-use Rattle.reader.specs.Reading.{requestBytes, written}
+use Rattle.reader.specs.Reading.{requestBytes, requestsWritten}
 use Rattle.frame.specs.Session.{atStart, fed, told, rest, finished, Sound}
 use Rattle.beforeopen.proofs.Laws.Opening.{session-open, after-session, open-few, all-read}
 use Rattle.reader.proofs.Laws.Pieces.{past-kept}
@@ -55,7 +55,7 @@ bytes-size [] = refl
 bytes-size (r ∷ rs) = omega (arith, bytes-size rs)
 
 pub written-size : (rs : List Request) (l : List ℕ) → 2 * length rs ≤ length l
-    → length (written rs l) ≡ length l
+    → length (requestsWritten rs l) ≡ length l
 written-size rs l m =
     simp (length-append, length-drop) (omega (arith, bytes-size rs))
 
@@ -102,7 +102,7 @@ fed-sound s piece o =
 module _ (s : Session) (o : Reachable (s .hub)) (piece spare : List ℕ) (read : Read)
     (bytes : List ℕ)
     (e : read ≡ record { reader = past (s .reader) piece; count = length (asked (s .reader) piece) })
-    (f : bytes ≡ written (asked (s .reader) piece) spare) where
+    (f : bytes ≡ requestsWritten (asked (s .reader) piece) spare) where
   abbrev rs : List Request
   rs = asked (s .reader) piece
 
@@ -241,7 +241,7 @@ module _ {s : Session} {piece out₀ : List ℕ} {b : Begun} {out₁ : List ℕ}
   abbrev Feeds : Fed → List ℕ → List ℕ → List ℕ → Type 0
   Feeds r spare spare′ out =
       (r ≡ record { session = fed s piece; lines = length (asked (s .reader) piece) })
-      × (spare′ ≡ written (askedOpen (s .hub) (s .reader) piece) spare)
+      × (spare′ ≡ requestsWritten (askedOpen (s .hub) (s .reader) piece) spare)
       × (out ≡ told s piece ++ drop (15 * length (asked (s .reader) piece)) out₀)
 
   -- No hub is open after all of it.
@@ -258,7 +258,7 @@ module _ {s : Session} {piece out₀ : List ℕ} {b : Begun} {out₁ : List ℕ}
       ap (λ (m : ℕ). drop m piece) n ∙ drop-of-length-le piece {i = length piece} (omega arith) in
       let count = lines-is ∙ ap (λ (l : List ℕ). length (asked (s .reader) l)) all in (
         (λ i. record { session = (is-between ∙ ap (fed s) all) i; lines = count i }),
-        sym (ap (λ (l : List ℕ). written (asked (past (s .reader) (part s piece)) l) spare) nothing),
+        sym (ap (λ (l : List ℕ). requestsWritten (asked (past (s .reader) (part s piece)) l) spare) nothing),
         out₁-is ∙ (λ i. told s (all i) ++ drop (15 * count i) out₀),
       )
 
@@ -312,7 +312,7 @@ module _ {s : Session} {piece out₀ : List ℕ} {b : Begun} {out₁ : List ℕ}
     -- The rest is fed to the open hub.
     module _ (spare : List ℕ) {r : Fed} {spare′ printed : List ℕ}
         (x : r ≡ record { session = fed now-open rest-of; lines = length (asked (b .reader) rest-of) })
-        (y : spare′ ≡ written (asked (b .reader) rest-of) spare)
+        (y : spare′ ≡ requestsWritten (asked (b .reader) rest-of) spare)
         (z : printed ≡ told now-open rest-of ++ drop (15 * length (asked (b .reader) rest-of)) lent)
       where
         count : b .lines + r .lines ≡ length (asked (s .reader) piece)
@@ -369,7 +369,7 @@ module _ {s : Session} {piece out₀ : List ℕ} {b : Begun} {out₁ : List ℕ}
                 (ap (λ (f : Fed). f .session) x ∙ (λ j. fed (is-between j) (rest-is j)) ∙ fed-parts s piece) i;
             lines = count i;
           }),
-          y ∙ ap (λ (rs : List Request). written rs spare) asked-rest,
+          y ∙ ap (λ (rs : List Request). requestsWritten rs spare) asked-rest,
           tail-put out₁ printed (15 * b .lines) (length out₁) lines-few refl size
               ∙ (λ i. front i ++ z i)
               ∙ ap (λ (m : ℕ). told s (part s piece) ++ (told now-open rest-of ++ drop (15 * m) lent))

@@ -20,8 +20,8 @@ use Rattle.hub.proofs.Laws.Printed.{few-refusals}
 use Rattle.line.specs.Requests.{Request, malformed, toOpen, toCall, isOpening}
 use Rattle.batch.proofs.Laws.Reachable.{opening-reachable}
 use Rattle.run.specs.Bytes.{wellFormed}
-use Rattle.perform.specs.Bytes.{isOperationCode, written}
-use Rattle.operate.specs.Ending.{Ended, framedRun, operatedFrom, operatedIf}
+use Rattle.perform.specs.Bytes.{answersWritten, isOperationCode}
+use Rattle.operate.specs.Ending.{Ended, operatedFramed, operatedFrom, operatedIf}
 use Rattle.perform.specs.Rested.{Rested}
 
 -- A run gave r and left l in the buffer.
@@ -47,24 +47,24 @@ module _ (o : Outcome) (operations out : List ℕ) where
     no-room w k = rw (eq-eqb (codeOf o) 0x1F e, w, lt-leb _ _ k) (refl, refl)
 
     pub done : (l : List ℕ) → wellFormed isOperationCode operations ≡ true
-        → length operations / 2 ≤ length out / 3 → l ≡ written (o .hub) operations out
+        → length operations / 2 ≤ length out / 3 → l ≡ answersWritten (o .hub) operations out
         → Ends (operatedFrom o operations out) 0 l
     unfolding operatedIf
     done l w k f = rw (eq-eqb (codeOf o) 0x1F e, w, le-leb _ _ k) (refl, f)
 
 -- What is no opening makes no run; what is one makes the run of its outcome.
 pub no-opening : (q : Request) (operations out : List ℕ) → isOpening q ≡ false
-    → Ends (framedRun q operations out) 12 out
+    → Ends (operatedFramed q operations out) 12 out
 no-opening malformed operations out e = (refl, refl)
 no-opening (toOpen o) operations out e = let z : _≡_ {A = ℕ} 0 1 = cc in absurd (omega arith)
 no-opening (toCall c) operations out e = (refl, refl)
 
 pub of-opening : (q : Request) (k : Opening) (o : Outcome) (operations out : List ℕ)
     → toOpen k ≡ q → o ≡ opening k → {r : ℕ} {l : List ℕ}
-    → Ends (operatedFrom o operations out) r l → Ends (framedRun q operations out) r l
+    → Ends (operatedFrom o operations out) r l → Ends (operatedFramed q operations out) r l
 of-opening q k o operations out e f {r} {l} x =
     subst (λ (y : Ended). Ends y r l)
-    (ap (λ (p : Outcome). operatedFrom p operations out) f ∙ ap (λ (y : Request). framedRun y operations out) e) x
+    (ap (λ (p : Outcome). operatedFrom p operations out) f ∙ ap (λ (y : Request). operatedFramed y operations out) e) x
 
 -- A hub just opened is at rest.
 all-free : (n p : ℕ) → getD (replicate n freeSlot) p freeSlot ≡ freeSlot

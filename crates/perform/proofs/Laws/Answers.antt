@@ -15,7 +15,7 @@ use Rattle.encoding.proofs.Laws.Parts.{parts, put-length, put-take, put-drop}
 use Rattle.operations.specs.Operation.{operated}
 use Rattle.run.specs.Bytes.{callsOf, wellFormed}
 use Rattle.run.proofs.Laws.Pairs.{one-formed, pair}
-use Rattle.perform.specs.Bytes.{answerBytes, answersTo, isOperationCode, withAnswer, written}
+use Rattle.perform.specs.Bytes.{answerBytes, answersTo, answersWritten, isOperationCode, withAnswer}
 use Rattle.perform.specs.Rested.{Rested}
 use Rattle.perform.proofs.Laws.Codes.{an-operation}
 use Rattle.perform.proofs.Laws.Rested.{rested-again}
@@ -110,7 +110,7 @@ module _ (h₀ : Hub) (l out₀ : List ℕ) (h : Hub) (out : List ℕ) (i : ℕ)
         next : (i : ℕ) → 3 * (i + 1) ≡ 3 * i + 3
         next i = omega arith
 
-  pub ended : length l / 2 ≤ i → out ≡ written h₀ l out₀
+  pub ended : length l / 2 ≤ i → out ≡ answersWritten h₀ l out₀
   unfolding answersTo callsOf
   ended e =
       let last = none-left (drop (2 * i) l) (simp length-drop (omega arith)) (u .formed) in

@@ -34,7 +34,7 @@ use Rattle.transition.proofs.Laws.Stored.{nobody, same-seat, same-slot, tidied-
 use Rattle.plan.specs.declared.Plan.{Plan}
 use Rattle.plan.specs.declared.Seen.{Seen}
 use Rattle.perform.specs.Bytes.{isOperationCode}
-use Rattle.plan.specs.Plan.{asked, given, planAcquire, planCancel, planOf, planRelease, radioBy}
+use Rattle.plan.specs.Plan.{afterAcquire, afterReturn, planAcquire, planCancel, planOf, planRelease, radioBy}
 use Rattle.plan.specs.Plan.{refusedBy, ticketFor}
 use Rattle.perform.proofs.Laws.Codes.{among-three}
 use Rattle.perform.proofs.Laws.Plans.{asked-woken, cancelled-woken, released-woken}
@@ -181,8 +181,9 @@ module _ (h : Hub) (p : ℕ) where
           steps = refl;
           hub =
               tidied-none _
-              ∙ (λ i. made (asked (h .figures .issued) (h .figures)) (same-seat (h .places) (h .figures .issued) i)
-              (alone (withPhase Phase.Holding own) i) (fetched p (h .pool) (h .opening .named) i));
+              ∙ (λ i. made (afterAcquire (h .figures .issued) (h .figures))
+              (same-seat (h .places) (h .figures .issued) i) (alone (withPhase Phase.Holding own) i)
+              (fetched p (h .pool) (h .opening .named) i));
         }
 
     parks : Comes 0x10 (planAcquire true false false false (seenOf 0x10)) (acquired false h p)
@@ -194,7 +195,7 @@ module _ (h : Hub) (p : ℕ) where
           steps = refl;
           hub =
               tidied-none _
-              ∙ (λ i. made (asked (h .figures .issued + 1) (h .figures)) (acquired false h p .hub .places)
+              ∙ (λ i. made (afterAcquire (h .figures .issued + 1) (h .figures)) (acquired false h p .hub .places)
               (alone (withPhase (Phase.Waiting (h .figures .issued)) own) i) (unmoved p (h .pool) (h .opening .named) i));
         }
 
@@ -221,7 +222,7 @@ module _ (h : Hub) (p : ℕ) where
           hub =
               tidied-all _
               ∙ ap tidied
-              (λ i. made (given (h .figures .resumed) (h .figures))
+              (λ i. made (afterReturn (h .figures .resumed) (h .figures))
               (placesBy 0x12 (planCancel true false (seenOf 0x12))) (alone (withPhase Phase.Free own) i)
               (unmoved p (h .pool) (h .opening .named) i));
         }
@@ -242,8 +243,9 @@ module _ (h : Hub) (p : ℕ) where
           steps = refl;
           hub =
               tidied-none _
-              ∙ (λ i. made (given (h .figures .resumed) (h .figures)) (same-seat (h .places) (h .figures .resumed) i)
-              (alone (withPhase Phase.Free own) i) (stored p (h .pool) (h .opening .named) i));
+              ∙ (λ i. made (afterReturn (h .figures .resumed) (h .figures))
+              (same-seat (h .places) (h .figures .resumed) i) (alone (withPhase Phase.Free own) i)
+              (stored p (h .pool) (h .opening .named) i));
         }
 
     hands-over : Comes 0x13 (planRelease true true (seenOf 0x13)) (released true h p)

@@ -442,8 +442,8 @@ array-set-from-places c = omega (arith, index-is (planned (c .before .before)))
 put-at-requires-2 : At tie.Need-put-at-requires-2
 put-at-requires-2 c κs = room (turning (asking (planned (c .before .before .before))))
 
-radios-after-requires : At tie.Need-radios-after-requires
-radios-after-requires c κs =
+radios-after-operation-requires : At tie.Need-radios-after-operation-requires
+radios-after-operation-requires c κs =
     let h = head (asking (planned (c .before .before .before .before .before .before .before))) in
     few-stored (hub h) (fit h) (c .if3 .taken)
 
@@ -603,7 +603,7 @@ perform-operations-spec =
     mul-places
     array-set-from-places
     put-at-requires-2
-    radios-after-requires
+    radios-after-operation-requires
     loop2-holds
     cast-a
     mul-ahead

@@ -61,8 +61,8 @@ returns-3 c =
 above-zero-requires : tie.Need-above-zero-requires
 above-zero-requires c κs = search needs
 
-asked-requires : tie.Need-asked-requires
-asked-requires c κs = search needs
+after-acquire-requires : tie.Need-after-acquire-requires
+after-acquire-requires c κs = search needs
 
 short-requires : tie.Need-short-requires
 short-requires c κs = search needs
@@ -80,14 +80,14 @@ returns-4 c =
     let fits = b .before .before .before .pre .0 in
     let above = sym (sign aboveZero _ fits (z .above-zero .ensures) ∙ c .before .before .if3 .taken) in
     c .short .ensures
-    ∙ ap (λ (f : Figures). short f Phase.Holding s) (c .before .asked .ensures)
+    ∙ ap (λ (f : Figures). short f Phase.Holding s) (c .before .after-acquire .ensures)
     ∙ (λ i. planAcquire (free i) (more i) (room i) (above i) s)
 
-add-asked : tie.Need-add-asked
-add-asked c = search needs
+add-after-acquire : tie.Need-add-after-acquire
+add-after-acquire c = search needs
 
-asked-requires-2 : tie.Need-asked-requires-2
-asked-requires-2 c κs = search needs
+after-acquire-requires-2 : tie.Need-after-acquire-requires-2
+after-acquire-requires-2 c κs = search needs
 
 with-phase-requires : tie.Need-with-phase-requires
 with-phase-requires c κs = search needs
@@ -113,7 +113,7 @@ returns-5 c =
       woken = 0xFF;
       steps = 3;
       turns = 0;
-      figures = g .asked2 .ensures i;
+      figures = g .after-acquire2 .ensures i;
       slot = c .before .with-phase .ensures i;
       seat = c .waited-by .ensures i;
     })
@@ -131,11 +131,11 @@ plan-acquire-spec =
     refused-requires-3
     returns-3
     above-zero-requires
-    asked-requires
+    after-acquire-requires
     short-requires
     returns-4
-    add-asked
-    asked-requires-2
+    add-after-acquire
+    after-acquire-requires-2
     with-phase-requires
     waited-by-requires
     returns-5)

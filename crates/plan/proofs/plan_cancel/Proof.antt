@@ -36,8 +36,8 @@ returns-2 c =
     let third = sym (eq-eqb (s .kind) 3 (c .before .if1 .taken)) in
     c .refused2 .ensures ∙ (λ i. planCancel (waits i) (third i) s)
 
-given-requires : tie.Need-given-requires
-given-requires c κs = search needs
+after-return-requires : tie.Need-after-return-requires
+after-return-requires c κs = search needs
 
 with-phase-requires : tie.Need-with-phase-requires
 with-phase-requires c κs = search needs
@@ -59,7 +59,7 @@ returns-3 c =
       woken = 0xFF;
       steps = 2;
       turns = PLACES;
-      figures = g .given .ensures i;
+      figures = g .after-return .ensures i;
       slot = c .before .with-phase .ensures i;
       seat = c .with-place .ensures i;
     })
@@ -74,7 +74,7 @@ plan-cancel-spec =
     returns
     refused-requires-2
     returns-2
-    given-requires
+    after-return-requires
     with-phase-requires
     with-place-requires
     returns-3)

@@ -30,8 +30,8 @@ returns c =
 below-zero-requires : tie.Need-below-zero-requires
 below-zero-requires c κs = search needs
 
-given-requires : tie.Need-given-requires
-given-requires c κs = search needs
+after-return-requires : tie.Need-after-return-requires
+after-return-requires c κs = search needs
 
 short-requires : tie.Need-short-requires
 short-requires c κs = search needs
@@ -46,17 +46,17 @@ returns-2 c =
     let fits = b .before .before .before .pre .0 in
     let nobody = sym (sign belowZero _ fits (z .below-zero .ensures) ∙ not-true _ (c .before .before .if1 .taken)) in
     c .short .ensures
-    ∙ ap (λ (f : Figures). short f Phase.Free s) (c .before .given .ensures)
+    ∙ ap (λ (f : Figures). short f Phase.Free s) (c .before .after-return .ensures)
     ∙ (λ i. planRelease (holds i) (nobody i) s)
 
 waiter-at-requires : tie.Need-waiter-at-requires
 waiter-at-requires c κs = search needs
 
-add-given : tie.Need-add-given
-add-given c = search needs
+add-after-return : tie.Need-add-after-return
+add-after-return c = search needs
 
-given-requires-2 : tie.Need-given-requires-2
-given-requires-2 c κs = search needs
+after-return-requires-2 : tie.Need-after-return-requires-2
+after-return-requires-2 c κs = search needs
 
 with-phase-requires : tie.Need-with-phase-requires
 with-phase-requires c κs = search needs
@@ -80,7 +80,7 @@ returns-3 c =
       woken = q .waiter-at .ensures i;
       steps = 3;
       turns = PLACES;
-      figures = g .given2 .ensures i;
+      figures = g .after-return2 .ensures i;
       slot = c .before .with-phase .ensures i;
       seat = c .with-place .ensures i;
     })
@@ -94,12 +94,12 @@ plan-release-spec =
     refused-requires
     returns
     below-zero-requires
-    given-requires
+    after-return-requires
     short-requires
     returns-2
     waiter-at-requires
-    add-given
-    given-requires-2
+    add-after-return
+    after-return-requires-2
     with-phase-requires
     with-place-requires
     returns-3)

@@ -16,7 +16,7 @@ use Rattle.hub.proofs.Laws.Bools.{if-true, if-false}
 use Rattle.reader.specs.declared.Read.{Read}
 use Rattle.reader.specs.declared.Reader.{Reader}
 use Rattle.reader.specs.Reading.{KEPT, lineIn, pushed, emptied, next, past, asked}
-use Rattle.reader.specs.Reading.{headerBytes, requestBytes, written}
+use Rattle.reader.specs.Reading.{headerBytes, requestBytes, requestsWritten}
 
 -- After i characters, from the reader r₀ and the buffer out₀; n lines have ended.
 pub record Upto (r₀ : Reader) (piece out₀ : List ℕ) (r : Reader) (out : List ℕ) (n i : ℕ)
@@ -29,8 +29,8 @@ pub record Upto (r₀ : Reader) (piece out₀ : List ℕ) (r : Reader) (out : Li
   pub long : length out ≡ length out₀
   pub reader : past r (drop i piece) ≡ past r₀ piece
   pub count : n + length (asked r (drop i piece)) ≡ length (asked r₀ piece)
-  pub same : take (2 * n) out ++ written (asked r (drop i piece)) (drop (2 * n) out)
-      ≡ written (asked r₀ piece) out₀
+  pub same : take (2 * n) out ++ requestsWritten (asked r (drop i piece)) (drop (2 * n) out)
+      ≡ requestsWritten (asked r₀ piece) out₀
 
 pub start : (r : Reader) (piece out : List ℕ) → r .len ≤ KEPT → length (r .line) ≡ KEPT
     → 2 * length (asked r piece) ≤ length out → Upto r piece out r out 0 0
@@ -82,7 +82,7 @@ ended r c e = rw (eq-eqb c 0x0A e)
 
 -- A request takes two bytes off the buffer.
 one-more : (q : Request) (rs : List Request) (l : List ℕ)
-    → written (q ∷ rs) l ≡ headerBytes (headerOf q) ++ written rs (drop 2 l)
+    → requestsWritten (q ∷ rs) l ≡ headerBytes (headerOf q) ++ requestsWritten rs (drop 2 l)
 unfolding requestBytes
 one-more q rs l =
     ap (λ (m : List ℕ). headerBytes (headerOf q) ++ (requestBytes rs ++ m))
@@ -122,7 +122,7 @@ module _ (r₀ : Reader) (piece out₀ : List ℕ) (r : Reader) (out : List ℕ)
             sym (ap (past r) here ∙ past-one r c cs ∙ ap (λ (p : Reader). past p cs) e) ∙ u .reader;
         count = ap (λ (l : List Request). n + length l) (sym a) ∙ u .count;
         same =
-            ap (λ (l : List Request). take (2 * n) out ++ written l (drop (2 * n) out)) (sym a)
+            ap (λ (l : List Request). take (2 * n) out ++ requestsWritten l (drop (2 * n) out)) (sym a)
             ∙ u .same;
       }
 
@@ -164,9 +164,9 @@ module _ (r₀ : Reader) (piece out₀ : List ℕ) (r : Reader) (out : List ℕ)
             (two n, put-take out part (2 * n) 2 room size, put-drop out part (2 * n) 2 room size)
             (append-assoc (take (2 * n) out) part _
             ∙ ap (λ (l : List ℕ). take (2 * n) out ++ l)
-            (ap (λ (l : List ℕ). l ++ written rs (drop 2 (drop (2 * n) out))) (g ∙ ap headerBytes e)
+            (ap (λ (l : List ℕ). l ++ requestsWritten rs (drop 2 (drop (2 * n) out))) (g ∙ ap headerBytes e)
             ∙ sym (one-more q rs (drop (2 * n) out)))
-            ∙ ap (λ (l : List Request). take (2 * n) out ++ written l (drop (2 * n) out)) (sym a)
+            ∙ ap (λ (l : List Request). take (2 * n) out ++ requestsWritten l (drop (2 * n) out)) (sym a)
             ∙ u .same);
       }
     where
@@ -183,7 +183,7 @@ module _ (r₀ : Reader) (piece out₀ : List ℕ) (r : Reader) (out : List ℕ)
 
   pub end : (_≡_ {A = Read} (record { reader = r; count = n })
       (record { reader = past r₀ piece; count = length (asked r₀ piece) }))
-      × (out ≡ written (asked r₀ piece) out₀)
+      × (out ≡ requestsWritten (asked r₀ piece) out₀)
   unfolding past asked requestBytes
   end = (
     (λ j. record {
@@ -193,7 +193,7 @@ module _ (r₀ : Reader) (piece out₀ : List ℕ) (r : Reader) (out : List ℕ)
     }),
     sym (take-append-drop (2 * n) out)
         ∙ sym
-        (ap (λ (l : List ℕ). take (2 * n) out ++ written (asked r l) (drop (2 * n) out)) nothing)
+        (ap (λ (l : List ℕ). take (2 * n) out ++ requestsWritten (asked r l) (drop (2 * n) out)) nothing)
         ∙ u .same,
   )
     where

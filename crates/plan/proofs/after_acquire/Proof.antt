@@ -1,12 +1,12 @@
--- `asked` meets its contract: a counter that fits still fits an `i32` once one is taken off it.
+-- `after_acquire` meets its contract: a counter that fits still fits an `i32` once one is taken off it.
 use Prim.Native.Nat.{_+_}
 use mathlib.Core.Path.{ap}
 use lib.IntN.{ℤ}
 use Rattle.hub.specs.Table.{withBegun, withCounter, withIssued}
 use Rattle.effects.proofs.Laws.Counter.{less, less-fits}
 use borrow.Author.Needs.{needs}
-use Rattle.plan.proofs.asked.Statement.{statement}
-use Rattle.plan.proofs.asked.Tie as tie
+use Rattle.plan.proofs.after_acquire.Statement.{statement}
+use Rattle.plan.proofs.after_acquire.Tie as tie
 
 sub-counter : tie.Need-sub-counter
 sub-counter c = less-fits (c .before .before .args .figures .counter) (c .before .before .pre .0)
@@ -21,5 +21,5 @@ returns c =
     ap (λ (z : ℤ). withCounter z (withIssued (b .args .issued) (withBegun (f .begun + 1) f)))
     (less (f .counter) (b .pre .0))
 
-pub asked-spec : {M : Type 1} → statement M
-asked-spec = tie.close (tie.spec sub-counter add-t4 returns)
+pub after-acquire-spec : {M : Type 1} → statement M
+after-acquire-spec = tie.close (tie.spec sub-counter add-t4 returns)
