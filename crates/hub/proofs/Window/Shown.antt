@@ -3,19 +3,16 @@ use Prim.Native.Nat.{ℕ, _+_, _≤_}
 use mathlib.Core.Path.{_≡_, sym, ap, _∙_}
 use mathlib.Core.Bool.{true}
 use mathlib.Core.List.{List}
-use lib.Dec.{leb}
 use lib.ListN.{length}
 use Rattle.hub.specs.declared.record.Hub.{Hub}
 use Rattle.hub.specs.declared.record.PartySlot.{PartySlot}
 use Rattle.hub.specs.Fits.{kindsFit}
-use Rattle.hub.specs.Kinds.{kindIn}
 use Rattle.hub.specs.Ledger.{phaseIn}
-use Rattle.hub.specs.Look.{look, seenBy}
+use Rattle.hub.specs.Look.{look, seenBy, sightOn}
 use Rattle.hub.specs.Opening.{radiosDiffer}
 use Rattle.hub.specs.Phases.{byTicket, byWaiter}
 use Rattle.hub.specs.Queue.{Queue, phases}
 use Rattle.hub.specs.Queue as queue
-use Rattle.hub.specs.Radios.{handOf}
 use Rattle.hub.specs.Record.{emptySeat, freeSlot, phasesOf, readSlot}
 use Rattle.hub.specs.Refinement.{Shows}
 use Rattle.hub.specs.Ring.{PLACES, readSeat}
@@ -65,14 +62,5 @@ module _ (k : ℕ) (h : Hub) (m : Queue) (r : Tracks k h m) where
   pub look-same : (p : ℕ) → look h p ≡ queue.look m p
   unfolding seenBy
   look-same p = λ i.
-      record {
-        party = p;
-        kind = kindIn (r .shows .opening i .kinds) p;
-        slot = readSlot (r .shows .slots i) p;
-        seat = seat-alike p i;
-        waiter = byWaiter freeSlot (readSlot (r .shows .slots i)) (seat-alike p i .place);
-        figures = r .shows .figures i;
-        named = r .shows .opening i .named;
-        radio = handOf (r .shows .pool i) p;
-        stocked = leb 1 (r .shows .pool i .stored);
-      }
+      sightOn (r .shows .figures i) (r .shows .opening i) (r .shows .pool i) p (readSlot (r .shows .slots i) p) (seat-alike p i)
+      (byWaiter freeSlot (readSlot (r .shows .slots i)) (seat-alike p i .place))
