@@ -8,6 +8,7 @@ pub mod Seats
 pub mod Ring
 pub mod Kinds
 pub mod Opening
+pub mod Rows
 pub mod Table
 pub mod Printed
 pub mod Radios

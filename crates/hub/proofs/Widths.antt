@@ -24,16 +24,20 @@ use Rattle.hub.specs.Phases.{byTicket, byWaiter, ticketOf}
 use Rattle.hub.specs.Record.{PARTIES, emptySeat, withPlace, withPlaces}
 use Rattle.hub.specs.Ring.{PLACES, Ring, canRetire, canSkip, retire, retired, skip, skipped, writeSeat}
 use Rattle.hub.specs.Table.{acquire, cancel, decide, release, resumeWaiter, stepAborting, stepAcquiring}
-use Rattle.hub.specs.Table.{stepCancelling, stepFetching, stepIn, stepRefusing, stepReleasing}
+use Rattle.hub.specs.Table.{stepCancelling, stepFetching, stepRefusing, stepReleasing}
 use Rattle.hub.specs.Table.{stepResuming, stepResumingAt, stepStoring, stepSuspending, stepTicketed}
 use Rattle.hub.specs.Table.{tellRadio}
 use Rattle.hub.specs.Widths.{BYTE, NoLarger, SameCalls, UpTo, WORD, calledIn, keptIn, writtenIn}
 use Rattle.hub.proofs.Laws.Bools.{clause, first, second}
 use Rattle.hub.proofs.Laws.Phases.{by-ticket, every-place, ticketed}
+use Rattle.hub.proofs.Laws.Rows.{calls-alike}
 
 -- A place with a party up to 255; all places of a list.
+abbrev isSmall : Place → Bool
+isSmall = byWaiter true (λ q. leb q 255)
+
 abbrev Small : Place → Type 0
-Small a = byWaiter true (λ q. leb q 255) a ≡ true
+Small a = isSmall a ≡ true
 
 abbrev AllSmall : List PlaceSlot → Type 0
 AllSmall l = (i : ℕ) → Small (getD l i emptySeat .place)
@@ -96,13 +100,13 @@ tidied-small : (h : Hub) → UpTo 255 h → UpTo 255 (tidied h)
 unfolding tidied
 tidied-small h s = retire-small PLACES _ (skip-small PLACES _ s)
 
--- The place that a move writes, if it writes one.
-abbrev Writes : Move → Type 0
-Writes (Refuse r) = Unit {0}
-Writes (Tell y) = Unit {0}
-Writes (Act c) = Unit {0}
-Writes (Put a c) = Small (a .place)
-Writes (Wake q x a c) = Small (a .place)
+-- Is the place that a move writes, if it writes one, small?
+abbrev writesSmall : Move → Bool
+writesSmall (Refuse r) = true
+writesSmall (Tell y) = true
+writesSmall (Act c) = true
+writesSmall (Put a c) = isSmall (a .place)
+writesSmall (Wake q x a c) = isSmall (a .place)
 
 put-small : (l : List PlaceSlot) (f : Phase) (a : PlaceSlot) → AllSmall l → Small (a .place)
     → AllSmall (byTicket l (λ t. writeSeat l t a) f)
@@ -113,7 +117,7 @@ put-small l f a s m =
     go true = seat-small l (ticketOf f) a s m
     go false = s
 
-applied-small : (h : Hub) (s : Sight) (m : Move) → UpTo 255 h → Writes m → UpTo 255 (apply h s m)
+applied-small : (h : Hub) (s : Sight) (m : Move) → UpTo 255 h → writesSmall m ≡ true → UpTo 255 (apply h s m)
 unfolding apply
 applied-small h s (Refuse r) u w = u
 applied-small h s (Tell y) u w = u
@@ -122,101 +126,10 @@ applied-small h s (Put a c) u w = tidied-small _ (put-small (h .places) (s .slot
 applied-small h s (Wake q x a c) u w = tidied-small _ (put-small (h .places) (s .slot .phase) a u w)
 
 -- The table writes no party but the caller's.
-module _ (s : Sight) (few : s .party ≤ 255) where
-  acquiring : (x : Phase) (b : Bool) → Writes (stepAcquiring x b s)
-  unfolding stepAcquiring
-  acquiring x true = tt
-  acquiring x false = tt
-
-  ticketing : (x : Phase) (t : ℕ) (a : Place) → Writes (stepTicketed x t a s)
-  unfolding stepTicketed
-  ticketing x t =
-      every-place (λ a. Writes (stepTicketed x t a s))
-      (λ q. (le-leb (s .party) 255 few, (tt, (refl, (tt, (tt, (tt, tt)))))))
-
-  aborting : (t : ℕ) (b : Bool) → Writes (stepAborting t b s)
-  unfolding stepAborting
-  aborting t true = tt
-  aborting t false = tt
-
-  cancelling : (t : ℕ) (a : Place) → Writes (stepCancelling t a s)
-  unfolding stepCancelling
-  cancelling t = every-place (λ a. Writes (stepCancelling t a s)) (λ q. (tt, (refl, (refl, (tt, (tt, (tt, tt)))))))
-
-  refusing : (t : ℕ) (a : Place) → Writes (stepRefusing t a s)
-  unfolding stepRefusing
-  refusing t = every-place (λ a. Writes (stepRefusing t a s)) (λ q. (tt, (refl, (refl, (tt, (tt, (tt, tt)))))))
-
-  releasing : (b : Bool) → Writes (stepReleasing b s)
-  unfolding stepReleasing
-  releasing true = tt
-  releasing false = tt
-
-  resumed : (b : Bool) (q t : ℕ) → Writes (resumeWaiter b q t s)
-  unfolding resumeWaiter
-  resumed true q t = refl
-  resumed false q t = refl
-
-  resuming : (t : ℕ) (a : Place) → Writes (stepResumingAt t a s)
-  unfolding stepResumingAt
-  resuming t =
-      every-place (λ a. Writes (stepResumingAt t a s)) (λ q. (refl, (resumed _ q t, (tt, (refl, (refl, (tt, tt)))))))
-
-  fetching : (b : Bool) → Writes (stepFetching b s)
-  unfolding stepFetching
-  fetching true = tt
-  fetching false = tt
-
-  stepping : (f : Phase) → Writes (stepIn f s)
-  unfolding stepIn stepSuspending stepResuming stepStoring
-  stepping Phase.Free = tt
-  stepping Phase.Holding = tt
-  stepping (Phase.Waiting t) = tt
-  stepping Phase.Acquiring = acquiring _ _
-  stepping Phase.Suspending = tt
-  stepping (Phase.Ticketed t) = ticketing _ t _
-  stepping (Phase.Aborting t) = aborting t _
-  stepping (Phase.Cancelling t) = cancelling t _
-  stepping (Phase.Refusing t) = refusing t _
-  stepping Phase.Releasing = releasing _
-  stepping Phase.Resuming = tt
-  stepping (Phase.ResumingAt t) = resuming t _
-  stepping Phase.Fetching = fetching _
-  stepping Phase.Storing = tt
-  stepping Phase.AcquiringMarked = acquiring _ _
-  stepping Phase.SuspendingMarked = tt
-  stepping (Phase.TicketedMarked t) = ticketing _ t _
-
-  asking : (f e full : Bool) → Writes (acquire f e full s)
-  unfolding acquire
-  asking false e full = tt
-  asking true true full = tt
-  asking true false true = tt
-  asking true false false = tt
-
-  giving-up : (c k : Bool) (x : Phase) → Writes (cancel c k x s)
-  unfolding cancel
-  giving-up false k x = tt
-  giving-up true true x = tt
-  giving-up true false x = tt
-
-  giving-back : (b : Bool) → Writes (release b s)
-  unfolding release
-  giving-back false = tt
-  giving-back true = tt
-
-  telling : (b : Bool) → Writes (tellRadio b s)
-  unfolding tellRadio
-  telling true = tt
-  telling false = tt
-
-  decided : (o : Op) (full : Bool) → Writes (decide o full s)
-  unfolding decide
-  decided Op.Acquire full = asking _ _ full
-  decided Op.Step full = stepping _
-  decided Op.Cancel full = giving-up _ _ _
-  decided Op.Release full = giving-back _
-  decided Op.Radio full = telling _
+decided : (s : Sight) → s .party ≤ 255 → (o : Op) (full : Bool) → writesSmall (decide o full s) ≡ true
+unfolding stepAcquiring stepSuspending stepTicketed stepReleasing stepResuming resumeWaiter stepResumingAt stepAborting
+    stepCancelling stepRefusing stepFetching stepStoring acquire cancel release tellRadio
+decided s few = calls-alike s writesSmall true (λ t q. rw (le-leb (s .party) 255 few)) (λ x. refl)
 
 -- A caller that is not refused is below n, and n is at most 32.
 few-parties : (h : Hub) → fits h ≡ true → h .opening .parties ≤ 32
@@ -230,15 +143,15 @@ few-parties h e =
     let n = clause 1 (figuresClauses (h .opening) (h .figures) (h .oldest)) all in
     leb-true (h .opening .parties) 32 (second (leb 1 (h .opening .parties)) _ n)
 
-moved-small : (h : Hub) (c : Call) → Writes (moveOf h c)
+moved-small : (h : Hub) (c : Call) → writesSmall (moveOf h c) ≡ true
 unfolding checked seenBy
 moved-small h c = go (fits h) refl (ltb (c .party) (h .opening .parties)) refl
   where
     go : (a : Bool) → fits h ≡ a → (b : Bool) → ltb (c .party) (h .opening .parties) ≡ b
-        → Writes (checked a b
-        (decide (c .op) (isFull (h .oldest) (h .figures .issued) (h .slots)) (look h (c .party))))
-    go false e b f = tt
-    go true e false f = tt
+        → writesSmall (checked a b
+        (decide (c .op) (isFull (h .oldest) (h .figures .issued) (h .slots)) (look h (c .party)))) ≡ true
+    go false e b f = refl
+    go true e false f = refl
     go true e true f =
         decided (look h (c .party))
         (omega (arith, few-parties h e, ltb-true (c .party) (h .opening .parties) f)) (c .op) _

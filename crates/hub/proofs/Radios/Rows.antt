@@ -1,13 +1,13 @@
 -- The one walk of the step table: each answer says the way that its row sends a radio. A row that sends none
 -- leaves everybody with a radio who had one, and every permit at its place.
-use Prim.Native.Nat.{ℕ, _%_, _≤_, _<_}
+use Prim.Native.Nat.{ℕ, _%_, _<_}
 use mathlib.Core.Path.{_≡_, refl, sym, ap, subst, _∙_}
 use mathlib.Core.Bool.{Bool, true, false}
 use mathlib.Core.List.{List}
 use native.Mathlib.Omega.{arith}
 use borrow.Author.Tests.{leb-true}
 use lib.Dec.{leb}
-use lib.ListN.{length, getD, set, length-map, List·getD-map}
+use lib.ListN.{getD, set, length-map, List·getD-map}
 use lib.Seq.{set-getD}
 use Rattle.hub.specs.declared.answers.Answer.{Answer}
 use Rattle.hub.specs.Moves.{Move, Refuse, Tell, Act, Put, Wake}
@@ -28,7 +28,7 @@ use Rattle.hub.specs.declared.record.Place.the-variants.{Cancelled, Refu
 use Rattle.hub.specs.Answers.{printed}
 use Rattle.hub.specs.Look.{look, seenBy}
 use Rattle.hub.specs.Phases.{byTicket, byWaiter, hasRadio, isFree, isHolding, isOneOf, isPermit}
-use Rattle.hub.specs.Phases.{isPlaceOf, isWaiting, ticketOf}
+use Rattle.hub.specs.Phases.{isPlaceOf, isWaiting}
 use Rattle.hub.specs.Radios.{moved}
 use Rattle.hub.specs.Record.{PARTIES, emptySeat, freeSlot, readSlot}
 use Rattle.hub.specs.Ring.{PLACES, readPlace, readSeat}
@@ -56,21 +56,24 @@ module _ (h : Hub) (p : ℕ) (named : h .opening .named ≡ true)
   abbrev After : List Bool → List Bool → Pool → Type 0
   After = Same bs cs (h .pool)
 
-  -- Where a permit is when the place of the ticket of f is a.
-  abbrev marked : Phase → PlaceSlot → List Bool
-  marked f a = byTicket cs (λ t. set cs (t % PLACES) (isPermit (a .place))) f
-
-  -- What a move of the party, in phase f, has to show.
-  abbrev pub Goes : Phase → Move → Type 0
-  Goes f (Refuse r) = After bs cs (moved (printed (Answer.Refused r)) p (h .pool))
-  Goes f (Tell y) = After bs cs (moved (printed y) p (h .pool))
-  Goes f (Act c) =
+  -- What a move of the party has to show, where the places have their permits so once its place is written.
+  abbrev GoesBy : (PlaceSlot → List Bool) → Move → Type 0
+  GoesBy marks (Refuse r) = After bs cs (moved (printed (Answer.Refused r)) p (h .pool))
+  GoesBy marks (Tell y) = After bs cs (moved (printed y) p (h .pool))
+  GoesBy marks (Act c) =
       After (set bs p (hasRadio (c .slot .phase))) cs (moved (printed (c .answer)) p (h .pool))
-  Goes f (Put a c) =
-      After (set bs p (hasRadio (c .slot .phase))) (marked f a) (moved (printed (c .answer)) p (h .pool))
-  Goes f (Wake q x a c) =
-      After (set (set bs q (hasRadio (x .phase))) p (hasRadio (c .slot .phase))) (marked f a)
+  GoesBy marks (Put a c) =
+      After (set bs p (hasRadio (c .slot .phase))) (marks a) (moved (printed (c .answer)) p (h .pool))
+  GoesBy marks (Wake q x a c) =
+      After (set (set bs q (hasRadio (x .phase))) p (hasRadio (c .slot .phase))) (marks a)
       (moved (printed (c .answer)) p (h .pool))
+
+  -- Its place is that of ticket t; of the ticket of its phase.
+  abbrev GoesAt : ℕ → Move → Type 0
+  GoesAt t = GoesBy (λ a. set cs (t % PLACES) (isPermit (a .place)))
+
+  abbrev pub Goes : Phase → Move → Type 0
+  Goes f = GoesBy (λ a. byTicket cs (λ t. set cs (t % PLACES) (isPermit (a .place))) f)
 
   -- What the slot of a party says of its radio; what a place says of a permit.
   radio-of : (w : ℕ) {f : Phase} → readSlot (h .slots) w .phase ≡ f → getD bs w false ≡ hasRadio f
@@ -128,27 +131,16 @@ module _ (h : Hub) (p : ℕ) (named : h .opening .named ≡ true)
       fetched bs cs (h .pool) s p (radio-of p e) (party-in p e refl) (leb-true 1 (h .pool .stored) i)
   fetching false i e = unmoved
 
-  numbered : (t : ℕ) (a : Place) → readPlace (h .places) t ≡ a → phase ≡ Ticketed t
-      → Goes (Ticketed t) (stepTicketed (Waiting t) t a (look h p))
+  numbered : (f x : Phase) → hasRadio f ≡ false → isFree f ≡ false → hasRadio x ≡ false → (t : ℕ) (a : Place)
+      → readPlace (h .places) t ≡ a → phase ≡ f → GoesAt t (stepTicketed x t a (look h p))
   unfolding stepTicketed isOneOf isPlaceOf moved seenBy
-  numbered t Empty i e = party-still (radio-of p e) (place-still t (there t i) unmoved)
-  numbered t Permit i e =
-      found bs cs (h .pool) s t (there t i) p (radio-of p e) (party-in p e refl)
-  numbered t (WaitedBy q) i e = unmoved
-  numbered t Cancelled i e = unmoved
-  numbered t Refused i e = unmoved
-  numbered t Done i e = unmoved
-
-  numbered-marked : (t : ℕ) (a : Place) → readPlace (h .places) t ≡ a → phase ≡ TicketedMarked t
-      → Goes (TicketedMarked t) (stepTicketed (Aborting t) t a (look h p))
-  unfolding stepTicketed isOneOf isPlaceOf moved seenBy
-  numbered-marked t Empty i e = party-still (radio-of p e) (place-still t (there t i) unmoved)
-  numbered-marked t Permit i e =
-      found bs cs (h .pool) s t (there t i) p (radio-of p e) (party-in p e refl)
-  numbered-marked t (WaitedBy q) i e = unmoved
-  numbered-marked t Cancelled i e = unmoved
-  numbered-marked t Refused i e = unmoved
-  numbered-marked t Done i e = unmoved
+  numbered f x n m l t Empty i e = party-still (radio-of p e ∙ n ∙ sym l) (place-still t (there t i) unmoved)
+  numbered f x n m l t Permit i e =
+      found bs cs (h .pool) s t (there t i) p (radio-of p e ∙ n) (party-in p e m)
+  numbered f x n m l t (WaitedBy q) i e = unmoved
+  numbered f x n m l t Cancelled i e = unmoved
+  numbered f x n m l t Refused i e = unmoved
+  numbered f x n m l t Done i e = unmoved
 
   cancelling : (t : ℕ) (a : Place) → readPlace (h .places) t ≡ a → phase ≡ Cancelling t
       → Goes (Cancelling t) (stepCancelling t a (look h p))
@@ -210,7 +202,7 @@ module _ (h : Hub) (p : ℕ) (named : h .opening .named ≡ true)
   step-goes (Waiting t) e = unmoved
   step-goes Acquiring e = asked Acquiring Suspending refl refl _ e
   step-goes Suspending e = party-still (radio-of p e) unmoved
-  step-goes (Ticketed t) e = numbered t _ (seen e) e
+  step-goes (Ticketed t) e = numbered (Ticketed t) (Waiting t) refl refl refl t _ (seen e) e
   step-goes (Aborting t) e = giving-up t _ e
   step-goes (Cancelling t) e = cancelling t _ (seen e) e
   step-goes (Refusing t) e = refusing t _ (seen e) e
@@ -221,7 +213,7 @@ module _ (h : Hub) (p : ℕ) (named : h .opening .named ≡ true)
   step-goes Storing e = stored bs cs (h .pool) s p (radio-of p e)
   step-goes AcquiringMarked e = asked AcquiringMarked SuspendingMarked refl refl _ e
   step-goes SuspendingMarked e = party-still (radio-of p e) unmoved
-  step-goes (TicketedMarked t) e = numbered-marked t _ (seen e) e
+  step-goes (TicketedMarked t) e = numbered (TicketedMarked t) (Aborting t) refl refl refl t _ (seen e) e
 
   acquire-goes : (a b d : Bool) → isFree phase ≡ a → Goes phase (acquire a b d (look h p))
   unfolding acquire isOneOf moved seenBy

@@ -1,5 +1,4 @@
 -- Every input: what is left out is 12, 13 and refused openings, and the rest is a schedule's.
-use Prim.Native.Nat.{ℕ}
 use mathlib.Core.Path.{_≡_, refl, sym, ap, _∙_}
 use mathlib.Core.Bool.{Bool, true, false, cond, _&&_}
 use mathlib.Core.List.{List, [], _∷_, _++_, map}
@@ -11,8 +10,6 @@ use Rattle.hub.specs.declared.moves.Sight.{Sight}
 use Rattle.hub.specs.declared.opening.Opening.{Opening}
 use Rattle.hub.specs.declared.record.Hub.{Hub}
 use Rattle.hub.specs.declared.record.Outcome.{Outcome}
-use Rattle.hub.specs.declared.record.Phase.{Phase}
-use Rattle.hub.specs.declared.record.Place.{Place}
 use Rattle.hub.specs.Answers.{plain, printed, refusalCode}
 use Rattle.hub.specs.Basics.{allOf}
 use Rattle.hub.specs.Calls.{answerOf, called, checked}
@@ -23,11 +20,11 @@ use Rattle.hub.specs.Opening.{Test, allPassed, fresh, notOpened, opening, openi
 use Rattle.hub.specs.Schedule.{entries, run}
 use Rattle.hub.specs.Table.{stepAcquiring, stepSuspending, stepTicketed, stepReleasing, stepResuming}
 use Rattle.hub.specs.Table.{resumeWaiter, stepResumingAt, stepAborting, stepCancelling, stepRefusing}
-use Rattle.hub.specs.Table.{stepFetching, stepStoring, stepIn, acquire, cancel, release, tellRadio, decide}
+use Rattle.hub.specs.Table.{stepFetching, stepStoring, acquire, cancel, release, tellRadio, decide}
 use Rattle.hub.proofs.Demand3.{demand3}
 use Rattle.hub.proofs.Laws.Bools.{first, if-true, if-false, never, second}
 use Rattle.hub.proofs.Laws.Opening.{Ends, each-passed, ends, opened, refused}
-use Rattle.hub.proofs.Laws.Phases.{places-alike}
+use Rattle.hub.proofs.Laws.Rows.{calls-alike}
 use Rattle.encoding.specs.Form.{asText}
 use Rattle.line.specs.Program.{unopened, isOpen, Reply, replyOf, whenOpen, beforeOpen}
 use Rattle.line.specs.Program.{replies, after, rendered, closing, linesOf, outputOf}
@@ -41,104 +38,12 @@ use Rattle.beforeopen.proofs.Laws.Opening.{shut, stays-shut}
 abbrev isLeftOut : Move → Bool
 isLeftOut m = leftOut (printed (answerOf m) .code)
 
-abbrev Own : Move → Type 0
-Own m = isLeftOut m ≡ false
+own-decided : (o : Op) (full : Bool) (s : Sight) → isLeftOut (decide o full s) ≡ false
+unfolding stepAcquiring stepSuspending stepTicketed stepReleasing stepResuming resumeWaiter stepResumingAt stepAborting
+    stepCancelling stepRefusing stepFetching stepStoring acquire cancel release tellRadio
+own-decided o full s = calls-alike s isLeftOut false (λ t q. refl) (λ x. refl) o full
 
--- The rows of the table.
-module _ (s : Sight) where
-  acquiring : (x : Phase) (b : Bool) → Own (stepAcquiring x b s)
-  unfolding stepAcquiring
-  acquiring x true = refl
-  acquiring x false = refl
-
-  ticketed : (x : Phase) (t : ℕ) → Own (stepTicketed x t (s .seat .place) s)
-  unfolding stepTicketed
-  ticketed x t =
-      places-alike (λ a. isLeftOut (stepTicketed x t a s)) (λ a. false) (λ q. refl) (s .seat .place)
-
-  releasing : (b : Bool) → Own (stepReleasing b s)
-  unfolding stepReleasing
-  releasing true = refl
-  releasing false = refl
-
-  aborting : (t : ℕ) (b : Bool) → Own (stepAborting t b s)
-  unfolding stepAborting
-  aborting t true = refl
-  aborting t false = refl
-
-  resumed : (b : Bool) (q t : ℕ) → Own (resumeWaiter b q t s)
-  unfolding resumeWaiter
-  resumed true q t = refl
-  resumed false q t = refl
-
-  resuming : (t : ℕ) (a : Place) → Own (stepResumingAt t a s)
-  unfolding stepResumingAt
-  resuming t Place.Empty = refl
-  resuming t (Place.Waiting q) = resumed _ q t
-  resuming t Place.Permit = refl
-  resuming t Place.Cancelled = refl
-  resuming t Place.Refused = refl
-  resuming t Place.Done = refl
-
-  fetching : (b : Bool) → Own (stepFetching b s)
-  unfolding stepFetching
-  fetching true = refl
-  fetching false = refl
-
-  own-in : (x : Phase) → Own (stepIn x s)
-  unfolding stepIn stepSuspending stepResuming stepCancelling stepRefusing stepStoring
-  own-in Phase.Free = refl
-  own-in Phase.Holding = refl
-  own-in (Phase.Waiting t) = refl
-  own-in Phase.Acquiring = acquiring _ _
-  own-in Phase.Suspending = refl
-  own-in (Phase.Ticketed t) = ticketed _ t
-  own-in (Phase.Aborting t) = aborting t _
-  own-in (Phase.Cancelling t) =
-      places-alike (λ a. isLeftOut (stepCancelling t a s)) (λ a. false) (λ q. refl) (s .seat .place)
-  own-in (Phase.Refusing t) =
-      places-alike (λ a. isLeftOut (stepRefusing t a s)) (λ a. false) (λ q. refl) (s .seat .place)
-  own-in Phase.Releasing = releasing _
-  own-in Phase.Resuming = refl
-  own-in (Phase.ResumingAt t) = resuming t _
-  own-in Phase.Fetching = fetching _
-  own-in Phase.Storing = refl
-  own-in Phase.AcquiringMarked = acquiring _ _
-  own-in Phase.SuspendingMarked = refl
-  own-in (Phase.TicketedMarked t) = ticketed _ t
-
-own-acquire : (a b full : Bool) (s : Sight) → Own (acquire a b full s)
-unfolding acquire
-own-acquire false b full s = refl
-own-acquire true true full s = refl
-own-acquire true false true s = refl
-own-acquire true false false s = refl
-
-own-cancel : (a k : Bool) (x : Phase) (s : Sight) → Own (cancel a k x s)
-unfolding cancel
-own-cancel false k x s = refl
-own-cancel true true x s = refl
-own-cancel true false x s = refl
-
-own-release : (a : Bool) (s : Sight) → Own (release a s)
-unfolding release
-own-release false s = refl
-own-release true s = refl
-
-own-radio : (a : Bool) (s : Sight) → Own (tellRadio a s)
-unfolding tellRadio
-own-radio true s = refl
-own-radio false s = refl
-
-own-decided : (o : Op) (full : Bool) (s : Sight) → Own (decide o full s)
-unfolding decide
-own-decided Op.Acquire full s = own-acquire _ _ full s
-own-decided Op.Step full s = own-in s (s .slot .phase)
-own-decided Op.Cancel full s = own-cancel _ _ _ s
-own-decided Op.Release full s = own-release _ s
-own-decided Op.Radio full s = own-radio _ s
-
-own-checked : (a b : Bool) (m : Move) → Own m → Own (checked a b m)
+own-checked : (a b : Bool) (m : Move) → isLeftOut m ≡ false → isLeftOut (checked a b m) ≡ false
 unfolding checked
 own-checked false b m e = refl
 own-checked true false m e = refl

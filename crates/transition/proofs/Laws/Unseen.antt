@@ -1,17 +1,17 @@
 -- A party without a ticket acts on no place and looks at none: whatever it is shown there, it does the same.
-use Prim.Native.Nat.{ℕ}
-use mathlib.Core.Path.{_≡_, refl}
-use mathlib.Core.Bool.{Bool, true, false}
+use mathlib.Core.Path.{_≡_, refl, sym, ap, _∙_}
+use mathlib.Core.Bool.{Bool, true, false, cond}
 use Rattle.hub.specs.declared.moves.Op.{Op}
 use Rattle.hub.specs.declared.moves.Sight.{Sight}
 use Rattle.hub.specs.declared.record.PartySlot.{PartySlot}
 use Rattle.hub.specs.declared.record.Phase.{Phase}
 use Rattle.hub.specs.declared.record.PlaceSlot.{PlaceSlot}
 use Rattle.hub.specs.Moves.{Move, Refuse, Tell, Act, Put, Wake}
+use Rattle.hub.specs.Phases.{isWaiting}
 use Rattle.hub.specs.Table.{acquire, cancel, decide, release, stepAborting, stepAcquiring, stepFetching}
 use Rattle.hub.specs.Table.{stepIn, stepReleasing, stepResuming, stepStoring, stepSuspending, tellRadio}
-use Rattle.hub.proofs.Laws.Bools.{never}
-use Rattle.hub.proofs.Laws.Phases.{ticketed}
+use Rattle.hub.proofs.Laws.Phases.{Each, ticketed}
+use Rattle.hub.proofs.Laws.Rows.{otherRows, others-alike, rowIn, rows-alike, step-row, testIn}
 
 -- Does a move change a place?
 abbrev pub touches : Move → Bool
@@ -42,73 +42,36 @@ module _ (a : PlaceSlot) (w : PartySlot) where
   Blind f s = (f (shown s) ≡ f s) × (touches (f s) ≡ false)
 
   module _ (s : Sight) where
-    acquiring : (x : Phase) (b : Bool) → Blind (stepAcquiring x b) s
-    unfolding stepAcquiring
-    acquiring x true = (refl, refl)
-    acquiring x false = (refl, refl)
+    -- What a row does there and whether it touches a place, beside what it does and that it does not.
+    abbrev there : (Sight → Move) → Move × Bool
+    there r = (r (shown s), touches (r s))
 
-    releasing : (b : Bool) → Blind (stepReleasing b) s
-    unfolding stepReleasing
-    releasing true = (refl, refl)
-    releasing false = (refl, refl)
+    abbrev here : (Sight → Move) → Move × Bool
+    here r = (r s, false)
 
-    aborting : (t : ℕ) (b : Bool) → Blind (stepAborting t b) s
-    unfolding stepAborting
-    aborting t true = (refl, refl)
-    aborting t false = (refl, refl)
-
-    fetching : (b : Bool) → Blind (stepFetching b) s
-    unfolding stepFetching
-    fetching true = (refl, refl)
-    fetching false = (refl, refl)
+    blind : {x y : Move} {b : Bool} → _≡_ {A = Move × Bool} (x, b) (y, false) → (x ≡ y) × (b ≡ false)
+    blind e = (ap (λ z. z .0) e, ap (λ z. z .1) e)
 
     stepping : (f : Phase) → ticketed f ≡ false → Blind (stepIn f) s
-    unfolding stepIn stepSuspending stepResuming stepStoring
-    stepping Phase.Free e = (refl, refl)
-    stepping Phase.Holding e = (refl, refl)
-    stepping (Phase.Waiting t) e = (refl, refl)
-    stepping Phase.Acquiring e = acquiring _ _
-    stepping Phase.Suspending e = (refl, refl)
-    stepping (Phase.Ticketed t) e = never e
-    stepping (Phase.Aborting t) e = aborting t _
-    stepping (Phase.Cancelling t) e = never e
-    stepping (Phase.Refusing t) e = never e
-    stepping Phase.Releasing e = releasing _
-    stepping Phase.Resuming e = (refl, refl)
-    stepping (Phase.ResumingAt t) e = never e
-    stepping Phase.Fetching e = fetching _
-    stepping Phase.Storing e = (refl, refl)
-    stepping Phase.AcquiringMarked e = acquiring _ _
-    stepping Phase.SuspendingMarked e = (refl, refl)
-    stepping (Phase.TicketedMarked t) e = never e
+    unfolding stepAcquiring stepSuspending stepReleasing stepResuming stepAborting stepFetching stepStoring
+    stepping f e =
+        let z =
+        rows-alike {A = Move × Bool}
+        (λ f b v c. cond (ticketed f) (here (rowIn f b v c))
+        (rowIn f b (isWaiting (w .phase)) (a .place) (shown s), touches (rowIn f b v c s)))
+        (λ f b v c. here (rowIn f b v c)) (λ t q. refl)
+        f (testIn s f) (isWaiting (s .waiter .phase)) (s .seat .place) in
+        let y = blind (rw e at z) in
+        (step-row (shown s) f ∙ y .0 ∙ sym (step-row s f), ap touches (step-row s f) ∙ y .1)
 
-    asking : (f e full : Bool) → Blind (acquire f e full) s
-    unfolding acquire
-    asking false e full = (refl, refl)
-    asking true true full = (refl, refl)
-    asking true false true = (refl, refl)
-    asking true false false = (refl, refl)
-
-    cancelling : (c k : Bool) (x : Phase) → Blind (cancel c k x) s
-    unfolding cancel
-    cancelling false k x = (refl, refl)
-    cancelling true true x = (refl, refl)
-    cancelling true false x = (refl, refl)
-
-    giving-back : (b : Bool) → Blind (release b) s
-    unfolding release
-    giving-back false = (refl, refl)
-    giving-back true = (refl, refl)
-
-    telling : (b : Bool) → Blind (tellRadio b) s
-    unfolding tellRadio
-    telling true = (refl, refl)
-    telling false = (refl, refl)
+    others : (x : Phase) (b c d : Bool) → Each (λ r. there r ≡ here r) (otherRows x b c d)
+    unfolding acquire cancel release tellRadio
+    others = others-alike there here (λ x. refl)
 
     pub unseen : (o : Op) (full : Bool) → ticketed (s .slot .phase) ≡ false → Blind (decide o full) s
     unfolding decide
-    unseen Op.Acquire full e = asking _ _ full
+    unseen Op.Acquire full e = blind (others Phase.Free _ _ full .0)
     unseen Op.Step full e = stepping (s .slot .phase) e
-    unseen Op.Cancel full e = cancelling _ _ _
-    unseen Op.Release full e = giving-back _
-    unseen Op.Radio full e = telling _
+    unseen Op.Cancel full e = blind (others _ _ _ full .1 .0)
+    unseen Op.Release full e = blind (others Phase.Free _ full full .1 .1 .0)
+    unseen Op.Radio full e = blind (others Phase.Free _ full full .1 .1 .1 .0)
