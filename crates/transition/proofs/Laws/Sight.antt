@@ -5,17 +5,15 @@ use mathlib.Core.Bool.{Bool, true, false, cond}
 use mathlib.Core.List.{List}
 use native.Mathlib.Omega.{arith}
 use borrow.Author.Tests.{ltb-true, ltb-false}
-use lib.Dec.{leb, ltb}
+use lib.Dec.{ltb}
 use lib.ListN.{length, List·getD-eq-default}
 use Rattle.hub.specs.declared.moves.Sight.{Sight}
 use Rattle.hub.specs.declared.record.Hub.{Hub}
 use Rattle.hub.specs.declared.record.PartySlot.{PartySlot}
 use Rattle.hub.specs.declared.record.Place.{Place}
 use Rattle.hub.specs.declared.record.PlaceSlot.{PlaceSlot}
-use Rattle.hub.specs.Kinds.{kindIn}
-use Rattle.hub.specs.Look.{look, seenBy}
+use Rattle.hub.specs.Look.{look, seenBy, sightOn}
 use Rattle.hub.specs.Phases.{byTicket, byWaiter, ticketOf}
-use Rattle.hub.specs.Radios.{handOf}
 use Rattle.hub.specs.Record.{PARTIES, emptySeat, freeSlot, readSlot}
 use Rattle.hub.specs.Ring.{readSeat}
 use Rattle.hub.proofs.Laws.Phases.{by-ticket, ticketed}
@@ -51,18 +49,7 @@ pub record Reads (h : Hub) (p : ℕ) (seat : PlaceSlot) (q : ℕ) (waiter : Part
   pub near : waiter ≡ cond (ltb q PARTIES) (readSlot (h .slots) (q % PARTIES)) freeSlot
 
 abbrev pub sightOf : Hub → ℕ → PlaceSlot → PartySlot → Sight
-sightOf h p seat waiter =
-    record {
-      party = p;
-      kind = kindIn (h .opening .kinds) p;
-      slot = readSlot (h .slots) p;
-      seat = seat;
-      waiter = waiter;
-      figures = h .figures;
-      named = h .opening .named;
-      radio = handOf (h .pool) p;
-      stocked = leb 1 (h .pool .stored);
-    }
+sightOf h p = sightOn (h .figures) (h .opening) (h .pool) p (readSlot (h .slots) p)
 
 -- A party that has a ticket: that is what it looks at.
 pub looked : (h : Hub) (p : ℕ) (seat : PlaceSlot) (q : ℕ) (waiter : PartySlot)
@@ -70,17 +57,8 @@ pub looked : (h : Hub) (p : ℕ) (seat : PlaceSlot) (q : ℕ) (waiter : PartySlo
     → sightOf h p seat waiter ≡ look h p
 unfolding seenBy
 looked h p seat q waiter r has = λ i.
-    record {
-      party = p;
-      kind = kindIn (h .opening .kinds) p;
-      slot = readSlot (h .slots) p;
-      seat = place i;
-      waiter = (stood ∙ ap (λ (a : PlaceSlot). byWaiter freeSlot (readSlot (h .slots)) (a .place)) place) i;
-      figures = h .figures;
-      named = h .opening .named;
-      radio = handOf (h .pool) p;
-      stocked = leb 1 (h .pool .stored);
-    }
+    sightOf h p (place i)
+    ((stood ∙ ap (λ (a : PlaceSlot). byWaiter freeSlot (readSlot (h .slots)) (a .place)) place) i)
   where
     place : seat ≡ byTicket emptySeat (readSeat (h .places)) (readSlot (h .slots) p .phase)
     place =

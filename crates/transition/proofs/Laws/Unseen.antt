@@ -6,6 +6,7 @@ use Rattle.hub.specs.declared.moves.Sight.{Sight}
 use Rattle.hub.specs.declared.record.PartySlot.{PartySlot}
 use Rattle.hub.specs.declared.record.Phase.{Phase}
 use Rattle.hub.specs.declared.record.PlaceSlot.{PlaceSlot}
+use Rattle.hub.specs.Look.{withView}
 use Rattle.hub.specs.Moves.{Move, Refuse, Tell, Act, Put, Wake}
 use Rattle.hub.specs.Phases.{isWaiting}
 use Rattle.hub.specs.Table.{acquire, cancel, decide, release, stepAborting, stepAcquiring, stepFetching}
@@ -24,18 +25,7 @@ touches (Wake q x a c) = true
 -- The sight with another place and another waiter.
 module _ (a : PlaceSlot) (w : PartySlot) where
   abbrev pub shown : Sight → Sight
-  shown s =
-      record {
-        party = s .party;
-        kind = s .kind;
-        slot = s .slot;
-        seat = a;
-        waiter = w;
-        figures = s .figures;
-        named = s .named;
-        radio = s .radio;
-        stocked = s .stocked;
-      }
+  shown s = withView a w s
 
   -- A row that does not look there.
   abbrev Blind : (Sight → Move) → Sight → Type 0
