@@ -16,9 +16,9 @@ use Rattle.encoding.specs.Frame.{opOf}
 use Rattle.operations.specs.declared.Told.{Told}
 use Rattle.operations.specs.Operation.{operated}
 use Rattle.run.specs.Bytes.{callsOf, wellFormed}
-use Rattle.perform.specs.Bytes.{answerBytes, answersTo, isOperationCode}
+use Rattle.run.specs.Run.{Ended, endIf}
+use Rattle.perform.specs.Bytes.{answerBytes, answersTo, answersWritten, isOperationCode}
 use Rattle.perform.proofs.Laws.Codes.{among-three}
-use Rattle.operate.specs.Ending.{Ended, operatedIf}
 use Rattle.screen.specs.Moves.{callOf}
 use Rattle.screen.specs.Reached.{DeskRequest}
 use Rattle.shown.specs.Shows.{ScreenShows, callFor, hubTold}
@@ -45,10 +45,11 @@ answers-told h (r ∷ rs) =
     (answers-told (operated h (callFor r) .hub) rs)
 
 pub writes-shown : WritesShown
-unfolding WritesShown ScreenShows operatedIf
+unfolding WritesShown ScreenShows endIf
 writes-shown o e operations out w m n =
     (λ i.
-    operatedIf (eqb (printed (e i) .code) 0x1F) (w i) (m i) (opening o) operations out)
+    endIf (eqb (printed (e i) .code) 0x1F) (w i) (m i) (printed (opening o .answer) .code) out
+    (answersWritten (opening o .hub) operations out))
     ∙ ap (λ (l : List ℕ). record { result = 0; out = l ++ drop (3 * (length operations / 2)) out })
     (ap (answersTo (opening o .hub)) (calls-for operations w)
     ∙ answers-told (opening o .hub) (requestsOf operations)

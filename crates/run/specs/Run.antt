@@ -26,6 +26,7 @@ ranCode Ran.Done = 0
 unfoldable pub OwnNumbers : Type 0
 OwnNumbers = (r q : Ran) → ranCode r ≡ ranCode q → r ≡ q
 
+-- What a run gives, and what it leaves in the buffer.
 pub record Ended : Type 0 where
   pub result : ℕ
   pub out : List ℕ
@@ -34,26 +35,34 @@ pub record Ended : Type 0 where
 abbrev pub unmade : ℕ → List ℕ → Ended
 unmade c out = record { result = c; out = out }
 
+-- What the opening is refused by, malformed requests, no room, in that order; a run that is done leaves these bytes.
+unfoldable pub endIf : Bool → Bool → Bool → ℕ → List ℕ → List ℕ → Ended
+endIf false w m c out done = unmade c out
+endIf true false m c out done = unmade 254 out
+endIf true true false c out done = unmade 255 out
+endIf true true true c out done = record { result = 0; out = done }
+
+-- Requests whose codes pass a test, answered in so many bytes each and written so, from what an opening is answered: 1F
+-- if it is made.
+abbrev pub endFrom : (ℕ → Bool) → ℕ → (Hub → List ℕ → List ℕ → List ℕ) → Outcome → List ℕ → List ℕ → Ended
+endFrom passes width writes o requests out =
+    let c = printed (o .answer) .code in
+    endIf (eqb c 0x1F) (wellFormed passes requests) (leb (length requests / 2) (length out / width)) c out
+    (writes (o .hub) requests out)
+
+-- The opening as a frame; one that is malformed, or a call, opens nothing.
+abbrev pub endFramed : (Outcome → List ℕ → List ℕ → Ended) → Request → List ℕ → List ℕ → Ended
+endFramed run malformed requests out = unmade 12 out
+endFramed run (toCall c) requests out = unmade 12 out
+endFramed run (toOpen o) requests out = run (opening o) requests out
+
 -- The answers, from a record on, in front of what the buffer holds past them.
 abbrev pub written : Hub → List ℕ → List ℕ → List ℕ
 written h calls out = framesOf h (callsOf calls) ++ drop (7 * (length calls / 2)) out
 
--- The opening's refusal, malformed calls, no room, in that order; a run that is done writes seven bytes for
--- each call and leaves the rest alone.
-unfoldable pub runIf : Bool → Bool → Bool → Outcome → List ℕ → List ℕ → Ended
-runIf false w m o calls out = unmade (printed (o .answer) .code) out
-runIf true false m o calls out = unmade 254 out
-runIf true true false o calls out = unmade 255 out
-runIf true true true o calls out = record { result = 0; out = written (o .hub) calls out }
-
--- From what an opening is answered, 1F if it is made.
+-- A run of calls: seven bytes for each.
 abbrev pub runFrom : Outcome → List ℕ → List ℕ → Ended
-runFrom o calls out =
-    runIf (eqb (printed (o .answer) .code) 0x1F) (wellFormed isCall calls)
-    (leb (length calls / 2) (length out / 7)) o calls out
+runFrom = endFrom isCall 7 written
 
--- The opening as a frame; one that is malformed, or a call, opens nothing.
 abbrev pub framedRun : Request → List ℕ → List ℕ → Ended
-framedRun malformed calls out = unmade 12 out
-framedRun (toCall c) calls out = unmade 12 out
-framedRun (toOpen o) calls out = runFrom (opening o) calls out
+framedRun = endFramed runFrom

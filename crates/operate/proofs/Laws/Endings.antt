@@ -20,8 +20,9 @@ use Rattle.hub.proofs.Laws.Printed.{few-refusals}
 use Rattle.line.specs.Requests.{Request, malformed, toOpen, toCall, isOpening}
 use Rattle.batch.proofs.Laws.Reachable.{opening-reachable}
 use Rattle.run.specs.Bytes.{wellFormed}
+use Rattle.run.specs.Run.{Ended, endIf}
 use Rattle.perform.specs.Bytes.{answersWritten, isOperationCode}
-use Rattle.operate.specs.Ending.{Ended, operatedFramed, operatedFrom, operatedIf}
+use Rattle.operate.specs.Ending.{operatedFramed, operatedFrom}
 use Rattle.perform.specs.Rested.{Rested}
 
 -- A run gave r and left l in the buffer.
@@ -33,23 +34,23 @@ codeOf o = printed (o .answer) .code
 
 module _ (o : Outcome) (operations out : List ℕ) where
   pub not-opened : (codeOf o ≡ 0x1F → ⊥) → Ends (operatedFrom o operations out) (codeOf o) out
-  unfolding operatedIf
+  unfolding endIf
   not-opened n = rw (ne-eqb (codeOf o) 0x1F n) (refl, refl)
 
   module _ (e : codeOf o ≡ 0x1F) where
     pub ill-formed : wellFormed isOperationCode operations ≡ false → Ends (operatedFrom o operations out) 254 out
-    unfolding operatedIf
+    unfolding endIf
     ill-formed w = rw (eq-eqb (codeOf o) 0x1F e, w) (refl, refl)
 
     pub no-room : wellFormed isOperationCode operations ≡ true → length out / 3 < length operations / 2
         → Ends (operatedFrom o operations out) 255 out
-    unfolding operatedIf
+    unfolding endIf
     no-room w k = rw (eq-eqb (codeOf o) 0x1F e, w, lt-leb _ _ k) (refl, refl)
 
     pub done : (l : List ℕ) → wellFormed isOperationCode operations ≡ true
         → length operations / 2 ≤ length out / 3 → l ≡ answersWritten (o .hub) operations out
         → Ends (operatedFrom o operations out) 0 l
-    unfolding operatedIf
+    unfolding endIf
     done l w k f = rw (eq-eqb (codeOf o) 0x1F e, w, le-leb _ _ k) (refl, f)
 
 -- What is no opening makes no run; what is one makes the run of its outcome.

@@ -20,7 +20,7 @@ use Rattle.line.specs.Requests.{Request, toOpen, toCall, isOpening}
 use Rattle.batch.specs.Batch.{replied, Reachable}
 use Rattle.batch.proofs.Laws.Reachable.{reachable-open, opening-reachable}
 use Rattle.run.specs.Bytes.{wellFormed}
-use Rattle.run.specs.Run.{Ended, ranCode, written, runIf, runFrom, framedRun}
+use Rattle.run.specs.Run.{Ended, endIf, framedRun, ranCode, runFrom, written}
 use Rattle.run.specs.declared.Ran.{Ran}
 use Rattle.run.proofs.Laws.Answers.{all-answered}
 
@@ -33,7 +33,7 @@ module _ (k : Opening) (calls out : List ℕ) (o : Outcome) (e : o ≡ opening k
   Ending = Ends (runFrom (opening k) calls out)
 
   pub refused : (r : Refusal) → o .answer ≡ Answer.Refused r → Ending (Ran.NotOpened r) out
-  unfolding runIf
+  unfolding endIf
   refused r f =
       let g : printed (opening k .answer) .code ≡ refusalCode r =
       ap (λ (x : Outcome). printed (x .answer) .code) (sym e) ∙ ap (λ (y : Answer). printed y .code) f in
@@ -49,11 +49,11 @@ module _ (k : Opening) (calls out : List ℕ) (o : Outcome) (e : o ≡ opening k
     made = ap (λ (y : Answer). printed y .code) accepted
 
     pub malformed : wellFormed isCall calls ≡ false → Ending Ran.Malformed out
-    unfolding runIf
+    unfolding endIf
     malformed w = rw (eq-eqb (printed (opening k .answer) .code) 0x1F made, w) (refl, refl)
 
     pub no-room : wellFormed isCall calls ≡ true → length out / 7 < length calls / 2 → Ending Ran.NoRoom out
-    unfolding runIf
+    unfolding endIf
     no-room w l = rw (eq-eqb (printed (opening k .answer) .code) 0x1F made, w, lt-leb _ _ l) (refl, refl)
 
     -- The record needs no check.
@@ -62,7 +62,7 @@ module _ (k : Opening) (calls out : List ℕ) (o : Outcome) (e : o ≡ opening k
 
     pub done : (l : List ℕ) → wellFormed isCall calls ≡ true → length calls / 2 ≤ length out / 7
         → l ≡ replied asBytes (o .hub) (length calls / 2) calls out → Ending Ran.Done l
-    unfolding runIf
+    unfolding endIf
     done l w m f =
         rw (eq-eqb (printed (opening k .answer) .code) 0x1F made, w, le-leb _ _ m) (
           refl,
