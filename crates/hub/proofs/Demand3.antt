@@ -1,12 +1,12 @@
 -- The third demand, that every record reached fits, and that the hub refines the queue.
-use Prim.Native.Nat.{ℕ, zero, suc, _+_, _-_, _%_, _≤_, _<_}
+use Prim.Native.Nat.{ℕ, _+_, _-_, _%_, _≤_, _<_}
 use mathlib.Core.Path.{_≡_, refl, sym, ap, ap₂, subst, _∙_}
 use mathlib.Core.Bool.{Bool, true, false, cond}
 use mathlib.Core.List.{List, [], _∷_}
 use native.Mathlib.Omega.{arith}
 use borrow.Author.Tests.{leb-true, eqb-true, lt-ltb}
 use lib.Dec.{leb}
-use lib.ListN.{length, getD, replicate}
+use lib.ListN.{length}
 use Rattle.hub.specs.declared.answers.Answer.{Answer}
 use Rattle.hub.specs.declared.moves.Call.{Call}
 use Rattle.hub.specs.declared.opening.Opening.{Opening}
@@ -38,7 +38,7 @@ use Rattle.hub.proofs.Laws.Lists.{weight-add, weight-map, weight-replic
 use Rattle.hub.proofs.Laws.Phases.{every-phase}
 use Rattle.hub.proofs.Laws.Ranges.{sumFrom, sum-zero, sum-same, sum-split, sum-rotate}
 use Rattle.hub.proofs.Laws.Ranges.{sum-list}
-use Rattle.hub.proofs.Laws.Seats.{next-round}
+use Rattle.hub.proofs.Laws.Seats.{fresh-seat, next-round, read-index}
 use Rattle.hub.proofs.Invariant.Weights.{up, down, pick, count-pick, holding, resuming, refusing}
 use Rattle.hub.proofs.Invariant.Weights.{drawing, suspending, live, permitCell, refusedCell, sum, cellSum}
 use Rattle.hub.proofs.Invariant.Weights.{total, TICKETS}
@@ -81,7 +81,7 @@ in-range o e =
 -- A fresh record shows a fresh queue.
 fresh-tracks : (o : Opening) → 1 ≤ o .parties → o .parties ≤ PARTIES
     → Tracks (o .permits) (fresh o) (queue.fresh o)
-unfolding fresh queue.fresh readSeat pick isOneOf
+unfolding fresh queue.fresh pick isOneOf
 fresh-tracks o a b =
     record {
       permits = refl;
@@ -97,16 +97,11 @@ fresh-tracks o a b =
             window =
                 record {
                   before = λ t i. (let z : ⊥ = omega arith in absurd z);
-                  within = λ t i j. sym (bare PLACES (t % PLACES));
+                  within = λ t i j. sym (fresh-seat t);
                   beyond = λ t i. refl;
                 };
           };
     }
-  where
-    bare : (n i : ℕ) → getD (replicate n emptySeat) i emptySeat ≡ emptySeat
-    bare zero i = refl
-    bare (suc n) zero = refl
-    bare (suc n) (suc i) = bare n i
 
 -- A 7 moves nobody.
 seven-same : (e : Ledger) (c : Call) (r : Answer) → isSeven r ≡ true → entered e c r ≡ e
@@ -161,7 +156,6 @@ module _ (k : ℕ) (k₁ : 1 ≤ k) (k₂ : k ≤ 32) where
 ring-sum : (o : ℕ) (l : List PlaceSlot) (g : ℕ → PlaceSlot) → Window o l g → length l ≡ PLACES
     → o + PLACES ≤ TICKETS → (w : Place → ℕ) → w Place.Empty ≡ 0 → w Place.Done ≡ 0
     → total w (λ t. g t .place) ≡ weight w (placesOf l)
-unfolding readSeat
 ring-sum o l g v s b w x y =
     omega (
       arith,
@@ -173,7 +167,7 @@ ring-sum o l g v s b w x y =
       sum-rotate z PLACES (λ t. ap at (next-round l t)) (0 + o),
       subst (λ (n : ℕ). sumFrom z 0 n ≡ weight at l) s
           (sum-list at emptySeat l 0 z
-          (λ j i. ap (λ (n : ℕ). at (getD l n emptySeat)) (small j (subst (λ (n : ℕ). j < n) s i)))),
+          (λ j i. ap at (sym (read-index l (0 + j) j (small j (subst (λ (n : ℕ). j < n) s i)))))),
       weight-map w (λ (q : PlaceSlot). q .place) l,
     )
   where
@@ -189,7 +183,7 @@ ring-sum o l g v s b w x y =
     rest : ℕ
     rest = TICKETS - (o + PLACES)
 
-    small : (j : ℕ) → j < PLACES → (0 + j) % PLACES ≡ j
+    small : (j : ℕ) → j < PLACES → j ≡ (0 + j) % PLACES
     small j i = omega arith
 
 pub ring-count : (k : ℕ) (h : Hub) (m : Queue) → Tracks k h m → (w : Place → ℕ)

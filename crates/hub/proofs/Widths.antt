@@ -6,7 +6,7 @@ use mathlib.Core.Path.{_≡_, refl, sym, ap, ap₂, subst, _∙_}
 use native.Mathlib.Omega.{arith}
 use borrow.Author.Tests.{leb-true, le-leb, ltb-true}
 use lib.Dec.{leb, ltb}
-use lib.ListN.{getD, set}
+use lib.ListN.{getD}
 use Rattle.hub.specs.declared.moves.Call.{Call}
 use Rattle.hub.specs.declared.moves.Op.{Op}
 use Rattle.hub.specs.declared.moves.Sight.{Sight}
@@ -31,6 +31,7 @@ use Rattle.hub.specs.Widths.{BYTE, NoLarger, SameCalls, UpTo, WORD, call
 use Rattle.hub.proofs.Laws.Bools.{clause, first, second}
 use Rattle.hub.proofs.Laws.Phases.{by-ticket, every-place, ticketed}
 use Rattle.hub.proofs.Laws.Rows.{calls-alike}
+use Rattle.hub.proofs.Laws.Seats.{written-each}
 
 -- A place with a party up to 255; all places of a list.
 abbrev isSmall : Place → Bool
@@ -63,18 +64,9 @@ module _ (n : ℕ) (room : (q : ℕ) → q ≤ 255 → q % n ≡ q) where
       ap (λ (l : List PlaceSlot). withPlaces l h) (same-places (h .places) s)
 
 -- Storing a small place.
-set-small : (l : List PlaceSlot) (k : ℕ) (a : PlaceSlot) → AllSmall l → Small (a .place)
-    → AllSmall (set l k a)
-set-small [] k a s m i = s i
-set-small (x ∷ l) zero a s m zero = m
-set-small (x ∷ l) zero a s m (suc i) = s (suc i)
-set-small (x ∷ l) (suc k) a s m zero = s zero
-set-small (x ∷ l) (suc k) a s m (suc i) = set-small l k a (λ j. s (suc j)) m i
-
 seat-small : (l : List PlaceSlot) (t : ℕ) (a : PlaceSlot) → AllSmall l → Small (a .place)
     → AllSmall (writeSeat l t a)
-unfolding writeSeat
-seat-small l t a s m = set-small l (t % PLACES) a s m
+seat-small l t = written-each l t (λ s. Small (s .place))
 
 -- The tidying writes done and empty.
 either : (b : Bool) (r s : Ring) → AllSmall (r .places) → AllSmall (s .places)

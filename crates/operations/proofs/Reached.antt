@@ -7,7 +7,7 @@ use mathlib.Core.Logic.{_⊎_, inl, inr}
 use native.Mathlib.Decide.{decLe}
 use native.Mathlib.Omega.{arith}
 use lib.IntN.{ℤ, pos, negsuc}
-use lib.ListN.{getD, length, length-map, List·getD-map}
+use lib.ListN.{getD, length, length-map}
 use Rattle.hub.specs.declared.moves.Call.{Call}
 use Rattle.hub.specs.declared.moves.Sight.{Sight}
 use Rattle.hub.specs.declared.opening.Opening.{Opening}
@@ -29,10 +29,10 @@ use Rattle.hub.specs.Fits.{fits}
 use Rattle.hub.specs.Ledger.{phaseIn}
 use Rattle.hub.specs.Moves.{Move, Refuse, Tell, Act, Put, Wake}
 use Rattle.hub.specs.Opening.{fresh, opening}
-use Rattle.hub.specs.Phases.{atRest, hasRadio, isDone, isHolding, isOneOf, isPlaceOf, isWaiting, ticketOf}
+use Rattle.hub.specs.Phases.{atRest, hasRadio, isCancelled, isDone, isHolding, isOneOf, isPlaceOf, isWaiting, ticketOf}
 use Rattle.hub.specs.Queue.{Queue, phases, places}
-use Rattle.hub.specs.Record.{emptySeat, phasesOf, placesOf, readSlot}
-use Rattle.hub.specs.Ring.{PLACES, readPlace, readSeat, writeSeat}
+use Rattle.hub.specs.Record.{phasesOf, placesOf, readSlot}
+use Rattle.hub.specs.Ring.{PLACES, readPlace, writeSeat}
 use Rattle.hub.specs.Schedule.{run}
 use Rattle.hub.proofs.Demand3.{every-record-fits, ring-count, schedule, start}
 use Rattle.hub.proofs.Invariant.Held.{held-most}
@@ -45,7 +45,7 @@ use Rattle.hub.proofs.Invariant.Weights.{same-eq, same-self, served, spent, sta
 use Rattle.hub.proofs.Invariant.Weights.{TICKETS, cellSum, sum, suspending, up}
 use Rattle.hub.proofs.Laws.Lists.{weight-le, weight-one, weight-scale}
 use Rattle.hub.proofs.Laws.Phases.{by-ticket, one-or, ticketed, waiterOf}
-use Rattle.hub.proofs.Laws.Seats.{written-size}
+use Rattle.hub.proofs.Laws.Seats.{fresh-seat, read-mapped, written-size}
 use Rattle.hub.proofs.Window.Tracked.{has-place, high, low}
 use Rattle.hub.proofs.Window.Shown.{Reached, tracked, read-same}
 use Rattle.operations.specs.AtRest.{OnRest}
@@ -76,8 +76,13 @@ run-tidy h [] e = e
 run-tidy h (c ∷ cs) e = run-tidy (called h c .hub) cs (applied-tidy h _ e _)
 
 fresh-tidy : (o : Opening) → Tidy (ringOf (fresh o))
-unfolding fresh readSeat isPlaceOf
-fresh-tidy o = record { size = refl; unskipped = refl; unretired = refl }
+unfolding fresh isPlaceOf
+fresh-tidy o =
+    record {
+      size = refl;
+      unskipped = ap (λ (s : PlaceSlot). isCancelled (s .place)) (fresh-seat 0);
+      unretired = ap (λ (s : PlaceSlot). isDone (s .place)) (fresh-seat 0);
+    }
 
 -- Calls after calls.
 pub run-more : (h : Hub) (cs ds : List Call) → run (run h cs) ds ≡ run h (cs ++ ds)
@@ -257,13 +262,12 @@ module _ (k : ℕ) (h : Hub) (m : Queue) (r : Reached k h m) (tidy : Tidy (ringO
   -- So no place holds or refuses one.
   no-place : (w : Place → ℕ) → w Empty ≡ 0 → w Done ≡ 0 → cellSum w m ≡ 0 → (t : ℕ)
       → h .oldest ≤ t → t < h .oldest + PLACES → w (places m t) ≡ 0
-  unfolding readSeat
   no-place w x y z t a b =
       omega (
         arith,
         ring-count k h m (r .tracks) w x y,
         weight-one w Empty x (placesOf (h .places)) (t % PLACES),
-        ap w (List·getD-map (λ (s : PlaceSlot). s .place) (h .places) (t % PLACES) emptySeat),
+        ap w (read-mapped (h .places) t (λ (s : PlaceSlot). s .place)),
         ap (λ (s : PlaceSlot). w (s .place)) (r .tracks .shows .window .within t a b),
       )
 

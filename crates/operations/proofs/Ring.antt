@@ -3,14 +3,12 @@
 use Prim.Native.Nat.{ℕ, zero, suc, _+_, _%_, _≤_, _<_}
 use mathlib.Core.Path.{_≡_, refl, sym, ap, _∙_}
 use mathlib.Core.Bool.{Bool, true, false, cond, _&&_}
-use mathlib.Core.List.{List}
 use mathlib.Core.Logic.{_≢_}
 use native.Mathlib.Decide.{ℕ-discrete}
 use native.Mathlib.Omega.{arith}
 use borrow.Author.Tests.{le-ltb, ltb-false, ltb-true}
 use lib.Dec.{ltb}
 use lib.ListN.{length}
-use lib.Seq.{getD-set-other, set-comm}
 use Rattle.hub.specs.declared.record.Place.{Place}
 use Rattle.hub.specs.declared.record.PlaceSlot.{PlaceSlot}
 use Rattle.hub.specs.Phases.{isCancelled, isDone, isPlaceOf}
@@ -19,7 +17,7 @@ use Rattle.hub.specs.Ring.{LoopsEnd, PLACES, Ring, canRetire, canSkip, readPlac
 use Rattle.hub.specs.Ring.{retire, retired, skip, skipped, writeSeat}
 use Rattle.hub.proofs.Laws.Bools.{first}
 use Rattle.hub.proofs.Laws.Ring.{loops-end, retire-no, skip-no, skip-yes}
-use Rattle.hub.proofs.Laws.Seats.{written-other, written-same, written-size}
+use Rattle.hub.proofs.Laws.Seats.{written-at, written-both, written-elsewhere, written-other, written-size}
 
 -- Nothing to do.
 pub record Tidy (r : Ring) : Type 0 where
@@ -30,25 +28,6 @@ pub record Tidy (r : Ring) : Type 0 where
 pub tidy-same : (r : Ring) → Tidy r → reclaimed r ≡ r
 tidy-same r e =
     ap (retire PLACES) (skip-no 255 r (e .unskipped)) ∙ retire-no 255 r (e .unretired)
-
--- A place read after one was written: by their remainders it is that one, or it is not.
-module _ (l : List PlaceSlot) (size : length l ≡ PLACES) (t u : ℕ) (a : PlaceSlot) where
-  pub read-same : u % PLACES ≡ t % PLACES → readSeat (writeSeat l t a) u ≡ a
-  unfolding readSeat writeSeat
-  read-same e = rw e (written-same l size t a)
-
-  pub read-other : u % PLACES ≢ t % PLACES → readSeat (writeSeat l t a) u ≡ readSeat l u
-  unfolding readSeat writeSeat
-  read-other = getD-set-other l (t % PLACES) (u % PLACES) a emptySeat
-
-  -- What both are not, it is not.
-  pub read-not : (f : Place → Bool) → f (a .place) ≡ false → f (readPlace l u) ≡ false
-      → f (readPlace (writeSeat l t a) u) ≡ false
-  read-not f i j = go (ℕ-discrete (u % PLACES) (t % PLACES))
-    where
-      go : Dec (u % PLACES ≡ t % PLACES) → f (readPlace (writeSeat l t a) u) ≡ false
-      go (yes z) = ap (λ (x : PlaceSlot). f (x .place)) (read-same z) ∙ i
-      go (no z) = ap (λ (x : PlaceSlot). f (x .place)) (read-other z) ∙ j
 
 -- The loops leave 256 places.
 pub skip-size : (n : ℕ) (r : Ring) → length (r .places) ≡ PLACES → length (skip n r .places) ≡ PLACES
@@ -101,11 +80,11 @@ module _ (r : Ring) (size : length (r .places) ≡ PLACES) (e : canSkip r ≡ fa
       go : Dec (r .resumed % PLACES ≡ r .oldest % PLACES) → canSkip (retired r) ≡ false
       go (yes z) =
           ap (λ (x : PlaceSlot). after && isCancelled (x .place))
-          (read-same (r .places) size (r .oldest) (r .resumed) emptySeat z)
+          (written-at (r .places) size (r .oldest) (r .resumed) emptySeat z)
           ∙ none after
       go (no z) =
           ap (λ (x : PlaceSlot). after && isCancelled (x .place))
-          (read-other (r .places) size (r .oldest) (r .resumed) emptySeat z)
+          (written-elsewhere (r .places) size (r .oldest) (r .resumed) emptySeat z)
           ∙ same _ _ refl refl e z
 
 retire-unskipped : (n : ℕ) (r : Ring) → length (r .places) ≡ PLACES → canSkip r ≡ false
@@ -169,12 +148,11 @@ module _ (t : ℕ) (r : Ring) (d : Drawn t r) where
     apart o t u i j k = omega arith
 
     skipped-alike : skipped (doneAt t r) ≡ doneAt t (skipped r)
-    unfolding writeSeat
     skipped-alike = λ i.
         record {
           resumed = r .resumed + 1;
           oldest = r .oldest;
-          places = set-comm (r .places) (t % PLACES) (r .resumed % PLACES)
+          places = written-both (r .places) t (r .resumed)
               (withPlace Place.Done (readSeat (r .places) t))
               (withPlace Place.Done (readSeat (r .places) (r .resumed)))
               (apart (r .oldest) t (r .resumed) (d .above) (d .below) within) i;

@@ -34,7 +34,7 @@ use Rattle.hub.specs.Table.{aboveZero, belowZero, stepAborting, stepAcquiring, 
 use Rattle.hub.specs.Table.{resumeWaiter, stepIn, stepReleasing, stepResuming, stepResumingAt, stepStoring}
 use Rattle.hub.specs.Table.{stepSuspending, stepTicketed, withBegun, withCounter, withIssued, withPermit}
 use Rattle.hub.specs.Table.{withResumed, withoutPermit}
-use Rattle.hub.proofs.Laws.Seats.{written-size}
+use Rattle.hub.proofs.Laws.Seats.{written-not, written-size}
 use Rattle.operations.specs.declared.Operated.{Operated}
 use Rattle.operations.specs.AtRest.{acquired, came, cancelled, oneStep, phaseTo, placeTo}
 use Rattle.operations.specs.AtRest.{radiosBy, released}
@@ -43,7 +43,7 @@ use Rattle.operations.proofs.Calls.{Fit, acts, begins, called-by, fits-
 use Rattle.operations.proofs.Calls.{other-slot, phase-now, rests-now, seat-now, slot-in, slot-now, step-by, still, tidied-now}
 use Rattle.operations.proofs.Calls.{tidied-same, to, written-around, written-length, written-rests}
 use Rattle.operations.proofs.Rest.{AtRest, above-zero}
-use Rattle.operations.proofs.Ring.{Drawn, Tidy, done-between, drawn-stays, read-not}
+use Rattle.operations.proofs.Ring.{Drawn, Tidy, done-between, drawn-stays}
 use Rattle.operations.proofs.Waits.{not-cancelled, waiter-inside, waiting-below}
 use Rattle.operations.proofs.Walk.{operated-by, stop, walk, wokenBy}
 
@@ -240,10 +240,10 @@ module _ (h : Hub) (a : AtRest h) (p : ℕ) (present : ltb p (h .opening .partie
             size = written-size (h .places) (a .places) ticket _;
             unskipped =
                 and-false (ltb (figures .resumed) (h .oldest + PLACES)) _
-                (read-not (h .places) (a .places) ticket (figures .resumed) (withPlace (Place.Waiting p) (readSeat (h .places) ticket))
+                (written-not (h .places) (a .places) ticket (figures .resumed) (withPlace (Place.Waiting p) (readSeat (h .places) ticket))
                 isCancelled refl (not-cancelled h a));
             unretired =
-                read-not (h .places) (a .places) ticket (h .oldest) (withPlace (Place.Waiting p) (readSeat (h .places) ticket))
+                written-not (h .places) (a .places) ticket (h .oldest) (withPlace (Place.Waiting p) (readSeat (h .places) ticket))
                 isDone refl (a .unretired);
           }
         where

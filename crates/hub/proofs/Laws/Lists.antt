@@ -13,6 +13,15 @@ map-set f [] i x = refl
 map-set f (y ∷ l) zero x = refl
 map-set {B = B} f (y ∷ l) (suc i) x = ap (λ (r : List B). f y ∷ r) (map-set f l i x)
 
+-- What holds of every element holds of them with one replaced.
+pub set-each : {A : Type 0} (P : A → Type 0) (d : A) (l : List A) (k : ℕ) (x : A) → ((i : ℕ) → P (getD l i d)) → P x
+    → (i : ℕ) → P (getD (set l k x) i d)
+set-each P d [] k x s m i = s i
+set-each P d (y ∷ l) zero x s m zero = m
+set-each P d (y ∷ l) zero x s m (suc i) = s (suc i)
+set-each P d (y ∷ l) (suc k) x s m zero = s zero
+set-each P d (y ∷ l) (suc k) x s m (suc i) = set-each P d l k x (λ j. s (suc j)) m i
+
 module _ {A : Type 0} (f : A → ℕ) where
   -- The law by which every count is kept: one element replaced.
   pub weight-set : (l : List A) (i : ℕ) (x d : A) → i < length l

@@ -3,11 +3,10 @@
 use Prim.Native.Nat.{ℕ, zero, suc, _+_, _%_, _≤_}
 use mathlib.Core.Path.{_≡_, refl, sym, ap, subst, _∙_}
 use mathlib.Core.Bool.{Bool, true, false, cond}
-use mathlib.Core.List.{List, [], _∷_, _++_, map}
+use mathlib.Core.List.{List, [], _∷_, map}
 use native.Mathlib.Omega.{arith}
 use lib.Dec.{eqb, ltb}
 use lib.ListN.{length, set, replicate, length-map, length-replicate}
-use lib.Seq.{map-set-same}
 use Rattle.hub.specs.Moves.{Move, Refuse, Tell, Act, Put, Wake}
 use Rattle.hub.specs.declared.moves.Call.{Call}
 use Rattle.hub.specs.declared.opening.Opening.{Opening}
@@ -24,7 +23,7 @@ use Rattle.hub.specs.Opening.{fresh}
 use Rattle.hub.specs.Phases.{byTicket, hasRadio, isOneOf, isPermit, isPlaceOf}
 use Rattle.hub.specs.Radios.{STORE, moved, occurs, poolAfter, radiosIn, radiosOf, shown, storedIn, padded}
 use Rattle.hub.specs.Record.{PARTIES, emptySeat, freeSlot, phasesOf, placesOf, writeSlot}
-use Rattle.hub.specs.Ring.{PLACES, Ring, canRetire, canSkip, readPlace, readSeat, retire, retired}
+use Rattle.hub.specs.Ring.{PLACES, Ring, canRetire, canSkip, readPlace, retire, retired}
 use Rattle.hub.specs.Ring.{skip, skipped, writeSeat}
 use Rattle.hub.proofs.Laws.Bools.{if-false, second}
 use Rattle.hub.proofs.Laws.Lists.{map-set}
@@ -34,6 +33,7 @@ use Rattle.hub.proofs.Laws.Radios.{padded-length}
 use Rattle.hub.proofs.Radios.Store.{ring-take}
 use Rattle.hub.proofs.Radios.Ways.{Same, Sized, carriers, count-ring, one, permitsAt, radios-count}
 use Rattle.hub.proofs.Radios.Ways.{radios-weigh, unmoved}
+use Rattle.hub.proofs.Laws.Seats.{mapped-same, write-mapped}
 use Rattle.hub.proofs.Radios.Rows.{Goes, decide-goes}
 
 pub record Kept (h : Hub) : Type 0 where
@@ -90,10 +90,8 @@ kept-by h h′ k e w =
 -- The tidying writes done over cancelled, and empty over done: no permit either way.
 written-over : (l : List PlaceSlot) (t : ℕ) (a : PlaceSlot) {b : Place} → readPlace l t ≡ b
     → isPermit (a .place) ≡ isPermit b → permitsAt (writeSeat l t a) ≡ permitsAt l
-unfolding readSeat writeSeat
 written-over l t a e i =
-    map-set-same (λ (x : PlaceSlot). isPermit (x .place)) l (t % PLACES) a emptySeat
-    (i ∙ ap isPermit (sym e))
+    mapped-same l t (λ (x : PlaceSlot). isPermit (x .place)) a (i ∙ ap isPermit (sym e))
 
 either : (b : Bool) (x y : Ring) (cs : List Bool) → (b ≡ true → permitsAt (x .places) ≡ cs)
     → permitsAt (y .places) ≡ cs → permitsAt (cond b x y .places) ≡ cs
@@ -131,8 +129,7 @@ tidied-slots h = refl
 placed-permits : (h : Hub) (a : PlaceSlot) (f : Phase)
     → permitsAt (placed h f a .places)
     ≡ byTicket (permitsAt (h .places)) (λ t. set (permitsAt (h .places)) (t % PLACES) (isPermit (a .place))) f
-unfolding writeSeat
-placed-permits h a = phases-alike _ _ (λ t. simp map-set)
+placed-permits h a = phases-alike _ _ (λ t. simp write-mapped)
 
 module _ (h : Hub) (c : Call) (named : h .opening .named ≡ true) (k : Kept h) where
   abbrev p : ℕ

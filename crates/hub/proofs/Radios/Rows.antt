@@ -39,6 +39,7 @@ use Rattle.hub.specs.Table.{stepCancelling, stepRefusing, stepFetching, 
 use Rattle.hub.specs.Table.{withPermit, withoutPermit}
 use Rattle.hub.proofs.Laws.Table.{can-cancel}
 use Rattle.hub.proofs.Laws.Phases.{one-of}
+use Rattle.hub.proofs.Laws.Seats.{read-mapped}
 use Rattle.hub.proofs.Radios.Ways.{Same, Sized, carriers, permitsAt, unmoved, within}
 use Rattle.hub.proofs.Radios.Ways.{fetched, stored, left, passed, found, dropped}
 
@@ -82,10 +83,8 @@ module _ (h : Hub) (p : ℕ) (named : h .opening .named ≡ true)
       List·getD-map (λ (x : PartySlot). hasRadio (x .phase)) (h .slots) w freeSlot ∙ ap hasRadio e
 
   there : (t : ℕ) {a : Place} → readPlace (h .places) t ≡ a → getD cs (t % PLACES) false ≡ isPermit a
-  unfolding isPlaceOf readSeat
-  there t e =
-      List·getD-map (λ (x : PlaceSlot). isPermit (x .place)) (h .places) (t % PLACES) emptySeat
-      ∙ ap isPermit e
+  unfolding isPlaceOf
+  there t e = read-mapped (h .places) t (λ (x : PlaceSlot). isPermit (x .place)) ∙ ap isPermit e
 
   -- Only a party with a slot is not free.
   party-in : (w : ℕ) {f : Phase} → readSlot (h .slots) w .phase ≡ f → isFree f ≡ false → w < PARTIES

@@ -26,11 +26,12 @@ use Rattle.hub.specs.Record.{PARTIES, readSlot, withParts, withPhase, writeSlot
 use Rattle.hub.specs.Ring.{readPlace, readSeat, writeSeat}
 use Rattle.hub.specs.Table.{aboveZero, acquire, belowZero, canCancel, cancel, decide, givenUp, release}
 use Rattle.hub.proofs.Laws.Phases.{phases-alike}
+use Rattle.hub.proofs.Laws.Seats.{same-seat}
 use Rattle.encoding.specs.Frame.{opOf}
 use Rattle.operations.specs.declared.Operated.{Operated}
 use Rattle.operations.specs.AtRest.{acquired, byMove, cancelled, operatedAtRest, released}
 use Rattle.transition.specs.Tidied.{tidiedBy}
-use Rattle.transition.proofs.Laws.Stored.{nobody, same-seat, same-slot, tidied-all, tidied-none}
+use Rattle.transition.proofs.Laws.Stored.{nobody, same-slot, tidied-all, tidied-none}
 use Rattle.plan.specs.declared.Plan.{Plan}
 use Rattle.plan.specs.declared.Seen.{Seen}
 use Rattle.perform.specs.Bytes.{isOperationCode}

@@ -1,5 +1,5 @@
 -- What is stored of an effect, and then tidied, is what the move applied leaves.
-use Prim.Native.Nat.{ℕ, _%_, _≤_}
+use Prim.Native.Nat.{ℕ, _≤_}
 use mathlib.Core.Path.{_≡_, refl, sym, ap, ap₂, _∙_}
 use mathlib.Core.Bool.{Bool, true, cond}
 use mathlib.Core.List.{List}
@@ -17,9 +17,10 @@ use Rattle.hub.specs.Calls.{answerOf, apply, ringOf, tidied, withRing}
 use Rattle.hub.specs.Look.{look, seenBy}
 use Rattle.hub.specs.Moves.{Move, Refuse, Tell, Act, Put, Wake}
 use Rattle.hub.specs.Phases.{byTicket, ticketOf}
-use Rattle.hub.specs.Record.{PARTIES, emptySeat, freeSlot, readSlot, withParts, writeSlot}
+use Rattle.hub.specs.Record.{PARTIES, freeSlot, readSlot, withParts, writeSlot}
 use Rattle.hub.specs.Ring.{PLACES, readSeat, writeSeat}
 use Rattle.hub.proofs.Laws.Phases.{by-ticket, ticketed}
+use Rattle.hub.proofs.Laws.Seats.{same-seat}
 use Rattle.effects.specs.declared.effect.Effect.{Effect}
 use Rattle.effects.specs.Effect.{effectOf, still as unmoved}
 use Rattle.transition.specs.Tidied.{tidiedBy}
@@ -28,10 +29,6 @@ use Rattle.transition.proofs.Laws.Sight.{sightOf}
 use Rattle.transition.proofs.Laws.Unseen.{touches}
 
 -- Storing what was there changes nothing.
-pub same-seat : (l : List PlaceSlot) (t : ℕ) → writeSeat l t (readSeat l t) ≡ l
-unfolding writeSeat readSeat
-same-seat l t = set-getD l (t % PLACES) emptySeat
-
 pub same-slot : (l : List PartySlot) (p : ℕ) → writeSlot l p (readSlot l p) ≡ l
 unfolding writeSlot readSlot
 same-slot l p = set-getD l p freeSlot
