@@ -1,13 +1,12 @@
 -- The steps of an operation, one after the other.
 use Prim.Native.Nat.{ℕ, zero, suc, _+_, _-_, _≤_, _<_}
-use mathlib.Core.Path.{_≡_, refl, sym, ap, subst, _∙_}
+use mathlib.Core.Path.{_≡_, refl, sym, ap, _∙_}
 use mathlib.Core.Bool.{Bool, true, false, cond}
 use mathlib.Core.List.{List, [], _∷_}
 use native.Mathlib.Omega.{arith}
 use borrow.Author.Tests.{eqb-true}
 use lib.Dec.{eqb, ltb}
-use lib.ListN.{length, List·getD-eq-default}
-use Rattle.hub.specs.declared.answers.Answer.{Answer}
+use lib.ListN.{length}
 use Rattle.hub.specs.declared.moves.Call.{Call}
 use Rattle.hub.specs.declared.record.Hub.{Hub}
 use Rattle.hub.specs.declared.record.Outcome.{Outcome}
@@ -16,10 +15,11 @@ use Rattle.hub.specs.Answers.{printed}
 use Rattle.hub.specs.Calls.{called}
 use Rattle.hub.specs.Calm.{rests, stepBy}
 use Rattle.hub.specs.Phases.{atRest, isOneOf, rank}
-use Rattle.hub.specs.Record.{PARTIES, freeSlot, readSlot}
+use Rattle.hub.specs.Record.{PARTIES, readSlot}
 use Rattle.hub.specs.Schedule.{entries, run}
 use Rattle.hub.proofs.Laws.Bools.{if-false, if-true}
 use Rattle.hub.proofs.Laws.Phases.{phases-alike}
+use Rattle.hub.proofs.Laws.Slots.{past-slots}
 use Rattle.operations.specs.declared.Operated.{Operated}
 use Rattle.operations.specs.Operation.{MOST-STEPS, operated, stepsFrom, stepsOf, turnsDown, wokenIn}
 use Rattle.torest.specs.declared.Walked.{Walked}
@@ -27,9 +27,8 @@ use Rattle.torest.specs.Walked.{walked}
 
 -- A party past the slots is at rest, and so is one whose phase is one of the first three.
 pub past : (h : Hub) (p : ℕ) → length (h .slots) ≡ PARTIES → PARTIES ≤ p → true ≡ rests h p
-unfolding readSlot isOneOf
-past h p n i =
-    sym (ap (λ (s : PartySlot). atRest (s .phase)) (List·getD-eq-default (h .slots) freeSlot (omega arith)))
+unfolding isOneOf
+past h p n i = sym (ap (λ (s : PartySlot). atRest (s .phase)) (past-slots (h .slots) n p i))
 
 pub by-rank : (h : Hub) (p r : ℕ) → r ≡ rank (readSlot (h .slots) p .phase) → ltb r 3 ≡ rests h p
 unfolding isOneOf

@@ -4,7 +4,7 @@ use mathlib.Core.Path.{_≡_, refl, sym, ap, _∙_}
 use mathlib.Core.Bool.{Bool, true, false, and-false, and-true, or-true, _&&_, _||_}
 use mathlib.Core.List.{List, [], _∷_, map}
 use lib.Dec.{leb, ltb}
-use lib.ListN.{length, length-map, getD, List·getD-eq-default}
+use lib.ListN.{length, length-map, getD}
 use borrow.Author.Tests.{leb-true, lt-ltb, le-ltb}
 use native.Mathlib.Omega.{arith}
 use types.Run.{OneOf}
@@ -22,12 +22,14 @@ use Rattle.hub.specs.Fits.{fits, kindsFit, partyFits, standsAt, placeFits, radi
 use Rattle.hub.specs.Look.{seenBy}
 use Rattle.hub.specs.Phases.{byTicket, byWaiter, isFree, isOneOf, ofRadios, ticketOf}
 use Rattle.hub.specs.Radios.{STORE}
-use Rattle.hub.specs.Record.{PARTIES, MAX-BEGUN, emptySeat, freeSlot, readSlot}
+use Rattle.hub.specs.Record.{PARTIES, MAX-BEGUN, emptySeat, readSlot}
 use Rattle.hub.specs.Ring.{PLACES, readPlace, readSeat}
 use Rattle.hub.proofs.record.Phase as phase
 use Rattle.hub.proofs.record.Place as place
 use Rattle.hub.proofs.Laws.Bools.{clause, first, second}
 use Rattle.hub.proofs.Laws.Phases.{phases-alike, phase-arm, place-arm, allBut}
+use Rattle.hub.proofs.Laws.Seats.{read-index}
+use Rattle.hub.proofs.Laws.Slots.{past-slots}
 use Rattle.fit.specs.Window.{ticketAt}
 use Rattle.fit.proofs.Laws.Ranges.{index-of}
 
@@ -120,8 +122,10 @@ test h i = byWaiter true (λ q. standsAt (readSlot (h .slots) q .phase) (ticketA
 
 module _ (h : Hub) (i : ℕ) (b : i < PLACES) where
   at-index : test h i (placeAt h i) ≡ placeFits h (ticketAt (h .oldest) i)
-  unfolding placeFits readSeat
-  at-index = ap (λ (n : ℕ). test h i (placeAt h n)) (sym (index-of (h .oldest) i b))
+  unfolding placeFits
+  at-index =
+      ap (λ (s : PlaceSlot). test h i (s .place))
+      (read-index (h .places) (ticketAt (h .oldest) i) i (sym (index-of (h .oldest) i b)))
 
   pub waited : (q : ℕ) → placeAt h i ≡ Place.Waiting q
       → standsAt (readSlot (h .slots) q .phase) (ticketAt (h .oldest) i)
@@ -134,10 +138,10 @@ module _ (h : Hub) (i : ℕ) (b : i < PLACES) where
       sym (place-arm (0 ∷ 2 ∷ 3 ∷ 4 ∷ 5 ∷ []) (test h i) (placeAt h i) refl o ∙ at-index)
 
 -- A party that the record has no slot for stands nowhere.
-pub past-slots : (l : List PartySlot) (q t : ℕ) → length l ≡ PARTIES → PARTIES ≤ q
+pub stands-nowhere : (l : List PartySlot) (q t : ℕ) → length l ≡ PARTIES → PARTIES ≤ q
     → standsAt (readSlot l q .phase) t ≡ false
-unfolding readSlot isOneOf
-past-slots l q t s i = rw (List·getD-eq-default l freeSlot {n = q} (omega arith))
+unfolding isOneOf
+stands-nowhere l q t s i = rw (past-slots l s q i)
 
 -- The length of an array is told of its elements as they lie in memory.
 pub mapped-size : {A B : Type 0} (f : A → B) (l : List A) (n : ℕ) → length (map f l) ≡ n

@@ -19,7 +19,7 @@ use Rattle.fit.proofs.Laws.Bools.{failed, passed}
 use Rattle.fit.proofs.Laws.Ranges.{Left, one-fails, one-passes, none-left, by-index}
 use Rattle.fit.proofs.Laws.Clauses.{oldest-small, parties-few, permits-few, mapped-size}
 use Rattle.fit.proofs.Laws.Clauses.{party-test, waiting-test, free-fits, past-parties}
-use Rattle.fit.proofs.Laws.Clauses.{waited, not-waited, past-slots}
+use Rattle.fit.proofs.Laws.Clauses.{waited, not-waited, stands-nowhere}
 use Rattle.fit.proofs.Laws.Clauses.{outline-fails, outlineFits, parties-fail, places-fail, radios-left}
 use Rattle.fit.proofs.fits.Statement.{statement}
 use Rattle.fit.proofs.fits.Tie as tie
@@ -377,7 +377,7 @@ returns-5 c =
     places-fail _
     (one-fails _ 256 _ true _ (k .loop5 .inv .1) (omega arith)
     (sym (waited (hub5 k) (index k) (omega arith) _ (c .before .before .place .given .1))
-    ∙ past-slots _ _ _ (size (start (loop (turn5 k)))) (c .if6 .taken)))
+    ∙ stands-nowhere _ _ _ (size (start (loop (turn5 k)))) (c .if6 .taken)))
 
 cast-slot : At tie.Need-cast-slot
 cast-slot c = search needs

@@ -128,10 +128,10 @@ module _ (h : Latch) (i : ℕ) (b : i < PLACES) where
       sym (place-arm (0 ∷ 2 ∷ 3 ∷ 4 ∷ 5 ∷ []) (test h i) (placeAt h i) refl o ∙ at-index)
 
 -- A party that the record has no slot for stands nowhere.
-pub past-slots : (l : List LatchSlot) (q t : ℕ) → length l ≡ PARTIES → PARTIES ≤ q
+pub stands-nowhere : (l : List LatchSlot) (q t : ℕ) → length l ≡ PARTIES → PARTIES ≤ q
     → standsAt (readSlot l q .phase) t ≡ false
 unfolding readSlot isOneOf
-past-slots l q t s i = rw (List·getD-eq-default l freeSlot {n = q} (omega arith))
+stands-nowhere l q t s i = rw (List·getD-eq-default l freeSlot {n = q} (omega arith))
 
 -- The whole: the figures, the parties, the places.
 module _ (h : Latch) where

@@ -19,7 +19,7 @@ use Rattle.latch.specs.Fits.{figuresFit, partyFits, placeFits}
 use Rattle.latch.specs.Record.{readSlot}
 use Rattle.latchfit.proofs.Laws.Clauses.{oldest-small, parties-few}
 use Rattle.latchfit.proofs.Laws.Clauses.{party-test, free-fits, past-parties}
-use Rattle.latchfit.proofs.Laws.Clauses.{waited, not-waited, past-slots}
+use Rattle.latchfit.proofs.Laws.Clauses.{waited, not-waited, stands-nowhere}
 use Rattle.latchfit.proofs.Laws.Clauses.{figures-fail, parties-fail, places-fail, all-fit}
 use Rattle.latchfit.proofs.fits.Statement.{statement}
 use Rattle.latchfit.proofs.fits.Tie as tie
@@ -273,7 +273,7 @@ returns-4 c =
     places-fail _
     (one-fails _ 256 _ true _ (k .loop4 .inv .1) (omega arith)
     (sym (waited (record4 k) (index k) (omega arith) _ (c .before .before .place .given .1))
-    ∙ past-slots _ _ _ (size (start (loop (k .before .before)))) (c .if4 .taken)))
+    ∙ stands-nowhere _ _ _ (size (start (loop (k .before .before)))) (c .if4 .taken)))
 
 cast-slot : At tie.Need-cast-slot
 cast-slot c = search needs

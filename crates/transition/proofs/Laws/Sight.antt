@@ -1,12 +1,12 @@
 -- What a party sees, from what the code reads.
-use Prim.Native.Nat.{ℕ, _%_, _≤_}
+use Prim.Native.Nat.{ℕ, _%_}
 use mathlib.Core.Path.{_≡_, refl, sym, ap, _∙_}
 use mathlib.Core.Bool.{Bool, true, false, cond}
 use mathlib.Core.List.{List}
 use native.Mathlib.Omega.{arith}
 use borrow.Author.Tests.{ltb-true, ltb-false}
 use lib.Dec.{ltb}
-use lib.ListN.{length, List·getD-eq-default}
+use lib.ListN.{length}
 use Rattle.hub.specs.declared.moves.Sight.{Sight}
 use Rattle.hub.specs.declared.record.Hub.{Hub}
 use Rattle.hub.specs.declared.record.PartySlot.{PartySlot}
@@ -16,30 +16,23 @@ use Rattle.hub.specs.Look.{look, seenBy, sightOn}
 use Rattle.hub.specs.Phases.{byTicket, byWaiter, ticketOf}
 use Rattle.hub.specs.Record.{PARTIES, emptySeat, freeSlot, readSlot}
 use Rattle.hub.specs.Ring.{readSeat}
-use Rattle.hub.proofs.Laws.Phases.{by-ticket, ticketed}
+use Rattle.hub.proofs.Laws.Phases.{by-ticket, places-alike, ticketed}
+use Rattle.hub.proofs.Laws.Slots.{past-slots}
 
 module _ (l : List PartySlot) (size : length l ≡ PARTIES) where
-  -- Past the slots a slot reads as free.
-  past-slots : (q : ℕ) → PARTIES ≤ q → freeSlot ≡ readSlot l q
-  unfolding readSlot
-  past-slots q i = sym (List·getD-eq-default l freeSlot (omega arith))
-
   read-within : (q : ℕ) → cond (ltb q PARTIES) (readSlot l (q % PARTIES)) freeSlot ≡ readSlot l q
   read-within q = go (ltb q PARTIES) refl
     where
       go : (b : Bool) → ltb q PARTIES ≡ b → cond b (readSlot l (q % PARTIES)) freeSlot ≡ readSlot l q
       go true f = ap (readSlot l) (let i = ltb-true q PARTIES f in omega arith)
-      go false f = past-slots q (ltb-false q PARTIES f)
+      go false f = sym (past-slots l size q (ltb-false q PARTIES f))
 
   -- The party that waits at a place, by its number.
   by-number : (a : Place)
       → readSlot l (byWaiter PARTIES (λ q. q) a) ≡ byWaiter freeSlot (readSlot l) a
-  by-number Place.Empty = sym (past-slots PARTIES (omega arith))
-  by-number (Place.Waiting q) = refl
-  by-number Place.Permit = sym (past-slots PARTIES (omega arith))
-  by-number Place.Cancelled = sym (past-slots PARTIES (omega arith))
-  by-number Place.Refused = sym (past-slots PARTIES (omega arith))
-  by-number Place.Done = sym (past-slots PARTIES (omega arith))
+  by-number =
+      places-alike (λ a. readSlot l (byWaiter PARTIES (λ q. q) a)) (byWaiter freeSlot (readSlot l))
+      (λ q. rw (past-slots l size PARTIES (omega arith)))
 
 -- The code read the place at the index of the slot's ticket, and the waiter's slot by its number.
 pub record Reads (h : Hub) (p : ℕ) (seat : PlaceSlot) (q : ℕ) (waiter : PartySlot) : Type 0 where
