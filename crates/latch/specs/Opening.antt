@@ -6,7 +6,7 @@ use lib.ListN.{replicate}
 use Rattle.hub.specs.Basics.{upTo32}
 use Rattle.hub.specs.Record.{PARTIES, emptySeat}
 use Rattle.hub.specs.Ring.{PLACES}
-use Rattle.latch.specs.declared.opening.Opened.{Opened}
+use Rattle.latch.specs.declared.opening.LatchOpening.{LatchOpening}
 use Rattle.latch.specs.declared.opening.Start.{Start}
 use Rattle.latch.specs.declared.record.Latch.{Latch}
 use Rattle.latch.specs.declared.record.LatchFigures.{LatchFigures}
@@ -41,14 +41,14 @@ fresh c n =
     }
 
 -- A refused opening makes no record; what stands in its place refuses every call by 1.
-abbrev pub notOpened : Start → Opened
+abbrev pub notOpened : Start → LatchOpening
 notOpened x = record { start = x; latch = fresh 0 0 }
 
 -- 3, then 18.
-unfoldable pub openingIf : Bool → Bool → ℕ → ℕ → Opened
+unfoldable pub openingIf : Bool → Bool → ℕ → ℕ → LatchOpening
 openingIf false b c n = notOpened Start.BadParties
 openingIf true false c n = notOpened Start.BadCount
 openingIf true true c n = record { start = Start.Opened; latch = fresh c n }
 
-abbrev pub opening : ℕ → ℕ → Opened
+abbrev pub opening : ℕ → ℕ → LatchOpening
 opening c n = openingIf (upTo32 n) (upTo200 c) c n

@@ -7,7 +7,7 @@ pub mod opening; // a fresh record
 
 pub use moves::LatchCall;
 pub use moves::LatchOp;
-pub use opening::Opened;
+pub use opening::LatchOpening;
 pub use opening::Start;
 pub use record::Latch;
 pub use record::LatchFigures;

@@ -17,7 +17,7 @@ pub enum Start {
 }
 
 // How an opening went, and the record that it made.
-pub struct Opened {
+pub struct LatchOpening {
     pub start: Start,
     pub latch: Latch,
 }
@@ -62,10 +62,10 @@ impl Latch {
 }
 
 // A refused opening makes no record: what it hands back is one that refuses every call.
-fn refused(why: Start) -> Opened
+fn refused(why: Start) -> LatchOpening
     ensures { λ r. ⌜ r ≡ notOpened why ⌝ }
 {
-    Opened {
+    LatchOpening {
         start: why,
         latch: Latch::open(0, 0),
     }
@@ -81,7 +81,7 @@ fn up_to_200(n: u8) -> bool
 }
 
 // Opens a latch.
-pub fn open_latch(count: u8, parties: u8) -> Opened
+pub fn open_latch(count: u8, parties: u8) -> LatchOpening
     ensures { λ r. ⌜ (r ≡ opening count parties)
         × (startCode (r .start) ≡ startCode (opening count parties .start)) ⌝ }
 {
@@ -91,7 +91,7 @@ pub fn open_latch(count: u8, parties: u8) -> Opened
     if !up_to_200(count) {
         return refused(Start::BadCount);
     }
-    Opened {
+    LatchOpening {
         start: Start::Opened,
         latch: Latch::open(count, parties),
     }

@@ -10,7 +10,7 @@ use Rattle.hub.specs.declared.answers.Answer.{Answer}
 use Rattle.hub.specs.declared.answers.Refusal.{Refusal}
 use Rattle.hub.proofs.Laws.Bools.{first, second}
 use Rattle.latch.specs.declared.moves.LatchCall.{LatchCall}
-use Rattle.latch.specs.declared.opening.Opened.{Opened}
+use Rattle.latch.specs.declared.opening.LatchOpening.{LatchOpening}
 use Rattle.latch.specs.declared.opening.Start.{Start}
 use Rattle.latch.specs.declared.record.Latch.{Latch}
 use Rattle.latch.specs.Calls.{called, checked, apply}
@@ -61,5 +61,5 @@ in-range c n = go (upTo32 n) (upTo200 c) refl refl
         }
 
 -- A promise that gives how an opening went gives its code.
-pub with-code : {o d : Opened} → o ≡ d → (o ≡ d) × (startCode (o .start) ≡ startCode (d .start))
-with-code e = (e, ap (λ (x : Opened). startCode (x .start)) e)
+pub with-code : {o d : LatchOpening} → o ≡ d → (o ≡ d) × (startCode (o .start) ≡ startCode (d .start))
+with-code e = (e, ap (λ (x : LatchOpening). startCode (x .start)) e)

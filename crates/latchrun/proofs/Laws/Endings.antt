@@ -10,7 +10,7 @@ use denote.Enum.Declared.{tagOf}
 use lib.ListN.{length, drop}
 use Rattle.hub.specs.Basics.{upTo32}
 use Rattle.latch.specs.declared.moves.LatchCall.{LatchCall}
-use Rattle.latch.specs.declared.opening.Opened.{Opened}
+use Rattle.latch.specs.declared.opening.LatchOpening.{LatchOpening}
 use Rattle.latch.specs.declared.opening.Start.{Start}
 use Rattle.latch.specs.declared.record.Latch.{Latch}
 use Rattle.latched.specs.Claims.{ReachedFits}
@@ -45,7 +45,7 @@ module _ (c n : ℕ) (calls out : List ℕ) where
   abbrev Ends : LatchRan → List ℕ → Type 0
   Ends r l = (r ≡ runOf c n calls out .ran) × (l ≡ runOf c n calls out .out)
 
-  pub refused : (o : Opened) → o ≡ opening c n → OneOf (0 ∷ 1 ∷ []) (tagOf start.the-type (o .start))
+  pub refused : (o : LatchOpening) → o ≡ opening c n → OneOf (0 ∷ 1 ∷ []) (tagOf start.the-type (o .start))
       → Ends (LatchRan.NotOpened (o .start)) out
   unfolding openingIf runIf
   refused o e t = rw e (go (upTo32 n) (upTo200 c) _ _ (rw e at t))
@@ -58,9 +58,9 @@ module _ (c n : ℕ) (calls out : List ℕ) where
       go true false w m t = (refl, refl)
       go true true w m t = absurd (miss (0 ∷ 1 ∷ []) 2 tt t)
 
-  module _ (o : Opened) (e : o ≡ opening c n) (t : o .start ≡ Start.Opened) where
+  module _ (o : LatchOpening) (e : o ≡ opening c n) (t : o .start ≡ Start.Opened) where
     accepted : opening c n .start ≡ Start.Opened
-    accepted = sym (ap (λ (o : Opened). o .start) e) ∙ t
+    accepted = sym (ap (λ (o : LatchOpening). o .start) e) ∙ t
 
     passed : Passed c n (upTo32 n) (upTo200 c) (o .latch)
     unfolding openingIf

@@ -2,14 +2,14 @@
 use borrow.Author.Needs.{needs}
 use borrow.Author.Tests.{not-true, not-false}
 use mathlib.Core.Path.{sym, ap, _∙_}
-use Rattle.latch.specs.declared.opening.Opened.{Opened}
+use Rattle.latch.specs.declared.opening.LatchOpening.{LatchOpening}
 use Rattle.latch.specs.declared.opening.Start.{Start}
 use Rattle.latch.specs.declared.record.Latch.{Latch}
 use Rattle.latch.proofs.Laws.Opening.{refused-3, refused-18, accepted, with-code}
 use Rattle.latch.proofs.opening.open_latch.Statement.{statement}
 use Rattle.latch.proofs.opening.open_latch.Tie as tie
 
-abbrev opened : Latch → Opened
+abbrev opened : Latch → LatchOpening
 opened h = record { start = Start.Opened; latch = h }
 
 up-to-32-requires : tie.Need-up-to-32-requires

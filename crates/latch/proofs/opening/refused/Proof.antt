@@ -1,13 +1,13 @@
 -- `refused` meets its contract, by that of `Latch::open`.
 use borrow.Author.Needs.{needs}
 use mathlib.Core.Path.{ap}
-use Rattle.latch.specs.declared.opening.Opened.{Opened}
+use Rattle.latch.specs.declared.opening.LatchOpening.{LatchOpening}
 use Rattle.latch.specs.declared.opening.Start.{Start}
 use Rattle.latch.specs.declared.record.Latch.{Latch}
 use Rattle.latch.proofs.opening.refused.Statement.{statement}
 use Rattle.latch.proofs.opening.refused.Tie as tie
 
-abbrev with : Start → Latch → Opened
+abbrev with : Start → Latch → LatchOpening
 with x h = record { start = x; latch = h }
 
 open-requires : tie.Need-open-requires
