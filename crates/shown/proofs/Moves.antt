@@ -34,8 +34,7 @@ use Rattle.screen.specs.declared.record.Moved.{Moved}
 use Rattle.screen.specs.declared.record.Operation.{Operation}
 use Rattle.screen.specs.Line.{waiters, withHolding, withWaiters}
 use Rattle.screen.specs.Moves.{acquire, callOf, cancel, checkedMove, hasPermit, hasWaiter, isAccepted, lineMove}
-use Rattle.screen.specs.Moves.{nextWaiter}
-use Rattle.screen.specs.Moves.{ownMove, refusedMove, release, without}
+use Rattle.screen.specs.Moves.{nextWaiter, ownMove, refusedMove, release, without}
 use Rattle.screen.specs.Steps.{TO-HAND-OVER, TO-WAIT, ownSteps, ownWoken, toCounter}
 use Rattle.screen.proofs.Laws.Fit.{fits as fits-line}
 use Rattle.screen.proofs.Reached.Sound.{Sound, waiters-of}

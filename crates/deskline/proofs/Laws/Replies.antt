@@ -15,8 +15,7 @@ use Rattle.screen.specs.declared.record.Operation.{Operation}
 use Rattle.screen.specs.Moves.{lineMove, lineOpening}
 use Rattle.screen.specs.Steps.{stepsToRest}
 use Rattle.deskline.specs.declared.reply.DeskReply.{DeskReply}
-use Rattle.deskline.specs.Replies.{askedBy, isOpenLine, openingReply, operationReply, replyTo}
-use Rattle.deskline.specs.Replies.{codeReply}
+use Rattle.deskline.specs.Replies.{askedBy, codeReply, isOpenLine, openingReply, operationReply, replyTo}
 
 -- An opening.
 pub is-opening : (q : Request) → headerOf q .code ≡ 0x01 → isOpening q ≡ true

@@ -17,8 +17,7 @@ use Rattle.screen.specs.declared.record.Operation.{Operation}
 use Rattle.screen.specs.Fits.{holderCount, lineFits}
 use Rattle.screen.specs.Line.{holders, holdsIn, placeOf, waiters, waitsIn, withHolding, withWaiters}
 use Rattle.screen.specs.Moves.{acceptedMove, acquire, cancel, checkedMove, hasPermit, hasWaiter, lineMove}
-use Rattle.screen.specs.Moves.{nextWaiter}
-use Rattle.screen.specs.Moves.{ownMove, refusedMove, release, without}
+use Rattle.screen.specs.Moves.{nextWaiter, ownMove, refusedMove, release, without}
 use Rattle.screen.proofs.Laws.Fit.{Fit, room, waits-cons}
 use Rattle.screen.proofs.Laws.Holders.{held-weight}
 use Rattle.screen.proofs.Laws.Lists.{among-here}

@@ -22,8 +22,7 @@ use Rattle.screen.specs.declared.record.Operation.{Operation}
 use Rattle.screen.specs.Fits.{holderCount}
 use Rattle.screen.specs.Line.{openedLine}
 use Rattle.screen.specs.Moves.{acquire, cancel, checkedMove, hasPermit, hasWaiter, isAccepted, lineMove}
-use Rattle.screen.specs.Moves.{lineOpening}
-use Rattle.screen.specs.Moves.{noLine, ownMove, refusedMove, release}
+use Rattle.screen.specs.Moves.{lineOpening, noLine, ownMove, refusedMove, release}
 use Rattle.screen.specs.Steps.{TO-HAND-OVER, TO-WAIT, ownSteps, stepsToRest, toCounter}
 
 pub with-printed : {m d : Moved} → m ≡ d → (m ≡ d) × (printed (m .answer) ≡ printed (d .answer))
