@@ -22,8 +22,11 @@ use Rattle.hub.specs.Table.{stepReleasing, stepResuming, stepResumingAt,
 use Rattle.hub.specs.Table.{stepTicketed, tellRadio}
 use Rattle.hub.proofs.Laws.Phases.{Each, phases-alike, phasesWith, places-alike, placesWith}
 
--- The row of a phase: b is what its test says, a the place, and w says whether the waiter there waits.
-abbrev pub rowIn : Phase → Bool → Bool → Place → Sight → Move
+-- The row of a phase: b is what its test says, a the place, and w says whether the waiter there waits. Who unfolds
+-- it unfolds the table.
+unfoldable pub rowIn : Phase → Bool → Bool → Place → Sight → Move
+unfolding stepAcquiring stepSuspending stepTicketed stepReleasing stepResuming resumeWaiter stepResumingAt stepAborting
+    stepCancelling stepRefusing stepFetching stepStoring
 rowIn f b w a s =
     elim f [
       | Free ↦ Refuse Refusal.AtRest
@@ -60,7 +63,7 @@ handing s t =
 
 pub step-row : (s : Sight) (f : Phase)
     → stepIn f s ≡ rowIn f (testIn s f) (isWaiting (s .waiter .phase)) (s .seat .place) s
-unfolding stepIn isOneOf
+unfolding stepIn isOneOf rowIn
 step-row s =
     phases-alike (λ f. stepIn f s) (λ f. rowIn f (testIn s f) (isWaiting (s .waiter .phase)) (s .seat .place) s)
     (λ t. cc (handing s t (s .seat .place)))

@@ -14,12 +14,9 @@ use Rattle.hub.specs.Answers.{refusalCode}
 use Rattle.hub.specs.Basics.{allOf}
 use Rattle.hub.specs.Fits.{placeListed}
 use Rattle.hub.specs.Phases.{isOneOf, isPlaceOf, ticketOf}
-use Rattle.hub.specs.Table.{step, stepAcquiring, stepSuspending}
-use Rattle.hub.specs.Table.{stepTicketed, stepReleasing, stepResuming, resumeWaiter}
-use Rattle.hub.specs.Table.{stepResumingAt, stepAborting, stepCancelling, stepRefusing}
-use Rattle.hub.specs.Table.{stepFetching, stepStoring, canCancel}
+use Rattle.hub.specs.Table.{canCancel, step}
 use Rattle.hub.proofs.Laws.Phases.{one-or}
-use Rattle.hub.proofs.Laws.Rows.{steps-alike}
+use Rattle.hub.proofs.Laws.Rows.{rowIn, steps-alike}
 
 -- Is it no refusal by 1, which the table gives where it has no row?
 abbrev pub isListed : Move → Bool
@@ -30,8 +27,7 @@ isListed (Put a c) = true
 isListed (Wake q s a c) = true
 
 pub listed-is-tabled : (s : Sight) → isListed (step s) ≡ placeListed (s .slot .phase) (s .seat .place)
-unfolding stepAcquiring stepSuspending stepTicketed stepReleasing stepResuming resumeWaiter stepResumingAt stepAborting
-    stepCancelling stepRefusing stepFetching stepStoring placeListed allOf isOneOf isPlaceOf
+unfolding rowIn placeListed allOf isOneOf isPlaceOf
 listed-is-tabled s = steps-alike s isListed placeListed (λ t q. refl) (s .slot .phase)
 
 -- Who can give up: what holds of the four phases holds of every phase that can.

@@ -9,8 +9,7 @@ use Rattle.hub.specs.declared.record.PlaceSlot.{PlaceSlot}
 use Rattle.hub.specs.Look.{withView}
 use Rattle.hub.specs.Moves.{Move, Refuse, Tell, Act, Put, Wake}
 use Rattle.hub.specs.Phases.{isWaiting}
-use Rattle.hub.specs.Table.{acquire, cancel, decide, release, stepAborting, stepAcquiring, stepFetching}
-use Rattle.hub.specs.Table.{stepIn, stepReleasing, stepResuming, stepStoring, stepSuspending, tellRadio}
+use Rattle.hub.specs.Table.{acquire, cancel, decide, release, stepIn, tellRadio}
 use Rattle.hub.proofs.Laws.Phases.{Each, ticketed}
 use Rattle.hub.proofs.Laws.Rows.{otherRows, others-alike, rowIn, rows-alike, step-row, testIn}
 
@@ -43,7 +42,7 @@ module _ (a : PlaceSlot) (w : PartySlot) where
     blind e = (ap (λ z. z .0) e, ap (λ z. z .1) e)
 
     stepping : (f : Phase) → ticketed f ≡ false → Blind (stepIn f) s
-    unfolding stepAcquiring stepSuspending stepReleasing stepResuming stepAborting stepFetching stepStoring
+    unfolding rowIn
     stepping f e =
         let z =
         rows-alike {A = Move × Bool}
