@@ -1,4 +1,2 @@
--- Laws of the definitions, by which the functions' proofs know them.
-pub mod Bools
-pub mod Ranges
+-- Laws of the definitions, by which the function's proof knows them.
 pub mod Clauses

@@ -1,2 +1,2 @@
--- Why the code meets its contracts.
+-- Why the check meets its contract.
 pub mod Laws

@@ -1,9 +1,9 @@
 // Does the record of a latch fit? The check of every clause, for any value of the type. Tickets and
 // places are the hub's to check.
 
-use fit::party_fits;
-use fit::stands_at;
-use fit::ticket_at;
+use clauses::party_fits;
+use clauses::stands_at;
+use clauses::ticket_at;
 use hub::record::Figures;
 use hub::record::Hub;
 use hub::record::Phase;

@@ -26,7 +26,7 @@ use Rattle.hub.specs.Record.{emptySeat, readSlot, withPool, writeSlot}
 use Rattle.hub.specs.Ring.{PLACES, readSeat}
 use Rattle.hub.specs.Table.{decide}
 use Rattle.hub.proofs.Laws.Printed.{with-printed}
-use Rattle.fit.proofs.Laws.Clauses.{mapped-size}
+use Rattle.clauses.proofs.Laws.Sizes.{mapped-size}
 use Rattle.effects.specs.declared.effect.Effect.{Effect}
 use Rattle.effects.specs.Effect.{effectOf}
 use Rattle.transition.specs.Tidied.{tidiedBy}

@@ -2,9 +2,9 @@
 use Prim.Native.Nat.{ℕ, _≤_, _<_}
 use mathlib.Core.Path.{_≡_, refl, sym, ap, _∙_}
 use mathlib.Core.Bool.{Bool, true, false, and-false, and-true, or-true, _&&_, _||_}
-use mathlib.Core.List.{List, [], _∷_, map}
+use mathlib.Core.List.{List, [], _∷_}
 use lib.Dec.{leb, ltb}
-use lib.ListN.{length, length-map, getD}
+use lib.ListN.{length, getD}
 use borrow.Author.Tests.{leb-true, lt-ltb, le-ltb}
 use native.Mathlib.Omega.{arith}
 use types.Run.{OneOf}
@@ -20,18 +20,19 @@ use Rattle.hub.specs.Basics.{allFrom, allOf, implies}
 use Rattle.hub.specs.Fits.{figuresClauses, figuresFit, inWindow, ticketFits, placeListed}
 use Rattle.hub.specs.Fits.{fits, kindsFit, partyFits, standsAt, placeFits, radiosFit, stateFits}
 use Rattle.hub.specs.Look.{seenBy}
-use Rattle.hub.specs.Phases.{byTicket, byWaiter, isFree, isOneOf, ofRadios, ticketOf}
+use Rattle.hub.specs.Phases.{byWaiter, isFree, isOneOf, ofRadios, ticketOf}
 use Rattle.hub.specs.Radios.{STORE}
 use Rattle.hub.specs.Record.{PARTIES, MAX-BEGUN, emptySeat, readSlot}
 use Rattle.hub.specs.Ring.{PLACES, readPlace, readSeat}
 use Rattle.hub.proofs.record.Phase as phase
 use Rattle.hub.proofs.record.Place as place
 use Rattle.hub.proofs.Laws.Bools.{clause, first, second}
-use Rattle.hub.proofs.Laws.Phases.{phases-alike, phase-arm, place-arm, allBut}
+use Rattle.hub.proofs.Laws.Phases.{phase-arm, place-arm, allBut}
 use Rattle.hub.proofs.Laws.Seats.{read-index}
 use Rattle.hub.proofs.Laws.Slots.{past-slots}
-use Rattle.fit.specs.Window.{ticketAt}
-use Rattle.fit.proofs.Laws.Ranges.{index-of}
+use Rattle.clauses.specs.Window.{ticketAt}
+use Rattle.clauses.proofs.Laws.Listed.{listed-any}
+use Rattle.clauses.proofs.Laws.Ranges.{index-of}
 
 -- Figures that fit.
 module _ (x : Opening) (f : Figures) (o : ℕ) (e : figuresFit x f o ≡ true) where
@@ -58,14 +59,6 @@ module _ (x : Opening) (f : Figures) (o : ℕ) (e : figuresFit x f o ≡ true) w
   parties-few =
       leb-true (x .parties) PARTIES
       (second (leb 1 (x .parties)) _ (clause 1 (figuresClauses x f o) e))
-
--- A phase without a ticket is listed at any place.
-pub listed-any : (g : ℕ → PlaceSlot) (f : Phase)
-    → placeListed f (g (ticketOf f) .place) ≡ placeListed f (byTicket emptySeat g f .place)
-unfolding placeListed allOf isOneOf
-listed-any g =
-    phases-alike (λ f. placeListed f (g (ticketOf f) .place))
-    (λ f. placeListed f (byTicket emptySeat g f .place)) (λ t. refl)
 
 -- A party's clauses, with the place at its ticket, whether or not it has one.
 abbrev clauses : Hub → ℕ → Phase → Bool
@@ -142,11 +135,6 @@ pub stands-nowhere : (l : List PartySlot) (q t : ℕ) → length l ≡ PARTIES �
     → standsAt (readSlot l q .phase) t ≡ false
 unfolding isOneOf
 stands-nowhere l q t s i = rw (past-slots l s q i)
-
--- The length of an array is told of its elements as they lie in memory.
-pub mapped-size : {A B : Type 0} (f : A → B) (l : List A) (n : ℕ) → length (map f l) ≡ n
-    → length l ≡ n
-mapped-size f l n e = sym (length-map l f) ∙ e
 
 -- The whole: the figures and the kinds, the parties, the places, the radios.
 module _ (h : Hub) where

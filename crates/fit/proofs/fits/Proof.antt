@@ -14,10 +14,11 @@ use Rattle.hub.specs.Record.{readSlot}
 use Rattle.hub.specs.Ring.{readSeat}
 use Rattle.hub.proofs.Laws.Bools.{first, never}
 use Rattle.pool.proofs.Laws.Fits.{unnamed-fit}
-use Rattle.fit.specs.Window.{ticketAt}
-use Rattle.fit.proofs.Laws.Bools.{failed, passed}
-use Rattle.fit.proofs.Laws.Ranges.{Left, one-fails, one-passes, none-left, by-index}
-use Rattle.fit.proofs.Laws.Clauses.{oldest-small, parties-few, permits-few, mapped-size}
+use Rattle.clauses.specs.Window.{ticketAt}
+use Rattle.clauses.proofs.Laws.Bools.{failed, passed}
+use Rattle.clauses.proofs.Laws.Ranges.{Left, one-fails, one-passes, none-left, by-index}
+use Rattle.clauses.proofs.Laws.Sizes.{mapped-size}
+use Rattle.fit.proofs.Laws.Clauses.{oldest-small, parties-few, permits-few}
 use Rattle.fit.proofs.Laws.Clauses.{party-test, waiting-test, free-fits, past-parties}
 use Rattle.fit.proofs.Laws.Clauses.{waited, not-waited, stands-nowhere}
 use Rattle.fit.proofs.Laws.Clauses.{outline-fails, outlineFits, parties-fail, places-fail, radios-left}

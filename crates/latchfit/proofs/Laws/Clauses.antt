@@ -21,9 +21,9 @@ use Rattle.hub.proofs.record.Phase as phase
 use Rattle.hub.proofs.record.Place as place
 use Rattle.hub.proofs.Laws.Bools.{clause, second}
 use Rattle.hub.proofs.Laws.Phases.{phase-arm, place-arm, allBut}
-use Rattle.fit.specs.Window.{ticketAt}
-use Rattle.fit.proofs.Laws.Clauses.{listed-any}
-use Rattle.fit.proofs.Laws.Ranges.{index-of}
+use Rattle.clauses.specs.Window.{ticketAt}
+use Rattle.clauses.proofs.Laws.Listed.{listed-any}
+use Rattle.clauses.proofs.Laws.Ranges.{index-of}
 use Rattle.latch.specs.declared.record.Latch.{Latch}
 use Rattle.latch.specs.declared.record.LatchFigures.{LatchFigures}
 use Rattle.latch.specs.declared.record.LatchSlot.{LatchSlot}

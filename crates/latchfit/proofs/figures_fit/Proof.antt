@@ -2,7 +2,7 @@
 use borrow.Author.Needs.{needs}
 use borrow.Author.Tests.{lt-leb, le-leb}
 use Rattle.latch.specs.Fits.{figuresFit}
-use Rattle.fit.proofs.Laws.Bools.{failed, passed, fails, next, last}
+use Rattle.clauses.proofs.Laws.Bools.{failed, passed, fails, next, last}
 use Rattle.latchfit.proofs.figures_fit.Statement.{statement}
 use Rattle.latchfit.proofs.figures_fit.Tie as tie
 

@@ -11,10 +11,10 @@ use Rattle.latch.specs.declared.record.Latch.{Latch}
 use Rattle.hub.specs.Basics.{allFrom}
 use Rattle.hub.specs.Fits.{standsAt}
 use Rattle.hub.specs.Ring.{readSeat}
-use Rattle.fit.specs.Window.{ticketAt}
-use Rattle.fit.proofs.Laws.Bools.{failed, passed}
-use Rattle.fit.proofs.Laws.Ranges.{Left, one-fails, one-passes, none-left, by-index}
-use Rattle.fit.proofs.Laws.Clauses.{mapped-size}
+use Rattle.clauses.specs.Window.{ticketAt}
+use Rattle.clauses.proofs.Laws.Bools.{failed, passed}
+use Rattle.clauses.proofs.Laws.Ranges.{Left, one-fails, one-passes, none-left, by-index}
+use Rattle.clauses.proofs.Laws.Sizes.{mapped-size}
 use Rattle.latch.specs.Fits.{figuresFit, partyFits, placeFits}
 use Rattle.latch.specs.Record.{readSlot}
 use Rattle.latchfit.proofs.Laws.Clauses.{oldest-small, parties-few}

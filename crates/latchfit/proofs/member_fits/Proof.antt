@@ -7,7 +7,7 @@ use Rattle.hub.specs.Basics.{implies}
 use Rattle.hub.specs.Fits.{placeListed}
 use Rattle.hub.specs.Fits as hub
 use Rattle.hub.specs.Phases.{ofRadios}
-use Rattle.fit.proofs.Laws.Bools.{failed, passed}
+use Rattle.clauses.proofs.Laws.Bools.{failed, passed}
 use Rattle.latchfit.proofs.Laws.Clauses.{as-at-hub, slot-passes}
 use Rattle.latchfit.proofs.member_fits.Statement.{statement}
 use Rattle.latchfit.proofs.member_fits.Tie as tie

@@ -2,9 +2,9 @@
 use borrow.Author.Needs.{needs}
 use borrow.Author.Tests.{lt-leb, le-leb}
 use Rattle.hub.specs.Fits.{figuresFit}
-use Rattle.fit.proofs.Laws.Bools.{failed, passed, fails, next, last}
-use Rattle.fit.proofs.figures_fit.Statement.{statement}
-use Rattle.fit.proofs.figures_fit.Tie as tie
+use Rattle.clauses.proofs.Laws.Bools.{failed, passed, fails, next, last}
+use Rattle.clauses.proofs.figures_fit.Statement.{statement}
+use Rattle.clauses.proofs.figures_fit.Tie as tie
 
 up-to-32-requires : tie.Need-up-to-32-requires
 up-to-32-requires c κs = search needs

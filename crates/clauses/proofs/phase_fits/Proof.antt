@@ -4,8 +4,8 @@ use mathlib.Core.List.{map}
 use Rattle.hub.specs.Basics.{implies}
 use Rattle.hub.specs.Phases.{RADIO-PHASES, isOneOf, ofRadios, rank}
 use Rattle.hub.proofs.Laws.Phases.{allBut, phase-arm}
-use Rattle.fit.proofs.phase_fits.Statement.{statement}
-use Rattle.fit.proofs.phase_fits.Tie as tie
+use Rattle.clauses.proofs.phase_fits.Statement.{statement}
+use Rattle.clauses.proofs.phase_fits.Tie as tie
 
 returns : tie.Need-returns
 unfolding isOneOf

@@ -10,8 +10,8 @@ use mir.Facts.{toZ-ofZ}
 use mir.Syntax.{w32}
 use mir.Val.{SFits}
 use Rattle.hub.specs.Fits.{counterFits}
-use Rattle.fit.proofs.counter_fits.Statement.{statement}
-use Rattle.fit.proofs.counter_fits.Tie as tie
+use Rattle.clauses.proofs.counter_fits.Statement.{statement}
+use Rattle.clauses.proofs.counter_fits.Tie as tie
 
 low : (z : ℤ) → ltZ z (negsuc 31) ≡ true → false ≡ counterFits z
 unfolding counterFits

@@ -6,8 +6,8 @@ use mathlib.Core.List.{[], _∷_}
 use Rattle.hub.specs.Fits.{standsAt}
 use Rattle.hub.specs.Phases.{isOneOf, isWaiting}
 use Rattle.hub.proofs.Laws.Phases.{allBut, phase-arm}
-use Rattle.fit.proofs.stands_at.Statement.{statement}
-use Rattle.fit.proofs.stands_at.Tie as tie
+use Rattle.clauses.proofs.stands_at.Statement.{statement}
+use Rattle.clauses.proofs.stands_at.Tie as tie
 
 enum-known-phase : tie.Need-enum-known-phase
 enum-known-phase c = search needs

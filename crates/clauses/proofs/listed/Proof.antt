@@ -15,8 +15,8 @@ use Rattle.hub.specs.Phases.{isOneOf, isPlaceOf, ticketOf}
 use Rattle.hub.proofs.record.Phase as phase
 use Rattle.hub.proofs.record.Place as place
 use Rattle.hub.proofs.Laws.Phases.{allBut, phase-arm, place-arm, phasesWith, placesWith, waiterOf}
-use Rattle.fit.proofs.listed.Statement.{statement}
-use Rattle.fit.proofs.listed.Tie as tie
+use Rattle.clauses.proofs.listed.Statement.{statement}
+use Rattle.clauses.proofs.listed.Tie as tie
 
 -- What the definition says of some phases at a place.
 abbrev column : List ℕ → ℕ → Place → List Bool

@@ -4,8 +4,8 @@ use borrow.Author.Tests.{not-true, not-false}
 use mathlib.Core.Bool.{Bool, _&&_}
 use mathlib.Core.Path.{sym, ap, _∙_}
 use Rattle.hub.specs.Fits.{kindsFit}
-use Rattle.fit.proofs.figures_and_kinds_fit.Statement.{statement}
-use Rattle.fit.proofs.figures_and_kinds_fit.Tie as tie
+use Rattle.clauses.proofs.figures_and_kinds_fit.Statement.{statement}
+use Rattle.clauses.proofs.figures_and_kinds_fit.Tie as tie
 
 figures-fit-requires : tie.Need-figures-fit-requires
 figures-fit-requires c κs = search needs

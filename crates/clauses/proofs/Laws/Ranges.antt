@@ -6,7 +6,7 @@ use native.Mathlib.Omega.{arith}
 use Rattle.hub.specs.Basics.{allFrom}
 use Rattle.hub.specs.Ring.{PLACES}
 use Rattle.hub.proofs.Laws.Ranges.{all-true, one-true}
-use Rattle.fit.specs.Window.{ticketAt}
+use Rattle.clauses.specs.Window.{ticketAt}
 
 -- At i, what is noted in x and what is left to test say together what the whole row says, b.
 abbrev pub Left : (ℕ → Bool) → ℕ → Bool → Bool → ℕ → Type 0

@@ -1,8 +1,8 @@
 -- `party_fits` meets its contract: its tests are the clauses, in the same order.
 use borrow.Author.Needs.{needs}
-use Rattle.fit.proofs.Laws.Bools.{failed, passed}
-use Rattle.fit.proofs.party_fits.Statement.{statement}
-use Rattle.fit.proofs.party_fits.Tie as tie
+use Rattle.clauses.proofs.Laws.Bools.{failed, passed}
+use Rattle.clauses.proofs.party_fits.Statement.{statement}
+use Rattle.clauses.proofs.party_fits.Tie as tie
 
 ticket-fits-requires : tie.Need-ticket-fits-requires
 ticket-fits-requires c κs = search needs

@@ -2,8 +2,8 @@
 use borrow.Author.Needs.{needs}
 use borrow.Author.Tests.{lt-leb, le-leb, le-ltb, lt-ltb}
 use Rattle.hub.specs.Fits.{inWindow}
-use Rattle.fit.proofs.in_window.Statement.{statement}
-use Rattle.fit.proofs.in_window.Tie as tie
+use Rattle.clauses.proofs.in_window.Statement.{statement}
+use Rattle.clauses.proofs.in_window.Tie as tie
 
 returns : tie.Need-returns
 unfolding inWindow

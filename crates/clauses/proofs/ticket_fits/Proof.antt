@@ -7,8 +7,8 @@ use Rattle.hub.specs.Basics.{allOf}
 use Rattle.hub.specs.Fits.{ticketFits}
 use Rattle.hub.specs.Phases.{isOneOf}
 use Rattle.hub.proofs.Laws.Phases.{allBut, phase-arm}
-use Rattle.fit.proofs.ticket_fits.Statement.{statement}
-use Rattle.fit.proofs.ticket_fits.Tie as tie
+use Rattle.clauses.proofs.ticket_fits.Statement.{statement}
+use Rattle.clauses.proofs.ticket_fits.Tie as tie
 
 ticket-requires : tie.Need-ticket-requires
 ticket-requires c κs = search needs

@@ -1,0 +1,2 @@
+-- Why the code meets its contracts.
+pub mod Laws
