@@ -141,7 +141,7 @@ pub fn party_fits(phase: Phase, place: Place, figures: Figures, oldest: u32, nam
 }
 
 // Is the phase one of a party that stands at ticket t?
-pub fn stands_at(phase: Phase, t: u32) -> bool
+fn stands_at(phase: Phase, t: u32) -> bool
     ensures { λ r. ⌜ r ≡ standsAt phase t ⌝ }
 {
     // mostly it waits
@@ -154,6 +154,22 @@ pub fn stands_at(phase: Phase, t: u32) -> bool
     }
 }
 
+// The ticket whose place is at index i.
+fn ticket_at(oldest: u32, i: usize) -> u32
+    requires { ⌜ (oldest ≤ 1000000) × (i < 256) ⌝ }
+    ensures { λ r. ⌜ r ≡ ticketAt oldest i ⌝ }
+{
+    oldest + (i as u32 + Hub::PLACES - oldest % Hub::PLACES) % Hub::PLACES
+}
+
+// The clause of a place where someone waits, over that party's phase and the place's index.
+pub fn waiter_fits(phase: Phase, oldest: u32, i: usize) -> bool
+    requires { ⌜ (oldest ≤ 1000000) × (i < 256) ⌝ }
+    ensures { λ r. ⌜ r ≡ standsAt phase (ticketAt oldest i) ⌝ }
+{
+    stands_at(phase, ticket_at(oldest, i))
+}
+
 // What is asked of the record apart from its parties, places and radios.
 pub fn figures_and_kinds_fit(opening: Opening, figures: Figures, oldest: u32) -> bool
     ensures { λ r. ⌜ r ≡ figuresFit opening figures oldest && kindsFit opening ⌝ }
@@ -162,12 +178,4 @@ pub fn figures_and_kinds_fit(opening: Opening, figures: Figures, oldest: u32) ->
         return false;
     }
     kinds_fit(opening)
-}
-
-// The ticket whose place is at index i.
-pub fn ticket_at(oldest: u32, i: usize) -> u32
-    requires { ⌜ (oldest ≤ 1000000) × (i < 256) ⌝ }
-    ensures { λ r. ⌜ r ≡ ticketAt oldest i ⌝ }
-{
-    oldest + (i as u32 + Hub::PLACES - oldest % Hub::PLACES) % Hub::PLACES
 }

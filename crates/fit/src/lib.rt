@@ -3,8 +3,7 @@
 use clauses::figures_and_kinds_fit;
 use clauses::in_window;
 use clauses::party_fits;
-use clauses::stands_at;
-use clauses::ticket_at;
+use clauses::waiter_fits;
 use hub::record::Hub;
 use hub::record::Phase;
 use hub::record::Place;
@@ -30,22 +29,22 @@ pub fn fits(hub: Hub) -> bool
     while p < n {
         let slot = hub.slots[p];
         let phase = slot.phase;
+        // no arm of the match below, which would become a table of jumps
         if let Phase::Free = phase {
             p += 1;
             continue;
         }
-        // a party that waits acts on no place
-        if let Phase::Waiting(t) = phase {
-            if !in_window(oldest, figures.issued, t) {
-                return false;
+        let fitting = match phase {
+            // a party that waits acts on no place
+            Phase::Waiting(t) => in_window(oldest, figures.issued, t),
+            _ => {
+                let i = (ticket(phase) % Hub::PLACES) as usize;
+                let seat = hub.places[i];
+                let place = seat.place;
+                party_fits(phase, place, figures, oldest, opening.named)
             }
-            p += 1;
-            continue;
-        }
-        let i = (ticket(phase) % Hub::PLACES) as usize;
-        let seat = hub.places[i];
-        let place = seat.place;
-        if !party_fits(phase, place, figures, oldest, opening.named) {
+        };
+        if !fitting {
             return false;
         }
         p += 1;
@@ -76,28 +75,24 @@ pub fn fits(hub: Hub) -> bool
             }
             b += 1;
         }
-        if !anyone {
-            j += 1;
-            continue;
-        }
-        let mut k: usize = 0;
-        while k < 8 {
-            let i = 8 * j + k;
-            let seat = hub.places[i];
-            let place = seat.place;
-            let Place::Waiting(q) = place else {
+        if anyone {
+            let mut k: usize = 0;
+            while k < 8 {
+                let i = 8 * j + k;
+                let seat = hub.places[i];
+                let place = seat.place;
+                if let Place::Waiting(q) = place {
+                    if 32 <= q {
+                        return false;
+                    }
+                    let slot = hub.slots[q as usize];
+                    let phase = slot.phase;
+                    if !waiter_fits(phase, oldest, i) {
+                        return false;
+                    }
+                }
                 k += 1;
-                continue;
-            };
-            if 32 <= q {
-                return false;
             }
-            let slot = hub.slots[q as usize];
-            let phase = slot.phase;
-            if !stands_at(phase, ticket_at(oldest, i)) {
-                return false;
-            }
-            k += 1;
         }
         j += 1;
     }

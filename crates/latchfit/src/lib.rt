@@ -2,8 +2,7 @@
 // places are the hub's to check.
 
 use clauses::party_fits;
-use clauses::stands_at;
-use clauses::ticket_at;
+use clauses::waiter_fits;
 use hub::record::Figures;
 use hub::record::Hub;
 use hub::record::Phase;
@@ -147,17 +146,15 @@ pub fn fits(latch: Latch) -> bool
             let i = 8 * j + k;
             let seat = latch.places[i];
             let place = seat.place;
-            let Place::Waiting(q) = place else {
-                k += 1;
-                continue;
-            };
-            if 32 <= q {
-                return false;
-            }
-            let slot = latch.slots[q as usize];
-            let phase = slot.phase;
-            if !stands_at(phase, ticket_at(oldest, i)) {
-                return false;
+            if let Place::Waiting(q) = place {
+                if 32 <= q {
+                    return false;
+                }
+                let slot = latch.slots[q as usize];
+                let phase = slot.phase;
+                if !waiter_fits(phase, oldest, i) {
+                    return false;
+                }
             }
             k += 1;
         }

@@ -120,10 +120,11 @@ module _ (h : Hub) (i : ℕ) (b : i < PLACES) where
       ap (λ (s : PlaceSlot). test h i (s .place))
       (read-index (h .places) (ticketAt (h .oldest) i) i (sym (index-of (h .oldest) i b)))
 
-  pub waited : (q : ℕ) → placeAt h i ≡ Place.Waiting q
-      → standsAt (readSlot (h .slots) q .phase) (ticketAt (h .oldest) i)
-      ≡ placeFits h (ticketAt (h .oldest) i)
-  waited q e = ap (test h i) (sym e) ∙ at-index
+  -- The test of the party that is waited for there.
+  pub waiter-test : {r : Bool} (q : ℕ) → placeAt h i ≡ Place.Waiting q
+      → r ≡ standsAt (readSlot (h .slots) q .phase) (ticketAt (h .oldest) i)
+      → r ≡ placeFits h (ticketAt (h .oldest) i)
+  waiter-test q e f = f ∙ ap (test h i) (sym e) ∙ at-index
 
   pub not-waited : OneOf (0 ∷ 2 ∷ 3 ∷ 4 ∷ 5 ∷ []) (tagOf place.the-type (placeAt h i))
       → placeFits h (ticketAt (h .oldest) i) ≡ true

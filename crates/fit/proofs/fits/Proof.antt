@@ -1,5 +1,5 @@
 -- `fits` meets its contract: its tests are the clauses of the definition.
-use Prim.Native.Nat.{ℕ, _+_, _-_, _*_, _≤_}
+use Prim.Native.Nat.{ℕ, _+_, _-_, _*_, _≤_, _<_}
 use borrow.Author.Needs.{needs}
 use borrow.Author.Tests.{not-true, not-false}
 use mathlib.Core.Path.{_≡_, refl, sym, ap, subst, _∙_}
@@ -9,7 +9,7 @@ use native.Mathlib.Omega.{arith}
 use lib.ListN.{length}
 use Rattle.hub.specs.declared.record.Hub.{Hub}
 use Rattle.hub.specs.Basics.{allFrom}
-use Rattle.hub.specs.Fits.{figuresFit, fits, kindsFit, partyFits, placeFits, radiosFit, standsAt}
+use Rattle.hub.specs.Fits.{figuresFit, fits, kindsFit, partyFits, placeFits, radiosFit}
 use Rattle.hub.specs.Record.{readSlot}
 use Rattle.hub.specs.Ring.{readSeat}
 use Rattle.hub.proofs.Laws.Bools.{first, never}
@@ -20,7 +20,7 @@ use Rattle.clauses.proofs.Laws.Ranges.{Left, one-fails, one-passes, none-left, 
 use Rattle.clauses.proofs.Laws.Sizes.{mapped-size}
 use Rattle.fit.proofs.Laws.Clauses.{oldest-small, parties-few, permits-few}
 use Rattle.fit.proofs.Laws.Clauses.{party-test, waiting-test, free-fits, past-parties}
-use Rattle.fit.proofs.Laws.Clauses.{waited, not-waited, stands-nowhere}
+use Rattle.fit.proofs.Laws.Clauses.{waiter-test, not-waited, stands-nowhere}
 use Rattle.fit.proofs.Laws.Clauses.{outline-fails, outlineFits, parties-fail, places-fail, radios-left}
 use Rattle.fit.proofs.fits.Statement.{statement}
 use Rattle.fit.proofs.fits.Tie as tie
@@ -119,41 +119,23 @@ oldest c = oldest-small _ _ _ (figures c)
 size : (c : At tie.Start) → length (c .args .t1 .slots) ≡ 32
 size c = search mapped-size
 
--- The party's test is the definition's; that of one that waits, too.
-abbrev waits : At tie.After-in-window → At tie.In-loop
-waits c = c .before .before .before .before .before .before
+-- The round that a party is tested in; the test is the definition's, of one that waits as of any other.
+abbrev round : At tie.At-match2-came → At tie.In-loop
+round c = c .before .before .before
 
-waiting : (c : At tie.After-in-window)
-    → c .in-window .result ≡ partyFits (hub (waits c .before)) (waits c .before .loop .p)
-unfolding readSlot
-waiting c =
-    waiting-test (hub (waits c .before)) _ _ (waits c .loop-test .taken)
-    (c .before .before .phase .given .1) (c .in-window .ensures)
-
-abbrev acts : At tie.After-party-fits → At tie.In-loop
-acts c = c .before .before .before .before .before .before
-
-told : (c : At tie.After-party-fits)
-    → c .party-fits .result ≡ partyFits (hub (acts c .before)) (acts c .before .loop .p)
+told : (c : At tie.At-match2-came)
+    → c .match2 .fitting ≡ partyFits (hub (round c .before)) (round c .before .loop .p)
 unfolding readSlot readSeat
 told c =
-    let l = acts c in
-    party-test (hub (l .before)) _ _ (l .loop-test .taken) (c .before .before .ticket .ensures)
-    (c .party-fits .ensures)
+    let l = round c in
+    let h = hub (l .before) in
+    ⊎-elim (λ w. w .4 ∙ waiting-test h _ _ (l .loop-test .taken) (w .1 .given .1) (w .3 .ensures))
+    (λ w. w .4 ∙ party-test h _ _ (l .loop-test .taken) (w .1 .ensures) (w .3 .ensures))
+    (c .match2 .came)
 
--- The round of the inner loop; the place's test is the definition's.
-abbrev round : At tie.After-stands-at → At tie.At-loop5
-round c = c .before .before .before .before .before .before .before .before .before
-
-stood : (c : At tie.After-stands-at)
-    → c .stands-at .result
-    ≡ placeFits (hub5 (round c)) (ticketAt (hub5 (round c) .oldest) (index (round c)))
-unfolding readSlot
-stood c =
-    c .stands-at .ensures
-    ∙ ap (standsAt _) (c .before .ticket-at .ensures)
-    ∙ waited (hub5 (round c)) (index (round c)) (omega arith) _
-    (c .before .before .before .before .before .place .given .1)
+-- No index is past the places.
+below : (c : At tie.In-loop5) → index (c .before) < 256
+below c = omega arith
 
 figures-and-kinds-fit-requires : At tie.Need-figures-and-kinds-fit-requires
 figures-and-kinds-fit-requires c κs = search needs
@@ -195,25 +177,6 @@ enum-known-phase c = search needs
 in-window-requires : At tie.Need-in-window-requires
 in-window-requires c κs = oldest (c .before .before .before .before .before .before)
 
-returns-2 : At tie.Need-returns-2
-returns-2 c =
-    let l = waits (c .before) .before in
-    parties-fail _
-    (one-fails _ 32 _ true _ (l .loop .inv) (omega (arith, few l))
-    (failed (waiting (c .before)) (c .if2 .taken)))
-
-add-p-2 : At tie.Need-add-p-2
-add-p-2 c = search needs
-
-loop-less-2 : At tie.Need-loop-less-2
-loop-less-2 c = search needs
-
-loop-again-2 : At tie.Need-loop-again-2
-loop-again-2 c =
-    let l = waits (c .before) .before in
-    one-passes _ 32 _ true _ (l .loop .inv) _ (omega arith) (omega (arith, few l))
-    (passed (waiting (c .before)) (c .if2 .left))
-
 ticket-requires : At tie.Need-ticket-requires
 ticket-requires c κs = search needs
 
@@ -229,24 +192,24 @@ element-copy-out-seat c = search needs
 party-fits-requires : At tie.Need-party-fits-requires
 party-fits-requires c κs = oldest (c .before .before .before .before .before .before)
 
-returns-3 : At tie.Need-returns-3
-returns-3 c =
-    let l = acts (c .before) .before in
+returns-2 : At tie.Need-returns-2
+returns-2 c =
+    let l = round (c .before) .before in
     parties-fail _
     (one-fails _ 32 _ true _ (l .loop .inv) (omega (arith, few l))
-    (failed (told (c .before)) (c .if3 .taken)))
+    (failed (told (c .before)) (c .if2 .taken)))
 
-add-p-3 : At tie.Need-add-p-3
-add-p-3 c = search needs
+add-p-2 : At tie.Need-add-p-2
+add-p-2 c = search needs
 
-loop-less-3 : At tie.Need-loop-less-3
-loop-less-3 c = search needs
+loop-less-2 : At tie.Need-loop-less-2
+loop-less-2 c = search needs
 
-loop-again-3 : At tie.Need-loop-again-3
-loop-again-3 c =
-    let l = acts (c .before) .before in
+loop-again-2 : At tie.Need-loop-again-2
+loop-again-2 c =
+    let l = round (c .before) .before in
     one-passes _ 32 _ true _ (l .loop .inv) _ (omega arith) (omega (arith, few l))
-    (passed (told (c .before)) (c .if3 .left))
+    (passed (told (c .before)) (c .if2 .left))
 
 loop2-holds : At tie.Need-loop2-holds
 loop2-holds c = (omega (arith, c .loop-test .left), c .before .loop .inv)
@@ -260,8 +223,8 @@ element-copy-out-slot-2 c = search needs
 enum-told-2 : At tie.Need-enum-told-2
 enum-told-2 c = search needs
 
-add-p-4 : At tie.Need-add-p-4
-add-p-4 c = search needs
+add-p-3 : At tie.Need-add-p-3
+add-p-3 c = search needs
 
 loop2-less : At tie.Need-loop2-less
 loop2-less c = search needs
@@ -282,11 +245,11 @@ loop2-again c =
           (c .match3 .came),
     )
 
-returns-4 : At tie.Need-returns-4
-returns-4 c =
+returns-3 : At tie.Need-returns-3
+returns-3 c =
     let q = c .before .before in
     parties-fail _
-    (sym (not-true _ (c .if4 .taken))
+    (sym (not-true _ (c .if3 .taken))
     ∙ none-left _ 32 _ (q .loop2 .free) _ (q .loop2 .inv .1) (omega arith))
 
 loop3-holds : At tie.Need-loop3-holds
@@ -327,17 +290,6 @@ loop4-again c =
           (c .match4 .came),
     )
 
-add-j : At tie.Need-add-j
-add-j c = search needs
-
-loop3-less : At tie.Need-loop3-less
-loop3-less c = search needs
-
-loop3-again : At tie.Need-loop3-again
-loop3-again c =
-    let k = c .before .before in
-    moved (hub4 k) (k .loop4 .inv .1 (not-true _ (c .if5 .taken))) (omega (arith, k .loop4 .inv .0))
-
 loop5-holds : At tie.Need-loop5-holds
 loop5-holds c =
     let k = c .before .before in
@@ -358,27 +310,14 @@ element-copy-out-seat-3 c = search needs
 enum-known-place : At tie.Need-enum-known-place
 enum-known-place c = search needs
 
-add-k : At tie.Need-add-k
-add-k c = search needs
-
-loop5-less : At tie.Need-loop5-less
-loop5-less c = search needs
-
-loop5-again : At tie.Need-loop5-again
-loop5-again c =
-    let k = c .before .before .before in (
-      omega arith,
-      one-passes _ 256 _ true _ (k .loop5 .inv .1) _ (omega arith) (omega arith)
-          (not-waited (hub5 k) (index k) (omega arith) (c .match5 .keys2)),
-    )
-
-returns-5 : At tie.Need-returns-5
-returns-5 c =
-    let k = c .before .before .before .before .before .before in
+returns-4 : At tie.Need-returns-4
+returns-4 c =
+    let l = c .before .before .before .before .before in
+    let k = l .before in
     places-fail _
-    (one-fails _ 256 _ true _ (k .loop5 .inv .1) (omega arith)
-    (sym (waited (hub5 k) (index k) (omega arith) _ (c .before .before .place .given .1))
-    ∙ stands-nowhere _ _ _ (size (start (loop (turn5 k)))) (c .if6 .taken)))
+    (one-fails _ 256 _ true _ (k .loop5 .inv .1) (below l)
+    (sym (waiter-test (hub5 k) (index k) (below l) _ (c .before .before .place .given .1)
+    (sym (stands-nowhere _ _ _ (size (start (loop (turn5 k)))) (c .if5 .taken))))))
 
 cast-slot : At tie.Need-cast-slot
 cast-slot c = search needs
@@ -389,60 +328,72 @@ mul-slot-3 c = search needs
 element-copy-out-slot-3 : At tie.Need-element-copy-out-slot-3
 element-copy-out-slot-3 c = search needs
 
-ticket-at-requires : At tie.Need-ticket-at-requires
-ticket-at-requires c κs =
-    let k = c .before .before .before .before .before .before .before in
-    (oldest (loop (turn5 k)), omega arith)
+waiter-fits-requires : At tie.Need-waiter-fits-requires
+waiter-fits-requires c κs =
+    let l = c .before .before .before .before .before .before in
+    (oldest (loop (turn5 (l .before))), below l)
 
-stands-at-requires : At tie.Need-stands-at-requires
-stands-at-requires c κs = search needs
-
-returns-6 : At tie.Need-returns-6
-returns-6 c =
+returns-5 : At tie.Need-returns-5
+unfolding readSlot
+returns-5 c =
+    let l = c .before .before .before .before .before .before .before .before in
+    let k = l .before in
     places-fail _
-    (one-fails _ 256 _ true _ (round (c .before) .loop5 .inv .1) (omega arith)
-    (failed (stood (c .before)) (c .if7 .taken)))
+    (one-fails _ 256 _ true _ (k .loop5 .inv .1) (below l)
+    (failed
+    (waiter-test (hub5 k) (index k) (below l) _ (c .before .before .before .before .before .place .given .1)
+    (c .before .waiter-fits .ensures))
+    (c .if6 .taken)))
 
-add-k-2 : At tie.Need-add-k-2
-add-k-2 c = search needs
+add-k : At tie.Need-add-k
+add-k c = search needs
 
-loop5-less-2 : At tie.Need-loop5-less-2
-loop5-less-2 c = search needs
+loop5-less : At tie.Need-loop5-less
+loop5-less c = search needs
 
-loop5-again-2 : At tie.Need-loop5-again-2
-loop5-again-2 c = (
-  omega arith,
-  one-passes _ 256 _ true _ (round (c .before) .loop5 .inv .1) _ (omega arith) (omega arith)
-      (passed (stood (c .before)) (c .if7 .left)),
-)
+loop5-again : At tie.Need-loop5-again
+unfolding readSlot
+loop5-again c =
+    let l = c .before .before in
+    let k = l .before in (
+      omega arith,
+      one-passes _ 256 _ true _ (k .loop5 .inv .1) _ (omega arith) (below l)
+          (⊎-elim
+          (λ w. passed (waiter-test (hub5 k) (index k) (below l) _ (w .1 .given .1) (w .5 .ensures)) (w .6 .left))
+          (λ w. not-waited (hub5 k) (index k) (below l) (w .keys2))
+          (c .match5 .came)),
+    )
 
-add-j-2 : At tie.Need-add-j-2
-add-j-2 c = search needs
+add-j : At tie.Need-add-j
+add-j c = search needs
 
-loop3-less-2 : At tie.Need-loop3-less-2
-loop3-less-2 c = search needs
+loop3-less : At tie.Need-loop3-less
+loop3-less c = search needs
 
-loop3-again-2 : At tie.Need-loop3-again-2
-loop3-again-2 c =
-    moved (hub5 (c .before)) (c .before .loop5 .inv .1) (omega (arith, c .before .loop5 .inv .0))
+loop3-again : At tie.Need-loop3-again
+loop3-again c =
+    let k = c .before .before in
+    ⊎-elim (λ w. moved (hub4 k) (w .1 .inv .1) (omega (arith, w .1 .inv .0, w .2 .left)))
+    (λ w. moved (hub4 k) (k .loop4 .inv .1 (w .left)) (omega (arith, k .loop4 .inv .0)))
+    (c .if4 .came)
 
 -- Parties and places fit, and the radios are left.
 passes : (l : At tie.At-loop3) → 32 ≤ l .loop3 .j → {r : Bool} → r ≡ radiosFit (hub (loop l)) → r ≡ fits (hub (loop l))
 passes l i e =
     let q = l .before .before .before in
     radios-left _ (outline (loop l))
-    (sym (not-false _ (l .before .if4 .left))
+    (sym (not-false _ (l .before .if3 .left))
     ∙ none-left _ 32 _ (q .loop2 .free) _ (q .loop2 .inv .1) (omega arith))
     (none-left _ 256 _ true _ (l .loop3 .inv) (omega arith)) e
 
-returns-7 : At tie.Need-returns-7
-returns-7 c = passes (c .before .before) (search needs) (sym (unnamed-fit _ (not-true _ (c .if8 .taken))))
+returns-6 : At tie.Need-returns-6
+returns-6 c = passes (c .before .before) (search needs) (sym (unnamed-fit _ (not-true _ (c .if7 .taken))))
 
 radios-fit-requires : At tie.Need-radios-fit-requires
 radios-fit-requires c κs = permits-few _ _ _ (figures (loop (c .before .before)))
 
-returns-8 : At tie.Need-returns-8
-returns-8 c = passes (c .before .before .before) (search needs) (c .radios-fit .ensures)
+returns-7 : At tie.Need-returns-7
+returns-7 c = passes (c .before .before .before) (search needs) (c .radios-fit .ensures)
 
 pub fits-spec : {M : Type 1} → statement M
 fits-spec =
@@ -470,27 +421,23 @@ fits-spec =
     loop-again
     enum-known-phase
     in-window-requires
-    returns-2
-    add-p-2
-    loop-less-2
-    loop-again-2
     ticket-requires
     cast-i
     mul-seat
     element-copy-out-seat
     party-fits-requires
-    returns-3
-    add-p-3
-    loop-less-3
-    loop-again-3
+    returns-2
+    add-p-2
+    loop-less-2
+    loop-again-2
     loop2-holds
     mul-slot-2
     element-copy-out-slot-2
     enum-told-2
-    add-p-4
+    add-p-3
     loop2-less
     loop2-again
-    returns-4
+    returns-3
     loop3-holds
     loop4-holds
     mul-seat-2
@@ -501,31 +448,24 @@ fits-spec =
     add-b
     loop4-less
     loop4-again
-    add-j
-    loop3-less
-    loop3-again
     loop5-holds
     mul-i
     add-i
     mul-seat-4
     element-copy-out-seat-3
     enum-known-place
-    add-k
-    loop5-less
-    loop5-again
-    returns-5
+    returns-4
     cast-slot
     mul-slot-3
     element-copy-out-slot-3
-    ticket-at-requires
-    stands-at-requires
+    waiter-fits-requires
+    returns-5
+    add-k
+    loop5-less
+    loop5-again
+    add-j
+    loop3-less
+    loop3-again
     returns-6
-    add-k-2
-    loop5-less-2
-    loop5-again-2
-    add-j-2
-    loop3-less-2
-    loop3-again-2
-    returns-7
     radios-fit-requires
-    returns-8)
+    returns-7)

@@ -117,10 +117,11 @@ module _ (h : Latch) (i : ℕ) (b : i < PLACES) where
   unfolding placeFits readSeat
   at-index = ap (λ (n : ℕ). test h i (placeAt h n)) (sym (index-of (h .oldest) i b))
 
-  pub waited : (q : ℕ) → placeAt h i ≡ Place.Waiting q
-      → standsAt (readSlot (h .slots) q .phase) (ticketAt (h .oldest) i)
-      ≡ placeFits h (ticketAt (h .oldest) i)
-  waited q e = ap (test h i) (sym e) ∙ at-index
+  -- The test of the party that is waited for there.
+  pub waiter-test : {r : Bool} (q : ℕ) → placeAt h i ≡ Place.Waiting q
+      → r ≡ standsAt (readSlot (h .slots) q .phase) (ticketAt (h .oldest) i)
+      → r ≡ placeFits h (ticketAt (h .oldest) i)
+  waiter-test q e f = f ∙ ap (test h i) (sym e) ∙ at-index
 
   pub not-waited : OneOf (0 ∷ 2 ∷ 3 ∷ 4 ∷ 5 ∷ []) (tagOf place.the-type (placeAt h i))
       → placeFits h (ticketAt (h .oldest) i) ≡ true

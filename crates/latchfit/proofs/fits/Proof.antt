@@ -1,15 +1,14 @@
 -- `fits` meets its contract: its tests are the clauses of the definition.
-use Prim.Native.Nat.{ℕ, _+_, _-_, _*_, _≤_}
+use Prim.Native.Nat.{ℕ, _+_, _-_, _*_, _≤_, _<_}
 use borrow.Author.Needs.{needs}
 use borrow.Author.Tests.{not-true, not-false}
-use mathlib.Core.Path.{_≡_, refl, sym, ap, subst, _∙_}
+use mathlib.Core.Path.{_≡_, refl, sym, subst, _∙_}
 use mathlib.Core.Bool.{Bool, true}
 use mathlib.Core.Logic.{⊎-elim}
 use native.Mathlib.Omega.{arith}
 use lib.ListN.{length}
 use Rattle.latch.specs.declared.record.Latch.{Latch}
 use Rattle.hub.specs.Basics.{allFrom}
-use Rattle.hub.specs.Fits.{standsAt}
 use Rattle.hub.specs.Ring.{readSeat}
 use Rattle.clauses.specs.Window.{ticketAt}
 use Rattle.clauses.proofs.Laws.Bools.{failed, passed}
@@ -19,7 +18,7 @@ use Rattle.latch.specs.Fits.{figuresFit, partyFits, placeFits}
 use Rattle.latch.specs.Record.{readSlot}
 use Rattle.latchfit.proofs.Laws.Clauses.{oldest-small, parties-few}
 use Rattle.latchfit.proofs.Laws.Clauses.{party-test, free-fits, past-parties}
-use Rattle.latchfit.proofs.Laws.Clauses.{waited, not-waited, stands-nowhere}
+use Rattle.latchfit.proofs.Laws.Clauses.{waiter-test, not-waited, stands-nowhere}
 use Rattle.latchfit.proofs.Laws.Clauses.{figures-fail, parties-fail, places-fail, all-fit}
 use Rattle.latchfit.proofs.fits.Statement.{statement}
 use Rattle.latchfit.proofs.fits.Tie as tie
@@ -108,19 +107,9 @@ told c =
     party-test (record-of (l .before)) _ _ (l .loop-test .taken) (c .before .before .ticket .ensures)
     (c .member-fits .ensures)
 
--- The round of the inner loop; the place's test is the definition's.
-abbrev round : At tie.After-stands-at → At tie.At-loop4
-round c = c .before .before .before .before .before .before .before .before .before
-
-stood : (c : At tie.After-stands-at)
-    → c .stands-at .result
-    ≡ placeFits (record4 (round c)) (ticketAt (record4 (round c) .oldest) (index (round c)))
-unfolding readSlot
-stood c =
-    c .stands-at .ensures
-    ∙ ap (standsAt _) (c .before .ticket-at .ensures)
-    ∙ waited (record4 (round c)) (index (round c)) (omega arith) _
-    (c .before .before .before .before .before .place .given .1)
+-- No index is past the places.
+below : (c : At tie.In-loop4) → index (c .before) < 256
+below c = omega arith
 
 figures-fit-requires : At tie.Need-figures-fit-requires
 figures-fit-requires c κs = search needs
@@ -253,27 +242,14 @@ element-copy-out-seat-2 c = search needs
 enum-known-place : At tie.Need-enum-known-place
 enum-known-place c = search needs
 
-add-k : At tie.Need-add-k
-add-k c = search needs
-
-loop4-less : At tie.Need-loop4-less
-loop4-less c = search needs
-
-loop4-again : At tie.Need-loop4-again
-loop4-again c =
-    let k = c .before .before .before in (
-      omega arith,
-      one-passes _ 256 _ true _ (k .loop4 .inv .1) _ (omega arith) (omega arith)
-          (not-waited (record4 k) (index k) (omega arith) (c .match3 .keys2)),
-    )
-
 returns-4 : At tie.Need-returns-4
 returns-4 c =
-    let k = c .before .before .before .before .before .before in
+    let l = c .before .before .before .before .before in
+    let k = l .before in
     places-fail _
-    (one-fails _ 256 _ true _ (k .loop4 .inv .1) (omega arith)
-    (sym (waited (record4 k) (index k) (omega arith) _ (c .before .before .place .given .1))
-    ∙ stands-nowhere _ _ _ (size (start (loop (k .before .before)))) (c .if4 .taken)))
+    (one-fails _ 256 _ true _ (k .loop4 .inv .1) (below l)
+    (sym (waiter-test (record4 k) (index k) (below l) _ (c .before .before .place .given .1)
+    (sym (stands-nowhere _ _ _ (size (start (loop (k .before .before)))) (c .if4 .taken))))))
 
 cast-slot : At tie.Need-cast-slot
 cast-slot c = search needs
@@ -284,32 +260,41 @@ mul-slot-3 c = search needs
 element-copy-out-slot-3 : At tie.Need-element-copy-out-slot-3
 element-copy-out-slot-3 c = search needs
 
-ticket-at-requires : At tie.Need-ticket-at-requires
-ticket-at-requires c κs =
-    let k = c .before .before .before .before .before .before .before in
-    (oldest (loop (k .before .before)), omega arith)
-
-stands-at-requires : At tie.Need-stands-at-requires
-stands-at-requires c κs = search needs
+waiter-fits-requires : At tie.Need-waiter-fits-requires
+waiter-fits-requires c κs =
+    let l = c .before .before .before .before .before .before in
+    (oldest (loop (l .before .before .before)), below l)
 
 returns-5 : At tie.Need-returns-5
+unfolding readSlot
 returns-5 c =
+    let l = c .before .before .before .before .before .before .before .before in
+    let k = l .before in
     places-fail _
-    (one-fails _ 256 _ true _ (round (c .before) .loop4 .inv .1) (omega arith)
-    (failed (stood (c .before)) (c .if5 .taken)))
+    (one-fails _ 256 _ true _ (k .loop4 .inv .1) (below l)
+    (failed
+    (waiter-test (record4 k) (index k) (below l) _ (c .before .before .before .before .before .place .given .1)
+    (c .before .waiter-fits .ensures))
+    (c .if5 .taken)))
 
-add-k-2 : At tie.Need-add-k-2
-add-k-2 c = search needs
+add-k : At tie.Need-add-k
+add-k c = search needs
 
-loop4-less-2 : At tie.Need-loop4-less-2
-loop4-less-2 c = search needs
+loop4-less : At tie.Need-loop4-less
+loop4-less c = search needs
 
-loop4-again-2 : At tie.Need-loop4-again-2
-loop4-again-2 c = (
-  omega arith,
-  one-passes _ 256 _ true _ (round (c .before) .loop4 .inv .1) _ (omega arith) (omega arith)
-      (passed (stood (c .before)) (c .if5 .left)),
-)
+loop4-again : At tie.Need-loop4-again
+unfolding readSlot
+loop4-again c =
+    let l = c .before .before in
+    let k = l .before in (
+      omega arith,
+      one-passes _ 256 _ true _ (k .loop4 .inv .1) _ (omega arith) (below l)
+          (⊎-elim
+          (λ w. passed (waiter-test (record4 k) (index k) (below l) _ (w .1 .given .1) (w .5 .ensures)) (w .6 .left))
+          (λ w. not-waited (record4 k) (index k) (below l) (w .keys2))
+          (c .match3 .came)),
+    )
 
 add-j : At tie.Need-add-j
 add-j c = search needs
@@ -376,19 +361,15 @@ fits-spec =
     mul-seat-2
     element-copy-out-seat-2
     enum-known-place
-    add-k
-    loop4-less
-    loop4-again
     returns-4
     cast-slot
     mul-slot-3
     element-copy-out-slot-3
-    ticket-at-requires
-    stands-at-requires
+    waiter-fits-requires
     returns-5
-    add-k-2
-    loop4-less-2
-    loop4-again-2
+    add-k
+    loop4-less
+    loop4-again
     add-j
     loop3-less
     loop3-again
