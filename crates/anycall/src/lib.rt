@@ -6,8 +6,11 @@ use hub::answers::Answer;
 use hub::answers::Refusal;
 use hub::moves::Op;
 use hub::moves::Sight;
+use hub::record::Control;
 use hub::record::Hub;
 use hub::record::Outcome;
+use hub::record::PartySlot;
+use hub::record::PlaceSlot;
 use pool::moving::move_radio;
 use ring::PlaceRing;
 use ring::reclaim;
@@ -19,37 +22,52 @@ use transition::tidy::is_untidy;
 ghost use mathlib.Core.Path.{_≡_};
 ghost use Rattle.hub.specs.Answers.{printed};
 ghost use Rattle.hub.specs.Calls.{called};
+ghost use Rattle.hub.specs.Record.{ofFields};
 
-// Check, look, store and tidy stand in one function, since a record that is handed
-// on is copied; what goes to other functions is small. A refused call stores what was there, and so do 37 and 39.
-pub fn call(mut hub: Hub, op: Op, party: u8) -> Outcome
-    ensures { λ r. ⌜ (r ≡ called hub (record { op = op; party = party }))
-        × (printed (r .answer) ≡ printed (called hub (record { op = op; party = party }) .answer)) ⌝ }
+// Over the fields of a record, which a shell hands over as they lie. Check, look, store and tidy stand in one function, since a
+// record that is handed on is copied; what goes to other functions is small. A refused call stores what was there, and so
+// do 37 and 39.
+pub fn call_fields(
+    op: Op,
+    party: u8,
+    mut control: Control,
+    mut places: [PlaceSlot; 256],
+    mut slots: [PartySlot; 32],
+) -> Outcome
+    ensures { λ r. ⌜ r ≡ called (ofFields control places slots) (record { op = op; party = party }) ⌝ }
 {
-    if !fits(hub) {
+    if !fits(control, places, slots) {
         return Outcome {
             answer: Answer::Refused(Refusal::Unfit),
-            hub,
+            hub: Hub {
+                control,
+                places,
+                slots,
+            },
         };
     }
-    if hub.opening.parties <= party {
+    if control.opening.parties <= party {
         return Outcome {
             answer: Answer::Refused(Refusal::NoSuchParty),
-            hub,
+            hub: Hub {
+                control,
+                places,
+                slots,
+            },
         };
     }
     let p = party as usize;
-    let slot = hub.slots[p];
+    let slot = slots[p];
     let t = seat_index(slot);
-    let seat = hub.places[t];
+    let seat = places[t];
     let q = waiter_at(seat);
     let w = (q % 32) as usize;
-    let near = hub.slots[w];
+    let near = slots[w];
     let waiter = slot_within(q, near);
-    let figures = hub.figures;
-    let hands = hub.pool.hands;
+    let figures = control.figures;
+    let hands = control.pool.hands;
     let radio = hands[p];
-    let kinds = hub.opening.kinds;
+    let kinds = control.opening.kinds;
     let kind = kinds[p];
     let s = Sight {
         party,
@@ -58,48 +76,70 @@ pub fn call(mut hub: Hub, op: Op, party: u8) -> Outcome
         seat,
         waiter,
         figures,
-        named: hub.opening.named,
+        named: control.opening.named,
         radio,
-        stocked: 0 < hub.pool.stored,
+        stocked: 0 < control.pool.stored,
     };
-    let slots = hub.slots;
-    let e = decide(op, hub.oldest, slots, s);
+    let e = decide(op, control.oldest, slots, s);
     let woken = e.woken;
     if woken < 32 {
         let v = woken as usize;
         let woke = e.waiter;
-        hub.slots[v] = woke;
+        slots[v] = woke;
     }
     let own = e.slot;
-    hub.slots[p] = own;
+    slots[p] = own;
     let put = e.seat;
-    hub.places[t] = put;
+    places[t] = put;
     let after = e.figures;
-    hub.figures = after;
+    control.figures = after;
     let answer = e.answer;
-    if hub.opening.named {
-        let pool = hub.pool;
+    if control.opening.named {
+        let pool = control.pool;
         let moved = move_radio(answer, party, pool);
-        hub.pool = moved;
+        control.pool = moved;
     }
     // the tidying, if there is any
-    let r = (hub.figures.resumed % Hub::PLACES) as usize;
-    let o = (hub.oldest % Hub::PLACES) as usize;
-    let next = hub.places[r];
-    let first = hub.places[o];
+    let r = (control.figures.resumed % Hub::PLACES) as usize;
+    let o = (control.oldest % Hub::PLACES) as usize;
+    let next = places[r];
+    let first = places[o];
     if !is_untidy(next, first) {
-        return Outcome { answer, hub };
+        return Outcome {
+            answer,
+            hub: Hub {
+                control,
+                places,
+                slots,
+            },
+        };
     }
-    let places = hub.places;
     let ring = PlaceRing {
-        resumed: hub.figures.resumed,
-        oldest: hub.oldest,
+        resumed: control.figures.resumed,
+        oldest: control.oldest,
         places,
     };
     let tidied = reclaim(ring, e.turns);
-    hub.figures.resumed = tidied.resumed;
-    hub.oldest = tidied.oldest;
+    control.figures.resumed = tidied.resumed;
+    control.oldest = tidied.oldest;
     let left = tidied.places;
-    hub.places = left;
-    Outcome { answer, hub }
+    Outcome {
+        answer,
+        hub: Hub {
+            control,
+            places: left,
+            slots,
+        },
+    }
+}
+
+// The same over a whole record.
+pub fn call(hub: Hub, op: Op, party: u8) -> Outcome
+    ensures { λ r. ⌜ (r ≡ called hub (record { op = op; party = party }))
+        × (printed (r .answer) ≡ printed (called hub (record { op = op; party = party }) .answer)) ⌝ }
+{
+    let control = hub.control;
+    let places = hub.places;
+    let slots = hub.slots;
+    call_fields(op, party, control, places, slots)
 }

@@ -14,7 +14,7 @@ use Rattle.hub.specs.declared.record.Pool.{Pool}
 use Rattle.hub.specs.Opening.{nobody, opening}
 use Rattle.hub.specs.Schedule.{run}
 use Rattle.hub.specs.declared.opening.Opening.{Opening}
-use Rattle.hub.specs.Record.{ofFields}
+use Rattle.hub.specs.Record.{controlOf, ofFields}
 use Rattle.encoding.specs.Form.{Form, replySize}
 use Rattle.encoding.specs.Frame.{isCall, opOf}
 use Rattle.line.specs.Program.{repliesIn}
@@ -40,7 +40,7 @@ replied form h n requests out =
 
 -- The record that the loop's parts make. Its figures have the next ticket to resume, not its ring.
 abbrev pub ofParts : Opening → Figures → PlaceRing → List PartySlot → Pool → Hub
-ofParts opening figures ring slots pool = ofFields opening figures (ring .oldest) (ring .places) slots pool
+ofParts opening figures ring slots pool = ofFields (controlOf opening figures (ring .oldest) pool) (ring .places) slots
 
 -- What an accepted opening and a list of calls lead to: such a record needs no check.
 pub record Reachable (h : Hub) : Type 0 where

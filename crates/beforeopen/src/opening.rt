@@ -34,7 +34,7 @@ pub struct Begun {
 pub fn is_open(hub: Hub) -> bool
     ensures { λ r. ⌜ r ≡ isOpen hub ⌝ }
 {
-    1 <= hub.opening.permits
+    1 <= hub.control.opening.permits
 }
 
 // 12, or 13 for a call.

@@ -2,13 +2,11 @@
 // at rest. A shell takes the hub by reference, hands its fields to a function over them, which calls the by-value
 // core, and stores the record that comes back, as in the crate board.
 
-use hub::Figures;
+use hub::Control;
 use hub::Hub;
 use hub::Op;
-use hub::Opening;
 use hub::PartySlot;
 use hub::PlaceSlot;
-use hub::Pool;
 use operations::Operated;
 use operations::Told;
 ghost use mathlib.Core.Path.{_≡_};
@@ -19,23 +17,17 @@ ghost use Rattle.operations.specs.Operation.{operated, toldOf};
 fn operate_fields(
     op: Op,
     party: u8,
-    opening: Opening,
-    figures: Figures,
-    oldest: u32,
+    control: Control,
     places: [PlaceSlot; 256],
     slots: [PartySlot; 32],
-    pool: Pool,
 ) -> Operated
-    ensures { λ r. ⌜ r ≡ operated (ofFields opening figures oldest places slots pool)
+    ensures { λ r. ⌜ r ≡ operated (ofFields control places slots)
         (record { op = op; party = party }) ⌝ }
 {
     let hub = Hub {
-        opening,
-        figures,
-        oldest,
+        control,
         places,
         slots,
-        pool,
     };
     torest::operate(hub, op, party)
 }
@@ -46,16 +38,7 @@ pub fn operate(hub: &mut Hub, op: Op, party: u8) -> Told
         × (printed (r .answer) ≡ printed (operated (now (hub .entry)) (record { op = op; party = party }) .answer))
         × (now (hub .exit) ≡ operated (now (hub .entry)) (record { op = op; party = party }) .hub) ⌝ }
 {
-    let o = operate_fields(
-        op,
-        party,
-        hub.opening,
-        hub.figures,
-        hub.oldest,
-        hub.places,
-        hub.slots,
-        hub.pool,
-    );
+    let o = operate_fields(op, party, hub.control, hub.places, hub.slots);
     *hub = o.hub;
     Told {
         answer: o.answer,

@@ -2,4 +2,3 @@
 pub mod Bools
 pub mod Ranges
 pub mod Listed
-pub mod Sizes

@@ -26,7 +26,7 @@ pub(crate) fn put_closing(hub: Hub, out: &mut [u8])
     let p = Print {
         code: 0x7E,
         woken: c.waiting,
-        number: counter_number(hub.figures),
+        number: counter_number(hub.control.figures),
     };
     put_line(out, c.held as u8, p);
 }

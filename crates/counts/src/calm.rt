@@ -11,9 +11,9 @@ pub fn steps_to_calm(hub: Hub) -> u64
 {
     let slots = hub.slots;
     let drawing = count_drawing(slots) as u64;
-    let parties = hub.opening.parties as u64;
-    let drawn = (hub.figures.issued as u64) + drawing;
-    let handed = hub.figures.resumed as u64;
+    let parties = hub.control.opening.parties as u64;
+    let drawn = (hub.control.figures.issued as u64) + drawing;
+    let handed = hub.control.figures.resumed as u64;
     if drawn < handed {
         return 5 * parties;
     }

@@ -131,7 +131,7 @@ pub fn counts(hub: Hub) -> Counts
         Phase::Waiting(0),
         Phase::Waiting(0),
     );
-    let available = at_counter(hub.figures.counter);
+    let available = at_counter(hub.control.figures.counter);
     if declined <= coming {
         return Counts {
             held,

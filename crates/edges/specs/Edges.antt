@@ -213,10 +213,10 @@ sameAnswer a b = eqb (a .code) (b .code) && eqb (a .woken) (b .woken) && eqb (a 
 unfoldable pub goes : ℕ → ℕ → ℤ → Hub → List Row → Bool
 goes a b z h [] =
     eqb (count holds (phasesOf (h .slots))) a && eqb (count isWaiting (phasesOf (h .slots))) b
-    && sameℤ (h .figures .counter) z
+    && sameℤ (h .control .figures .counter) z
 goes a b z h (r ∷ rs) =
     let o = called h (r .call) in
-    sameℤ (h .figures .counter) (r .counter) && sameAnswer (printed (o .answer)) (r .answer)
+    sameℤ (h .control .figures .counter) (r .counter) && sameAnswer (printed (o .answer)) (r .answer)
     && goes a b z (o .hub) rs
 
 unfoldable pub holdsAt : Edge → Bool

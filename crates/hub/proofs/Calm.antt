@@ -27,7 +27,7 @@ use Rattle.hub.specs.Ledger.{phaseIn}
 use Rattle.hub.specs.Look.{look, seenBy}
 use Rattle.hub.specs.Moves.{Move, Refuse, Tell, Act, Put, Wake}
 use Rattle.hub.specs.Opening.{fresh, opening}
-use Rattle.hub.specs.Phases.{atRest, drawsTicket}
+use Rattle.hub.specs.Phases.{atRest, drawsTicket, isOneOf}
 use Rattle.hub.specs.Queue.{Queue, phases}
 use Rattle.hub.specs.Queue as queue
 use Rattle.hub.specs.Record.{phasesOf}
@@ -37,7 +37,7 @@ use Rattle.hub.specs.Table.{decide}
 use Rattle.hub.proofs.Laws.Bools.{second}
 use Rattle.hub.proofs.Laws.Opening.{kept-opening, run-opening}
 use Rattle.hub.proofs.Laws.Table.{isListed}
-use Rattle.hub.proofs.Invariant.Weights.{drawing, radioed, sum, count-pick}
+use Rattle.hub.proofs.Invariant.Weights.{drawing, radioed, pick, sum, count-pick}
 use Rattle.hub.proofs.Invariant.Tickets.{drawing-most, resumed-most}
 use Rattle.hub.proofs.Invariant.Keep.{Inv}
 use Rattle.hub.proofs.Invariant.Potential.{toCalm, most-to-calm, potential}
@@ -108,7 +108,7 @@ module _ (k : ℕ) (k₁ : 1 ≤ k) (k₂ : k ≤ 32) where
   record Within (h : Hub) (w : ℕ) : Type 0 where
     pub queue : Queue
     pub reached : Reached k h queue
-    pub unnamed : h .opening .named ≡ false
+    pub unnamed : h .control .opening .named ≡ false
     pub near : potential queue ≤ w
 
   move-same : (h : Hub) (m : Queue) (p : ℕ) → Reached k h m
@@ -189,7 +189,7 @@ module _ (k : ℕ) (k₁ : 1 ≤ k) (k₂ : k ≤ 32) where
 -- At the start: five for each party, and twice the bracket.
 parties-most : (n : ℕ) (l : List Phase) → ((i : ℕ) → n ≤ i → phaseIn l i ≡ Phase.Free)
     → weight toCalm l ≤ 5 * n
-unfolding weight
+unfolding weight pick isOneOf
 parties-most n [] e = omega arith
 parties-most zero (x ∷ l) e =
     omega (arith, ap toCalm (e 0 (omega arith)), parties-most zero l (λ i j. e (suc i) (omega arith)))
@@ -219,7 +219,7 @@ module _ (o : Opening) (e : opening o .answer ≡ Answer.Opened) (unnamed : o .n
         count-pick (Acquiring ∷ Suspending ∷ AcquiringMarked ∷ SuspendingMarked ∷ []) (phases m),
       )
 
-  whole : hub .figures .resumed ≤ drawnAndToDraw hub
+  whole : hub .control .figures .resumed ≤ drawnAndToDraw hub
   whole =
       omega (
         arith,
@@ -236,7 +236,7 @@ module _ (o : Opening) (e : opening o .answer ≡ Answer.Opened) (unnamed : o .n
         reached = reached;
         unnamed =
             ap (λ (x : Opening). x .named)
-            (run-opening (opening o .hub) cs ∙ ap (λ (h : Hub). h .opening) (start o e .hub))
+            (run-opening (opening o .hub) cs ∙ ap (λ (h : Hub). h .control .opening) (start o e .hub))
             ∙ unnamed;
         near =
             omega (

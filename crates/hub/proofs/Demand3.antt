@@ -189,7 +189,7 @@ ring-sum o l g v s b w x y =
 pub ring-count : (k : ℕ) (h : Hub) (m : Queue) → Tracks k h m → (w : Place → ℕ)
     → w Place.Empty ≡ 0 → w Place.Done ≡ 0 → cellSum w m ≡ weight w (placesOf (h .places))
 ring-count k h m r w =
-    ring-sum (h .oldest) (h .places) (m .cells) (r .shows .window) (r .size)
+    ring-sum (h .control .oldest) (h .places) (m .cells) (r .shows .window) (r .size)
     (omega (arith, low (tracked r), near (r .inv .tickets))) w
 
 -- The unserved waits are those that will draw a ticket and those that live with one.

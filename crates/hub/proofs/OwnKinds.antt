@@ -49,10 +49,10 @@ module _ (o : Opening) (w : WithoutKinds o) where
   pub opened-before : opening o ≡ openingBefore o
   opened-before = without-last o (linkTests o) (kindTests o) (kinds-pass o (w .counted) known desk)
 
-module _ (h : Hub) (w : WithoutKinds (h .opening)) where
+module _ (h : Hub) (w : WithoutKinds (h .control .opening)) where
   fits-before : fits h ≡ stateFits h
   unfolding fits
-  fits-before = ap (λ (b : Bool). stateFits h && b) (old-fit (h .opening) w) ∙ and-true (stateFits h)
+  fits-before = ap (λ (b : Bool). stateFits h && b) (old-fit (h .control .opening) w) ∙ and-true (stateFits h)
 
   looks-before : (p : ℕ) → look h p ≡ lookBefore h p
   unfolding seenBy
@@ -62,21 +62,21 @@ module _ (h : Hub) (w : WithoutKinds (h .opening)) where
   unfolding calledBefore
   called-before c = λ i. calledBy (fits-before i) (looks-before (c .party) i) h c
 
-  pub still-without : (c : Call) → WithoutKinds (called h c .hub .opening)
+  pub still-without : (c : Call) → WithoutKinds (called h c .hub .control .opening)
   still-without c = subst WithoutKinds (sym (kept-opening h _ _)) w
 
 pub calls-as-before : CallsAsBefore
 unfolding CallsAsBefore
 calls-as-before h w c = called-before h w c
 
-pub answers-before : (h : Hub) → WithoutKinds (h .opening) → (cs : List Call) → answers h cs ≡ answersBefore h cs
+pub answers-before : (h : Hub) → WithoutKinds (h .control .opening) → (cs : List Call) → answers h cs ≡ answersBefore h cs
 unfolding answers answersBefore
 answers-before h w [] = refl
 answers-before h w (c ∷ cs) =
     ap (λ (l : List Answer). called h c .answer ∷ l) (answers-before (called h c .hub) (still-without h w c) cs)
     ∙ ap (λ (x : Outcome). x .answer ∷ answersBefore (x .hub) cs) (called-before h w c)
 
-pub run-before : (h : Hub) → WithoutKinds (h .opening) → (cs : List Call) → run h cs ≡ runBefore h cs
+pub run-before : (h : Hub) → WithoutKinds (h .control .opening) → (cs : List Call) → run h cs ≡ runBefore h cs
 unfolding run runBefore
 run-before h w [] = refl
 run-before h w (c ∷ cs) =
@@ -84,18 +84,18 @@ run-before h w (c ∷ cs) =
     ∙ ap (λ (x : Outcome). runBefore (x .hub) cs) (called-before h w c)
 
 -- What a refused opening hands back holds the built-in table.
-after-test : (b : Bool) (r : Refusal) (x : Outcome) → WithoutKinds (x .hub .opening)
-    → WithoutKinds (cond b x (notOpened r) .hub .opening)
+after-test : (b : Bool) (r : Refusal) (x : Outcome) → WithoutKinds (x .hub .control .opening)
+    → WithoutKinds (cond b x (notOpened r) .hub .control .opening)
 unfolding fresh
 after-test true r x w = w
 after-test false r x w = record { kinds = refl; counted = refl }
 
-all-without : (o : Opening) → WithoutKinds o → (ts : List Test) → WithoutKinds (openingIf ts o .hub .opening)
+all-without : (o : Opening) → WithoutKinds o → (ts : List Test) → WithoutKinds (openingIf ts o .hub .control .opening)
 unfolding openingIf fresh
 all-without o w [] = w
 all-without o w (t ∷ ts) = after-test (t .passed) (t .why) (openingIf ts o) (all-without o w ts)
 
-pub opened-without : (o : Opening) → WithoutKinds o → WithoutKinds (opening o .hub .opening)
+pub opened-without : (o : Opening) → WithoutKinds o → WithoutKinds (opening o .hub .control .opening)
 opened-without o w = all-without o w (tests o)
 
 pub as-before : AsBefore

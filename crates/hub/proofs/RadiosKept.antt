@@ -42,8 +42,8 @@ use Rattle.hub.proofs.Demand3.{ring-count, schedule, start}
 pub radios-kept : RadiosKept
 unfolding RadiosKept fresh
 radios-kept o e n cs b =
-    let same : run (opening o .hub) cs .opening ≡ o =
-    run-opening (opening o .hub) cs ∙ ap (λ (h : Hub). h .opening) (start o e .hub) in
+    let same : run (opening o .hub) cs .control .opening ≡ o =
+    run-opening (opening o .hub) cs ∙ ap (λ (h : Hub). h .control .opening) (start o e .hub) in
     let kept = schedule o e cs .reached .radios (ap (λ (x : Opening). x .named) same ∙ n) in
     kept .same b ∙ ap (λ (x : Opening). occurs b (radiosOf x)) same
 
@@ -76,7 +76,7 @@ module _ (k : ℕ) (h : Hub) (m : Queue) (r : Reached k h m) (p : ℕ)
           rest-settled (phaseIn (phases m) q)
           (ap atRest (sym (read-same k h m (r .tracks) q)) ∙ others q z)
 
-  present : p < h .opening .parties
+  present : p < h .control .opening .parties
   present =
       omega (
         arith,
@@ -101,7 +101,7 @@ module _ (k : ℕ) (h : Hub) (m : Queue) (r : Reached k h m) (p : ℕ)
           every-phase (λ f. bit (hasRadio f) + fetching f ≤ holding f + bit (not (settled f)))
           (λ t. omega arith)
 
-  stocked : 1 ≤ h .pool .stored
+  stocked : 1 ≤ h .control .pool .stored
   unfolding pick isOneOf isPlaceOf
   stocked =
       let t = r .tracks in
@@ -121,13 +121,13 @@ module _ (k : ℕ) (h : Hub) (m : Queue) (r : Reached k h m) (p : ℕ)
   unfolding checked decide stepIn stepFetching seenBy
   comes a b =
       ap₂ (λ (x y : Bool). answerOf (checked x y (decide Op.Step full (look h p))))
-      (reached-fits k h m r a b) (lt-ltb p (h .opening .parties) present)
+      (reached-fits k h m r a b) (lt-ltb p (h .control .opening .parties) present)
       ∙ ap (λ (f : Phase). answerOf (stepIn f (look h p))) e
       ∙ ap (λ (x : Bool). answerOf (stepFetching x (look h p)))
-      (le-leb 1 (h .pool .stored) stocked)
+      (le-leb 1 (h .control .pool .stored) stocked)
     where
       full : Bool
-      full = isFull (h .oldest) (h .figures .issued) (h .slots)
+      full = isFull (h .control .oldest) (h .control .figures .issued) (h .slots)
 
 pub radio-comes : RadioComes
 unfolding RadioComes

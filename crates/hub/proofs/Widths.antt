@@ -120,29 +120,29 @@ unfolding rowIn acquire cancel release tellRadio
 decided s few = calls-alike s writesSmall true (λ t q. rw (le-leb (s .party) 255 few)) (λ x. refl)
 
 -- A caller that is not refused is below n, and n is at most 32.
-few-parties : (h : Hub) → fits h ≡ true → h .opening .parties ≤ 32
+few-parties : (h : Hub) → fits h ≡ true → h .control .opening .parties ≤ 32
 unfolding fits stateFits figuresFit
 few-parties h e =
     let parties = allFrom (partyFits h) 0 PARTIES in
-    let places = allFrom (placeFits h) (h .oldest) PLACES in
-    let f = figuresFit (h .opening) (h .figures) (h .oldest) in
-    let state = first (stateFits h) (kindsFit (h .opening)) e in
+    let places = allFrom (placeFits h) (h .control .oldest) PLACES in
+    let f = figuresFit (h .control .opening) (h .control .figures) (h .control .oldest) in
+    let state = first (stateFits h) (kindsFit (h .control .opening)) e in
     let all = first f parties (first (f && parties) places (first (f && parties && places) (radiosFit h) state)) in
-    let n = clause 1 (figuresClauses (h .opening) (h .figures) (h .oldest)) all in
-    leb-true (h .opening .parties) 32 (second (leb 1 (h .opening .parties)) _ n)
+    let n = clause 1 (figuresClauses (h .control .opening) (h .control .figures) (h .control .oldest)) all in
+    leb-true (h .control .opening .parties) 32 (second (leb 1 (h .control .opening .parties)) _ n)
 
 moved-small : (h : Hub) (c : Call) → writesSmall (moveOf h c) ≡ true
 unfolding checked seenBy
-moved-small h c = go (fits h) refl (ltb (c .party) (h .opening .parties)) refl
+moved-small h c = go (fits h) refl (ltb (c .party) (h .control .opening .parties)) refl
   where
-    go : (a : Bool) → fits h ≡ a → (b : Bool) → ltb (c .party) (h .opening .parties) ≡ b
+    go : (a : Bool) → fits h ≡ a → (b : Bool) → ltb (c .party) (h .control .opening .parties) ≡ b
         → writesSmall (checked a b
-        (decide (c .op) (isFull (h .oldest) (h .figures .issued) (h .slots)) (look h (c .party)))) ≡ true
+        (decide (c .op) (isFull (h .control .oldest) (h .control .figures .issued) (h .slots)) (look h (c .party)))) ≡ true
     go false e b f = refl
     go true e false f = refl
     go true e true f =
         decided (look h (c .party))
-        (omega (arith, few-parties h e, ltb-true (c .party) (h .opening .parties) f)) (c .op) _
+        (omega (arith, few-parties h e, ltb-true (c .party) (h .control .opening .parties) f)) (c .op) _
 
 called-small : (h : Hub) (c : Call) → UpTo 255 h → UpTo 255 (called h c .hub)
 called-small h c u = applied-small h (look h (c .party)) (moveOf h c) u (moved-small h c)

@@ -37,8 +37,8 @@ checked true true m = m
 
 abbrev pub moveOf : Hub → Call → Move
 moveOf h c =
-    checked (fits h) (ltb (c .party) (h .opening .parties))
-    (decide (c .op) (isFull (h .oldest) (h .figures .issued) (h .slots)) (look h (c .party)))
+    checked (fits h) (ltb (c .party) (h .control .opening .parties))
+    (decide (c .op) (isFull (h .control .oldest) (h .control .figures .issued) (h .slots)) (look h (c .party)))
 
 -- The slot of party p and the figures change.
 abbrev pub acted : Hub → ℕ → Change → Hub
@@ -54,10 +54,10 @@ woken h q s = withSlots (writeSlot (h .slots) q s) h
 
 -- The tidying.
 abbrev pub ringOf : Hub → Ring
-ringOf h = record { resumed = h .figures .resumed; oldest = h .oldest; places = h .places }
+ringOf h = record { resumed = h .control .figures .resumed; oldest = h .control .oldest; places = h .places }
 
 abbrev pub withRing : Hub → Ring → Hub
-withRing h r = withParts (withResumed (r .resumed) (h .figures)) (r .oldest) (r .places) (h .slots) (h .pool) h
+withRing h r = withParts (withResumed (r .resumed) (h .control .figures)) (r .oldest) (r .places) (h .slots) (h .control .pool) h
 
 unfoldable pub tidied : Hub → Hub
 tidied h = withRing h (reclaimed (ringOf h))
@@ -87,6 +87,6 @@ called h c =
     record {
       answer = answerOf m;
       hub =
-          withPool (poolAfter (h .opening .named) (printed (answerOf m)) (c .party) (h .pool))
+          withPool (poolAfter (h .control .opening .named) (printed (answerOf m)) (c .party) (h .control .pool))
           (apply h (look h (c .party)) m);
     }

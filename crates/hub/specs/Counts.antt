@@ -22,7 +22,7 @@ countsOf h =
     let declined = count refuses phases + count isRefused places in
     record {
       held = count holds phases;
-      available = atCounter (h .figures .counter);
+      available = atCounter (h .control .figures .counter);
       coming = coming;
       declined = declined;
       onway = coming - declined;

@@ -40,7 +40,7 @@ pub record Accounts (k : ℕ) (e : Ledger) (h : Hub) : Type 0 where
   pub wayWhole : declined e ≤ coming e
   -- The record shows the same: its phases, its counter, its link and refused places.
   pub phases : phasesOf (h .slots) ≡ e .phases
-  pub counter : h .figures .counter ≡ e .counter
+  pub counter : h .control .figures .counter ≡ e .counter
   pub permits : count isPermit (placesOf (h .places)) ≡ permitPlaces e
   pub refusals : count isRefused (placesOf (h .places)) ≡ refusedPlaces e
   -- The parties that hold are as many as the permits held, and at most K.

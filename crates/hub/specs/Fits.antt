@@ -77,8 +77,8 @@ placeListed x a =
 unfoldable pub partyFits : Hub → ℕ → Bool
 partyFits h p =
     let f = readSlot (h .slots) p .phase in
-    (ltb p (h .opening .parties) || isFree f) && ticketFits (h .figures) (h .oldest) f
-    && placeListed f (look h p .seat .place) && implies (ofRadios f) (h .opening .named)
+    (ltb p (h .control .opening .parties) || isFree f) && ticketFits (h .control .figures) (h .control .oldest) f
+    && placeListed f (look h p .seat .place) && implies (ofRadios f) (h .control .opening .named)
 
 abbrev pub standsAt : Phase → ℕ → Bool
 standsAt f t = stands f && eqb (ticketOf f) t
@@ -92,9 +92,9 @@ placeFits h t =
 -- one place, or stored.
 unfoldable pub radiosFit : Hub → Bool
 radiosFit h =
-    radiosDiffer (h .opening)
-    && implies (h .opening .named)
-    (rearranged (radiosIn (h .slots) (h .places) (h .pool)) (radiosOf (h .opening)))
+    radiosDiffer (h .control .opening)
+    && implies (h .control .opening .named)
+    (rearranged (radiosIn (h .slots) (h .places) (h .control .pool)) (radiosOf (h .control .opening)))
 
 -- A record whose kinds an opening is refused for does not fit.
 unfoldable pub kindsFit : Opening → Bool
@@ -103,8 +103,8 @@ kindsFit o = allPassed (kindTests o)
 -- All but the kinds: K, n and the figures, all 32 parties, the places of all 256 tickets, and the radios.
 unfoldable pub stateFits : Hub → Bool
 stateFits h =
-    figuresFit (h .opening) (h .figures) (h .oldest) && allFrom (partyFits h) 0 PARTIES
-    && allFrom (placeFits h) (h .oldest) PLACES && radiosFit h
+    figuresFit (h .control .opening) (h .control .figures) (h .control .oldest) && allFrom (partyFits h) 0 PARTIES
+    && allFrom (placeFits h) (h .control .oldest) PLACES && radiosFit h
 
 unfoldable pub fits : Hub → Bool
-fits h = stateFits h && kindsFit (h .opening)
+fits h = stateFits h && kindsFit (h .control .opening)

@@ -41,7 +41,7 @@ seenBy slot seat f o q p =
     sightOn f o q p (slot p) a (byWaiter freeSlot slot (a .place))
 
 abbrev pub look : Hub → ℕ → Sight
-look h = seenBy (readSlot (h .slots)) (readSeat (h .places)) (h .figures) (h .opening) (h .pool)
+look h = seenBy (readSlot (h .slots)) (readSeat (h .places)) (h .control .figures) (h .control .opening) (h .control .pool)
 
 -- A sight of a party of another kind; of a hub with radios or without; with another place and another waiter.
 abbrev pub withKind : ℕ → Sight → Sight

@@ -15,7 +15,7 @@ use Rattle.hub.specs.declared.record.Pool.{Pool}
 use Rattle.hub.specs.Basics.{allOf, implies, upTo32}
 use Rattle.hub.specs.Kinds.{builtIn, hasDesk, kindsKnown}
 use Rattle.hub.specs.Radios.{STORE, differ, radiosOf, padded}
-use Rattle.hub.specs.Record.{PARTIES, emptySeat, freeSlot}
+use Rattle.hub.specs.Record.{PARTIES, controlOf, emptySeat, freeSlot, ofFields}
 use Rattle.hub.specs.Ring.{PLACES}
 
 -- Opening 01: K and n. Without kinds the parties have those of the built-in table, here and in 02.
@@ -73,14 +73,7 @@ poolAt o =
 -- The record of a hub just opened.
 unfoldable pub fresh : Opening → Hub
 fresh o =
-    record {
-      opening = o;
-      figures = figuresAt o;
-      oldest = 0;
-      places = replicate PLACES emptySeat;
-      slots = replicate PARTIES freeSlot;
-      pool = poolAt o;
-    }
+    ofFields (controlOf o (figuresAt o) 0 (poolAt o)) (replicate PLACES emptySeat) (replicate PARTIES freeSlot)
 
 -- A refused opening makes no record; what stands in its place refuses every call by 1.
 abbrev pub nobody : Opening

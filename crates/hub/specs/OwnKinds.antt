@@ -24,7 +24,7 @@ use Rattle.hub.specs.Record.{withPool}
 
 -- No schedule changes the kinds.
 unfoldable pub KindsKept : Type 0
-KindsKept = (h : Hub) (cs : List Call) → run h cs .opening .kinds ≡ h .opening .kinds
+KindsKept = (h : Hub) (cs : List Call) → run h cs .control .opening .kinds ≡ h .control .opening .kinds
 
 -- The old table meets neither 16 nor 17.
 unfoldable pub OldTableFits : Type 0
@@ -46,11 +46,11 @@ lookBefore h p = withKind (kindIn builtIn p) (look h p)
 -- A call by what was found of the record, and by what it looked at.
 abbrev pub calledBy : Bool → Sight → Hub → Call → Outcome
 calledBy fit s h c =
-    let full = isFull (h .oldest) (h .figures .issued) (h .slots) in
-    let m = checked fit (ltb (c .party) (h .opening .parties)) (decide (c .op) full s) in
+    let full = isFull (h .control .oldest) (h .control .figures .issued) (h .slots) in
+    let m = checked fit (ltb (c .party) (h .control .opening .parties)) (decide (c .op) full s) in
     record {
       answer = answerOf m;
-      hub = withPool (poolAfter (h .opening .named) (printed (answerOf m)) (c .party) (h .pool)) (apply h s m);
+      hub = withPool (poolAfter (h .control .opening .named) (printed (answerOf m)) (c .party) (h .control .pool)) (apply h s m);
     }
 
 unfoldable pub calledBefore : Hub → Call → Outcome
@@ -58,7 +58,7 @@ calledBefore h c = calledBy (stateFits h) (lookBefore h (c .party)) h c
 
 -- On every record with the built-in table, reached or not, a call is what it was.
 unfoldable pub CallsAsBefore : Type 0
-CallsAsBefore = (h : Hub) → WithoutKinds (h .opening) → (c : Call) → called h c ≡ calledBefore h c
+CallsAsBefore = (h : Hub) → WithoutKinds (h .control .opening) → (c : Call) → called h c ≡ calledBefore h c
 
 unfoldable pub answersBefore : Hub → List Call → List Answer
 answersBefore h [] = []

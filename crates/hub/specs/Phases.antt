@@ -91,8 +91,11 @@ abbrev pub holds : Phase → Bool
 holds = isOneOf (Holding ∷ Releasing ∷ Fetching ∷ [])
 
 -- And has a radio, on a hub with radios, in these.
+abbrev pub WITH-RADIO : List Phase
+WITH-RADIO = Holding ∷ Releasing ∷ Storing ∷ Resuming ∷ ResumingAt 0 ∷ []
+
 abbrev pub hasRadio : Phase → Bool
-hasRadio = isOneOf (Holding ∷ Releasing ∷ Storing ∷ Resuming ∷ ResumingAt 0 ∷ [])
+hasRadio = isOneOf WITH-RADIO
 
 -- Fetching and putting back are phases of a hub with radios alone.
 abbrev pub RADIO-PHASES : List Phase

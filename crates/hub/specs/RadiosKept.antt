@@ -24,7 +24,7 @@ unfoldable pub RadiosKept : Type 0
 RadiosKept =
     (o : Opening) → opening o .answer ≡ Answer.Opened → o .named ≡ true → (cs : List Call)
     → let h = run (opening o .hub) cs in
-    (b : ℕ) → occurs b (radiosIn (h .slots) (h .places) (h .pool)) ≡ occurs b (radiosOf o)
+    (b : ℕ) → occurs b (radiosIn (h .slots) (h .places) (h .control .pool)) ≡ occurs b (radiosOf o)
 
 -- 37 is not for good: a fetching party gets its radio as soon as all others are at rest.
 unfoldable pub RadioComes : Type 0

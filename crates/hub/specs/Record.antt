@@ -3,6 +3,7 @@ use Prim.Native.Nat.{ℕ}
 use mathlib.Core.List.{List, map}
 use lib.ListN.{getD, set}
 use Rattle.hub.specs.declared.opening.Opening.{Opening}
+use Rattle.hub.specs.declared.record.Control.{Control}
 use Rattle.hub.specs.declared.record.Figures.{Figures}
 use Rattle.hub.specs.declared.record.Hub.{Hub}
 use Rattle.hub.specs.declared.record.PartySlot.{PartySlot}
@@ -46,30 +47,26 @@ phasesOf l = map (λ s. s .phase) l
 abbrev pub placesOf : List PlaceSlot → List Place
 placesOf l = map (λ s. s .place) l
 
--- A record of these fields.
-abbrev pub ofFields : Opening → Figures → ℕ → List PlaceSlot → List PartySlot → Pool → Hub
-ofFields opening figures oldest places slots pool =
-    record {
-      opening = opening;
-      figures = figures;
-      oldest = oldest;
-      places = places;
-      slots = slots;
-      pool = pool;
-    }
+-- A control block of these values; a record of these fields.
+abbrev pub controlOf : Opening → Figures → ℕ → Pool → Control
+controlOf opening figures oldest pool =
+    record { opening = opening; figures = figures; oldest = oldest; pool = pool }
+
+abbrev pub ofFields : Control → List PlaceSlot → List PartySlot → Hub
+ofFields control places slots = record { control = control; places = places; slots = slots }
 
 -- The record with all that a call may change; with other figures, places, slots or radios, and all else as it was.
 abbrev pub withParts : Figures → ℕ → List PlaceSlot → List PartySlot → Pool → Hub → Hub
-withParts f o a l q h = ofFields (h .opening) f o a l q
+withParts f o a l q h = ofFields (controlOf (h .control .opening) f o q) a l
 
 abbrev pub withFigures : Figures → Hub → Hub
-withFigures f h = withParts f (h .oldest) (h .places) (h .slots) (h .pool) h
+withFigures f h = withParts f (h .control .oldest) (h .places) (h .slots) (h .control .pool) h
 
 abbrev pub withPlaces : List PlaceSlot → Hub → Hub
-withPlaces a h = withParts (h .figures) (h .oldest) a (h .slots) (h .pool) h
+withPlaces a h = ofFields (h .control) a (h .slots)
 
 abbrev pub withSlots : List PartySlot → Hub → Hub
-withSlots l h = withParts (h .figures) (h .oldest) (h .places) l (h .pool) h
+withSlots l h = ofFields (h .control) (h .places) l
 
 abbrev pub withPool : Pool → Hub → Hub
-withPool q h = withParts (h .figures) (h .oldest) (h .places) (h .slots) q h
+withPool q h = withParts (h .control .figures) (h .control .oldest) (h .places) (h .slots) q h

@@ -29,11 +29,11 @@ pub record Window (o : ℕ) (l : List PlaceSlot) (g : ℕ → PlaceSlot) : Type 
 
 -- The record h shows the queue m.
 pub record Shows (h : Hub) (m : Queue) : Type 0 where
-  pub opening : h .opening ≡ m .opening
-  pub figures : h .figures ≡ m .figures
+  pub opening : h .control .opening ≡ m .opening
+  pub figures : h .control .figures ≡ m .figures
   pub slots : h .slots ≡ m .slots
-  pub window : Window (h .oldest) (h .places) (m .cells)
-  pub pool : h .pool ≡ m .pool
+  pub window : Window (h .control .oldest) (h .places) (m .cells)
+  pub pool : h .control .pool ≡ m .pool
 
 abbrev pub isSeven : Answer → Bool
 isSeven r = eqb (printed r .code) 7

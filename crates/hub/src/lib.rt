@@ -13,6 +13,7 @@ pub use answers::Refusal;
 pub use moves::Call;
 pub use moves::Op;
 pub use opening::Opening;
+pub use record::Control;
 pub use record::Figures;
 pub use record::Hub;
 pub use record::Outcome;

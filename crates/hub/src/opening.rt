@@ -1,5 +1,6 @@
 // An opening, and the record of a hub that was just opened: "The counter, signed, K at opening".
 
+use crate::record::Control;
 use crate::record::Figures;
 use crate::record::Hub;
 use crate::record::Pool;
@@ -52,12 +53,14 @@ impl Hub {
         let empty = empty_seat();
         let free = free_slot();
         Hub {
-            opening: o,
-            figures: figures_at(o),
-            oldest: 0,
+            control: Control {
+                opening: o,
+                figures: figures_at(o),
+                oldest: 0,
+                pool: pool_at(o),
+            },
             places: [empty; 256],
             slots: [free; 32],
-            pool: pool_at(o),
         }
     }
 }

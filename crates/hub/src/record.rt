@@ -61,13 +61,18 @@ pub struct Pool {
     pub stored: u32, // how many are stored
 }
 
-pub struct Hub {
+// The control block of a hub: all but its places and its slots.
+pub struct Control {
     pub opening: Opening, // what it was opened with
     pub figures: Figures,
     pub oldest: u32, // the first ticket that has a place
+    pub pool: Pool,
+}
+
+pub struct Hub {
+    pub control: Control,
     pub places: [PlaceSlot; 256], // a ring: that of ticket t is at t modulo 256
     pub slots: [PartySlot; 32],
-    pub pool: Pool,
 }
 
 impl Hub {

@@ -8,7 +8,7 @@ use lib.ListN.{getD}
 use Rattle.hub.specs.declared.record.Figures.{Figures}
 use Rattle.hub.specs.declared.record.Hub.{Hub}
 use Rattle.hub.specs.declared.record.PartySlot.{PartySlot}
-use Rattle.hub.specs.Record.{PARTIES, freeSlot, withPhase}
+use Rattle.hub.specs.Record.{PARTIES, controlOf, freeSlot, ofFields, withPhase}
 use Rattle.cells.specs.Bytes.{each, numberAt}
 use Rattle.cells.specs.Phases.{marked, phaseNamed}
 use Rattle.cells.specs.Places.{placesAt}
@@ -40,11 +40,4 @@ slotsIn b = each PARTIES (slotIn b)
 
 abbrev pub recordIn : List ℕ → Hub
 recordIn b =
-    record {
-      opening = openingOfBytes b;
-      figures = figuresIn b;
-      oldest = numberAt b 18;
-      places = placesAt b 22;
-      slots = slotsIn b;
-      pool = poolIn b;
-    }
+    ofFields (controlOf (openingOfBytes b) (figuresIn b) (numberAt b 18) (poolIn b)) (placesAt b 22) (slotsIn b)

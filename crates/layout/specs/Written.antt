@@ -15,12 +15,12 @@ use Rattle.radiobytes.specs.Written.{radioBytes}
 -- K, n, the figures, and the first ticket that has a place: 22 bytes.
 abbrev pub figureBytes : Hub → List ℕ
 figureBytes h =
-    (h .opening .permits ∷ h .opening .parties ∷ [])
-    ++ fourOf (twosComplement (h .figures .counter))
-    ++ fourOf (h .figures .issued)
-    ++ fourOf (h .figures .resumed)
-    ++ fourOf (h .figures .begun)
-    ++ fourOf (h .oldest)
+    (h .control .opening .permits ∷ h .control .opening .parties ∷ [])
+    ++ fourOf (twosComplement (h .control .figures .counter))
+    ++ fourOf (h .control .figures .issued)
+    ++ fourOf (h .control .figures .resumed)
+    ++ fourOf (h .control .figures .begun)
+    ++ fourOf (h .control .oldest)
 
 -- The parties: 32 times a phase and a ticket; apart from them their marks.
 abbrev pub phaseBytes : List PartySlot → List ℕ
@@ -34,6 +34,6 @@ recordBytes h =
     figureBytes h
     ++ placeBytes (h .places)
     ++ phaseBytes (h .slots)
-    ++ radioBytes (h .opening) (h .slots) (h .places) (h .pool)
+    ++ radioBytes (h .control .opening) (h .slots) (h .places) (h .control .pool)
     ++ markBytes (h .slots)
-    ++ h .opening .kinds
+    ++ h .control .opening .kinds

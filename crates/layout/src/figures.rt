@@ -43,12 +43,17 @@ pub(crate) fn figure_bytes(hub: Hub) -> [u8; 22]
     ensures { λ r. ⌜ r ≡ figureBytes hub ⌝ }
 {
     let mut out = [0u8; 22];
-    let figures = hub.figures;
-    let size = [hub.opening.permits, hub.opening.parties];
+    let figures = hub.control.figures;
+    let size = [hub.control.opening.permits, hub.control.opening.parties];
     put_bytes_at(&mut out, 0, &size);
     let counter = number_bytes(twos_complement(figures.counter));
     put_bytes_at(&mut out, 2, &counter);
-    let numbers = four_numbers(figures.issued, figures.resumed, figures.begun, hub.oldest);
+    let numbers = four_numbers(
+        figures.issued,
+        figures.resumed,
+        figures.begun,
+        hub.control.oldest,
+    );
     put_bytes_at(&mut out, 6, &numbers);
     out
 }

@@ -11,6 +11,7 @@ use cells::number::put_bytes_at;
 use cells::number::put_few;
 use figures::figure_bytes;
 use figures::figures_of;
+use hub::record::Control;
 use hub::record::Hub;
 use parties::marks_of;
 use parties::phase_bytes;
@@ -33,13 +34,16 @@ pub fn record_of(bytes: &[u8]) -> Hub
     let places = places_at(bytes, 22);
     let slots = slots_of(bytes);
     let pool = pool_of(bytes);
-    Hub {
+    let control = Control {
         opening,
         figures,
         oldest,
+        pool,
+    };
+    Hub {
+        control,
         places,
         slots,
-        pool,
     }
 }
 
@@ -55,10 +59,10 @@ pub fn record_bytes(hub: Hub) -> [u8; 1881]
     let slots = hub.slots;
     let phases = phase_bytes(slots);
     put_bytes_at(&mut out, 1302, &phases);
-    let radios = radio_bytes(hub.opening, slots, places, hub.pool);
+    let radios = radio_bytes(hub.control.opening, slots, places, hub.control.pool);
     put_bytes_at(&mut out, 1462, &radios);
     put_few(&mut out, 1817, marks_of(slots));
-    let kinds = hub.opening.kinds;
+    let kinds = hub.control.opening.kinds;
     put_few(&mut out, 1849, kinds);
     out
 }

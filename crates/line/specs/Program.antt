@@ -22,7 +22,7 @@ abbrev pub unopened : Hub
 unopened = fresh nobody
 
 abbrev pub isOpen : Hub → Bool
-isOpen h = leb 1 (h .opening .permits)
+isOpen h = leb 1 (h .control .opening .permits)
 
 -- What a line is answered.
 pub record Reply : Type 0 where
@@ -101,7 +101,7 @@ closing h =
     let phases = phasesOf (h .slots) in
     textOf
     (frameOf (count holds phases)
-    (record { code = 0x7E; woken = count isWaiting phases; number = twosComplement (h .figures .counter) }))
+    (record { code = 0x7E; woken = count isWaiting phases; number = twosComplement (h .control .figures .counter) }))
 
 -- The whole output.
 unfoldable pub outputOf : List ℕ → List ℕ

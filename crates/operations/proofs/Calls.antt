@@ -84,19 +84,19 @@ onward h c y h′ f e cs = sym (ap (λ (o : Outcome). fits (run (o .hub) cs)) e)
 
 -- A call on a record that fits.
 module _ (h : Hub) (c : Call) where
-  pub allowed : fits h ≡ true → ltb (c .party) (h .opening .parties) ≡ true
-      → moveOf h c ≡ decide (c .op) (isFull (h .oldest) (h .figures .issued) (h .slots)) (look h (c .party))
+  pub allowed : fits h ≡ true → ltb (c .party) (h .control .opening .parties) ≡ true
+      → moveOf h c ≡ decide (c .op) (isFull (h .control .oldest) (h .control .figures .issued) (h .slots)) (look h (c .party))
   unfolding checked
   allowed f b = λ i.
       checked (f i) (b i)
-      (decide (c .op) (isFull (h .oldest) (h .figures .issued) (h .slots)) (look h (c .party)))
+      (decide (c .op) (isFull (h .control .oldest) (h .control .figures .issued) (h .slots)) (look h (c .party)))
 
   pub called-by : (m : Move) → moveOf h c ≡ m
       → called h c
       ≡ record {
         answer = answerOf m;
         hub =
-            withPool (poolAfter (h .opening .named) (printed (answerOf m)) (c .party) (h .pool))
+            withPool (poolAfter (h .control .opening .named) (printed (answerOf m)) (c .party) (h .control .pool))
             (apply h (look h (c .party)) m);
       }
   called-by m e =
@@ -105,12 +105,12 @@ module _ (h : Hub) (c : Call) where
       record {
         answer = answerOf v;
         hub =
-            withPool (poolAfter (h .opening .named) (printed (answerOf v)) (c .party) (h .pool))
+            withPool (poolAfter (h .control .opening .named) (printed (answerOf v)) (c .party) (h .control .pool))
             (apply h (look h (c .party)) v);
       })
       e
 
-pub step-by : (h : Hub) (p : ℕ) (x : Phase) → fits h ≡ true → ltb p (h .opening .parties) ≡ true
+pub step-by : (h : Hub) (p : ℕ) (x : Phase) → fits h ≡ true → ltb p (h .control .opening .parties) ≡ true
     → readSlot (h .slots) p .phase ≡ x → moveOf h (stepBy p) ≡ stepIn x (look h p)
 unfolding decide seenBy
 step-by h p x f b e =
@@ -131,7 +131,7 @@ tidied-same h e = λ i. withRing h (tidy-same (ringOf h) e i)
 abbrev pub to : PartySlot → Phase → Figures → Answer → Change
 to s x f y = record { slot = withPhase x s; figures = f; answer = y }
 
-module _ (h : Hub) (p : ℕ) (inside : p < length (h .slots)) (present : ltb p (h .opening .parties) ≡ true)
+module _ (h : Hub) (p : ℕ) (inside : p < length (h .slots)) (present : ltb p (h .control .opening .parties) ≡ true)
   where
     -- The record, with figures f and party p in phase x.
     abbrev pub now : Figures → Phase → Hub
@@ -139,7 +139,7 @@ module _ (h : Hub) (p : ℕ) (inside : p < length (h .slots)) (present : ltb p (
 
     -- The radios after an answer.
     abbrev pub radios : Answer → Pool
-    radios y = poolAfter (h .opening .named) (printed y) p (h .pool)
+    radios y = poolAfter (h .control .opening .named) (printed y) p (h .control .pool)
 
     -- Its slot there, which is as it was but for the phase.
     abbrev pub slot-in : Figures → Phase → PartySlot
@@ -214,15 +214,15 @@ module _ (h : Hub) (p : ℕ) (inside : p < length (h .slots)) (present : ltb p (
           put g u = writeSeat (h .places) u (withPlace a (byTicket emptySeat (readSeat (h .places)) g))
 
     -- Where nothing is drawn to resume the tidying does nothing; and where no radio moves either, that is all.
-    module _ (tidy : Tidy (ringOf h)) (f : Figures) (x : Phase) (same : f .resumed ≡ h .figures .resumed) where
+    module _ (tidy : Tidy (ringOf h)) (f : Figures) (x : Phase) (same : f .resumed ≡ h .control .figures .resumed) where
       pub tidied-now : tidied (now f x) ≡ now f x
       tidied-now = tidied-same (now f x) (subst (λ (n : ℕ). Tidy (ring n)) (sym same) tidy)
         where
           ring : ℕ → Ring
-          ring n = record { resumed = n; oldest = h .oldest; places = h .places }
+          ring n = record { resumed = n; oldest = h .control .oldest; places = h .places }
 
-      pub quiet : (y : Answer) → moved (printed y) p (h .pool) ≡ h .pool
+      pub quiet : (y : Answer) → moved (printed y) p (h .control .pool) ≡ h .control .pool
           → withPool (radios y) (tidied (now f x)) ≡ now f x
       quiet y e =
-          ap (λ (q : Pool). withPool q (tidied (now f x))) (still (h .opening .named) (printed y) p (h .pool) e)
-          ∙ ap (withPool (h .pool)) tidied-now
+          ap (λ (q : Pool). withPool q (tidied (now f x))) (still (h .control .opening .named) (printed y) p (h .control .pool) e)
+          ∙ ap (withPool (h .control .pool)) tidied-now

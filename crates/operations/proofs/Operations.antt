@@ -47,8 +47,8 @@ refused-by h c r e =
     operated-alone h c (Answer.Refused r)
     (called-by h c (Refuse r) e
     ∙ ap (λ (q : Pool). record { answer = Answer.Refused r; hub = withPool q h })
-    (still (h .opening .named) (printed (Answer.Refused r)) (c .party) (h .pool)
-    (unmoved (printed (Answer.Refused r)) (c .party) (h .pool) (few-refusals r))))
+    (still (h .control .opening .named) (printed (Answer.Refused r)) (c .party) (h .control .pool)
+    (unmoved (printed (Answer.Refused r)) (c .party) (h .control .pool) (few-refusals r))))
     refl (refusal-code r)
 
 -- An operation is refused or accepted.
@@ -109,10 +109,10 @@ module _ (h : Hub) (a : AtRest h) where
   refused c r e = record { same = refused-by h c r e; rest = a .calm }
 
   abbrev full : Bool
-  full = isFull (h .oldest) (h .figures .issued) (h .slots)
+  full = isFull (h .control .oldest) (h .control .figures .issued) (h .slots)
 
   -- No such party, or what the call decides.
-  in-turn : (c : Call) (b : Bool) → ltb (c .party) (h .opening .parties) ≡ b
+  in-turn : (c : Call) (b : Bool) → ltb (c .party) (h .control .opening .parties) ≡ b
       → (b ≡ true → By c (decide (c .op) full (look h (c .party))))
       → Comes h c (operatedAtRest h c)
   unfolding operatedAtRest checked
@@ -125,7 +125,7 @@ module _ (h : Hub) (a : AtRest h) where
       (λ j. checked (fits-now h (a .fit) j) (e j) (decide (c .op) full (look h (c .party)))) in
       subst (λ (v : Move). Comes h c (byMove v h c)) (sym i) (refused c Refusal.NoSuchParty i)
 
-  module _ (p : ℕ) (present : ltb p (h .opening .parties) ≡ true) where
+  module _ (p : ℕ) (present : ltb p (h .control .opening .parties) ≡ true) where
     abbrev phase : Phase
     phase = readSlot (h .slots) p .phase
 
@@ -135,17 +135,17 @@ module _ (h : Hub) (a : AtRest h) where
     asks false y z f e = refused _ Refusal.NotFree e
     asks true true z f e = refused _ Refusal.Exhausted e
     asks true false true f e = refused _ Refusal.Full e
-    asks true false false f e = go (aboveZero (h .figures .counter)) refl
+    asks true false false f e = go (aboveZero (h .control .figures .counter)) refl
       where
-        go : (b : Bool) → aboveZero (h .figures .counter) ≡ b
+        go : (b : Bool) → aboveZero (h .control .figures .counter) ≡ b
             → Comes h (record { op = Op.Acquire; party = p }) (acquired b h p)
         go true i = ask-permit h a p present e i
         go false i =
             ask-wait h a p present e i
             (omega (
               arith,
-              leb-false (h .oldest + PLACES)
-                  (h .figures .issued + count drawsTicket (phasesOf (h .slots))) f,
+              leb-false (h .control .oldest + PLACES)
+                  (h .control .figures .issued + count drawsTicket (phasesOf (h .slots))) f,
             ))
 
     -- Whoever can give up and is at rest waits.
@@ -162,15 +162,15 @@ module _ (h : Hub) (a : AtRest h) where
     gives-up true true i e = refused _ Refusal.NotCancellable e
     gives-up true false i e =
         give-up h a p present (ticketOf phase) (can-wait i)
-        (e ∙ ap (λ (f : Phase). Act (to (readSlot (h .slots) p) (givenUp f) (h .figures) Answer.Accepted)) (can-wait i))
+        (e ∙ ap (λ (f : Phase). Act (to (readSlot (h .slots) p) (givenUp f) (h .control .figures) Answer.Accepted)) (can-wait i))
 
     gives-back : (x : Bool) → isHolding phase ≡ x
         → By (record { op = Op.Release; party = p }) (release x (look h p))
     unfolding release seenBy
     gives-back false i e = refused _ Refusal.NotHolding e
-    gives-back true i e = go (belowZero (h .figures .counter)) refl
+    gives-back true i e = go (belowZero (h .control .figures .counter)) refl
       where
-        go : (b : Bool) → belowZero (h .figures .counter) ≡ b
+        go : (b : Bool) → belowZero (h .control .figures .counter) ≡ b
             → Comes h (record { op = Op.Release; party = p }) (released b h p)
         go false j = give-back h a p present e j
         go true j =

@@ -205,7 +205,7 @@ module _ (k : ℕ) (h : Hub) (m : Queue) (r : Reached k h m) (tidy : Tidy (ringO
   rest p = rest-settled (phaseIn (phases m) p) (at-ease p)
 
   -- the figures of both
-  fig : {A : Type 0} (w : Figures → A) → w (h .figures) ≡ w (m .figures)
+  fig : {A : Type 0} (w : Figures → A) → w (h .control .figures) ≡ w (m .figures)
   fig w = ap w (r .tracks .shows .figures)
 
   -- Nobody brings a permit, refuses one, or will draw a ticket.
@@ -261,7 +261,7 @@ module _ (k : ℕ) (h : Hub) (m : Queue) (r : Reached k h m) (tidy : Tidy (ringO
 
   -- So no place holds or refuses one.
   no-place : (w : Place → ℕ) → w Empty ≡ 0 → w Done ≡ 0 → cellSum w m ≡ 0 → (t : ℕ)
-      → h .oldest ≤ t → t < h .oldest + PLACES → w (places m t) ≡ 0
+      → h .control .oldest ≤ t → t < h .control .oldest + PLACES → w (places m t) ≡ 0
   no-place w x y z t a b =
       omega (
         arith,
@@ -272,33 +272,33 @@ module _ (k : ℕ) (h : Hub) (m : Queue) (r : Reached k h m) (tidy : Tidy (ringO
       )
 
   -- A place is a cell of the queue.
-  place-cell : (t : ℕ) (a : Place) → h .oldest ≤ t → t < h .oldest + PLACES → places m t ≡ a
+  place-cell : (t : ℕ) (a : Place) → h .control .oldest ≤ t → t < h .control .oldest + PLACES → places m t ≡ a
       → readPlace (h .places) t ≡ a
   place-cell t a i j e =
       ap (λ (s : PlaceSlot). s .place) (sym (r .tracks .shows .window .within t i j)) ∙ e
 
-  oldest : h .oldest ≡ resumed
+  oldest : h .control .oldest ≡ resumed
   unfolding isPlaceOf
-  oldest = go (decLe resumed (h .oldest))
+  oldest = go (decLe resumed (h .control .oldest))
     where
-      go : Dec (resumed ≤ h .oldest) → h .oldest ≡ resumed
+      go : Dec (resumed ≤ h .control .oldest) → h .control .oldest ≡ resumed
       go (yes i) = omega (arith, low (tracked (r .tracks)))
       go (no i) =
-          let c = done-cell (places m (h .oldest))
+          let c = done-cell (places m (h .control .oldest))
           (omega (
             arith,
-            inv .tickets .at (h .oldest) .handed,
-            no-hands (h .oldest),
-            lt-yes (h .oldest) resumed (omega arith),
+            inv .tickets .at (h .control .oldest) .handed,
+            no-hands (h .control .oldest),
+            lt-yes (h .control .oldest) resumed (omega arith),
           ))
-          (no-place permitCell refl refl permits-none (h .oldest) (omega arith) (omega arith)) in
+          (no-place permitCell refl refl permits-none (h .control .oldest) (omega arith) (omega arith)) in
           let y : true ≡ false =
-          sym (ap isDone (place-cell (h .oldest) Done (omega arith) (omega arith) c)) ∙ tidy .unretired in
+          sym (ap isDone (place-cell (h .control .oldest) Done (omega arith) (omega arith) c)) ∙ tidy .unretired in
           let z : _≡_ {A = ℕ} 0 1 = cc in let w : ⊥ = omega arith in absurd w
 
   -- The party that waits with ticket t, and its place.
   waits : (p t : ℕ) → phaseIn (phases m) p ≡ Waiting t
-      → (places m t ≡ WaitedBy p) × (resumed ≤ t) × (t < issued) × (h .oldest ≤ t) × (t < h .oldest + PLACES)
+      → (places m t ≡ WaitedBy p) × (resumed ≤ t) × (t < issued) × (h .control .oldest ≤ t) × (t < h .control .oldest + PLACES)
   unfolding pick isOneOf
   waits p t e = (
     cell ∙ ap WaitedBy same-party,
@@ -314,7 +314,7 @@ module _ (k : ℕ) (h : Hub) (m : Queue) (r : Reached k h m) (tidy : Tidy (ringO
       stood : (weight (stage t) (phases m) ≡ stage t (Waiting t)) × (t < issued) × (t < TICKETS)
       stood = mine (inv .tickets) p t (Waiting t) e (omega (arith, same-self t))
 
-      place : (h .oldest ≤ t) × (t < h .oldest + PLACES)
+      place : (h .control .oldest ≤ t) × (t < h .control .oldest + PLACES)
       place = has-place (tracked (r .tracks)) p t (omega (arith, owns))
 
       q : ℕ
@@ -334,7 +334,7 @@ module _ (k : ℕ) (h : Hub) (m : Queue) (r : Reached k h m) (tidy : Tidy (ringO
       → (places m t ≡ Cancelled) ⊎ ((p : ℕ) × (phaseIn (phases m) p ≡ Waiting t))
   line t a b = go (decLe 1 (sum (own t) m))
     where
-      below : t < h .oldest + PLACES
+      below : t < h .control .oldest + PLACES
       below = omega (arith, high (tracked (r .tracks)))
 
       go : Dec (1 ≤ sum (own t) m)
@@ -389,7 +389,7 @@ module _ (k : ℕ) (h : Hub) (m : Queue) (r : Reached k h m) (tidy : Tidy (ringO
   unfolding pick isOneOf
   radios = sum-alike (λ f. bit (hasRadio f)) holding refl refl (λ t. refl)
 
-  stored : h .opening .named ≡ true → h .pool .stored ≡ up (h .figures .counter)
+  stored : h .control .opening .named ≡ true → h .control .pool .stored ≡ up (h .control .figures .counter)
   unfolding isPlaceOf
   stored e =
       omega (
@@ -439,8 +439,8 @@ module _ (k : ℕ) (h : Hub) (m : Queue) (r : Reached k h m) (tidy : Tidy (ringO
       }
     where
       placed-waits : (p t : ℕ)
-          → (places m t ≡ WaitedBy p) × (resumed ≤ t) × (t < issued) × (h .oldest ≤ t) × (t < h .oldest + PLACES)
-          → (readPlace (h .places) t ≡ WaitedBy p) × (h .figures .resumed ≤ t) × (t < h .figures .issued)
+          → (places m t ≡ WaitedBy p) × (resumed ≤ t) × (t < issued) × (h .control .oldest ≤ t) × (t < h .control .oldest + PLACES)
+          → (readPlace (h .places) t ≡ WaitedBy p) × (h .control .figures .resumed ≤ t) × (t < h .control .figures .issued)
       placed-waits p t w = (
         place-cell t (WaitedBy p) (w .3) (w .4) (w .0),
         omega (arith, w .1, fig (λ f. f .resumed)),

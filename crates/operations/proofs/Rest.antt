@@ -28,8 +28,8 @@ pub record AtRest (h : Hub) : Type 0 where
   pub calm : (p : ℕ) → rests h p ≡ true
   -- it fits, and so does what any calls lead to from here
   pub fit : (cs : List Call) → fits (run h cs) ≡ true
-  pub few : (1 ≤ h .opening .parties) × (h .opening .parties ≤ PARTIES)
-  pub beyond : (p : ℕ) → h .opening .parties ≤ p → readSlot (h .slots) p .phase ≡ Phase.Free
+  pub few : (1 ≤ h .control .opening .parties) × (h .control .opening .parties ≤ PARTIES)
+  pub beyond : (p : ℕ) → h .control .opening .parties ≤ p → readSlot (h .slots) p .phase ≡ Phase.Free
   pub slots : length (h .slots) ≡ PARTIES
   pub places : length (h .places) ≡ PLACES
   -- the tidying has nothing to do
@@ -37,21 +37,21 @@ pub record AtRest (h : Hub) : Type 0 where
   pub unretired : canRetire (ringOf h) ≡ false
   -- the line: of the tickets from the next to resume up to the next issued each is waited with or cancelled,
   -- those before are done and have no place, and the place of the next issued is empty if there is one
-  pub oldest : h .oldest ≡ h .figures .resumed
-  pub drawn : h .figures .resumed ≤ h .figures .issued
-  pub room : h .figures .issued ≤ h .oldest + PLACES
+  pub oldest : h .control .oldest ≡ h .control .figures .resumed
+  pub drawn : h .control .figures .resumed ≤ h .control .figures .issued
+  pub room : h .control .figures .issued ≤ h .control .oldest + PLACES
   pub waits : (p t : ℕ) → readSlot (h .slots) p .phase ≡ Phase.Waiting t
-      → (readPlace (h .places) t ≡ Place.Waiting p) × (h .figures .resumed ≤ t) × (t < h .figures .issued)
-  pub line : (t : ℕ) → h .figures .resumed ≤ t → t < h .figures .issued
+      → (readPlace (h .places) t ≡ Place.Waiting p) × (h .control .figures .resumed ≤ t) × (t < h .control .figures .issued)
+  pub line : (t : ℕ) → h .control .figures .resumed ≤ t → t < h .control .figures .issued
       → (readPlace (h .places) t ≡ Place.Cancelled)
       ⊎ ((p : ℕ) × (readSlot (h .slots) p .phase ≡ Phase.Waiting t))
-  pub spare : h .figures .issued < h .oldest + PLACES
-      → readPlace (h .places) (h .figures .issued) ≡ Place.Empty
+  pub spare : h .control .figures .issued < h .control .oldest + PLACES
+      → readPlace (h .places) (h .control .figures .issued) ≡ Place.Empty
   -- the counter: above zero the permits that nobody holds, below zero the waits; each with its radio
-  pub holders : count isHolding (phasesOf (h .slots)) + atCounter (h .figures .counter)
-      ≡ h .opening .permits
-  pub waiters : count isWaiting (phasesOf (h .slots)) ≡ belowBy (h .figures .counter)
-  pub stored : h .opening .named ≡ true → h .pool .stored ≡ atCounter (h .figures .counter)
+  pub holders : count isHolding (phasesOf (h .slots)) + atCounter (h .control .figures .counter)
+      ≡ h .control .opening .permits
+  pub waiters : count isWaiting (phasesOf (h .slots)) ≡ belowBy (h .control .figures .counter)
+  pub stored : h .control .opening .named ≡ true → h .control .pool .stored ≡ atCounter (h .control .figures .counter)
 
 -- Above zero something is there; below zero something is due.
 pub above-zero : (z : ℤ) → aboveZero z ≡ ltb 0 (atCounter z)

@@ -52,9 +52,9 @@ pub record Comes (h : Hub) (c : Call) (r : Operated) : Type 0 where
   pub same : operated h c ≡ r
   pub rest : (q : ℕ) → rests (r .hub) q ≡ true
 
-module _ (h : Hub) (a : AtRest h) (p : ℕ) (present : ltb p (h .opening .parties) ≡ true) where
+module _ (h : Hub) (a : AtRest h) (p : ℕ) (present : ltb p (h .control .opening .parties) ≡ true) where
   inside : p < length (h .slots)
-  inside = omega (arith, a .slots, a .few, ltb-true p (h .opening .parties) present)
+  inside = omega (arith, a .slots, a .few, ltb-true p (h .control .opening .parties) present)
 
   tidy : Tidy (ringOf h)
   tidy = record { size = a .places; unskipped = a .unskipped; unretired = a .unretired }
@@ -64,7 +64,7 @@ module _ (h : Hub) (a : AtRest h) (p : ℕ) (present : ltb p (h .opening .partie
   here = now h p inside present
 
   abbrev figures : Figures
-  figures = h .figures
+  figures = h .control .figures
 
   -- The counter is told of one more.
   abbrev told-more : Figures
@@ -81,7 +81,7 @@ module _ (h : Hub) (a : AtRest h) (p : ℕ) (present : ltb p (h .opening .partie
       (quiet h p inside present tidy f x e Answer.Accepted refl)
 
   step : (f : Figures) (x : Phase) (f′ : Figures) (x′ : Phase) (y : Answer) → Fit (here f x)
-      → f′ .resumed ≡ figures .resumed → moved (printed y) p (h .pool) ≡ h .pool
+      → f′ .resumed ≡ figures .resumed → moved (printed y) p (h .control .pool) ≡ h .control .pool
       → stepIn x (look (here f x) p) ≡ Act (to (slot-in h p inside present f x) x′ f′ y)
       → called (here f x) (stepBy p) ≡ record { answer = y; hub = here f′ x′ }
   step f x f′ x′ y fit e m s =
@@ -106,9 +106,9 @@ module _ (h : Hub) (a : AtRest h) (p : ℕ) (present : ltb p (h .opening .partie
       (c₁ : called h (record { op = o; party = p }) ≡ record { answer = Answer.Accepted; hub = here f₁ x₁ })
       (b₁ : atRest x₁ ≡ false)
       (c₂ : called (here f₁ x₁) (stepBy p)
-      ≡ record { answer = y₂; hub = here f₂ (cond (h .opening .named) x₂ x₃) })
+      ≡ record { answer = y₂; hub = here f₂ (cond (h .control .opening .named) x₂ x₃) })
       (w₂ : wokenBy (y₂ ∷ []) ≡ 0xFF) (b₂ : atRest x₂ ≡ false)
-      (c₃ : h .opening .named ≡ true
+      (c₃ : h .control .opening .named ≡ true
       → called (here f₂ x₂) (stepBy p)
       ≡ record { answer = y₃; hub = withPool (radios h p inside present y₃) (here f₂ x₃) })
       (w₃ : wokenBy (y₂ ∷ y₃ ∷ []) ≡ 0xFF) (b₃ : atRest x₃ ≡ true) where
@@ -116,13 +116,13 @@ module _ (h : Hub) (a : AtRest h) (p : ℕ) (present : ltb p (h .opening .partie
         (came 0xFF (oneStep h) (withPool (radios h p inside present y₃) (here f₂ x₃)))
     unfolding poolAfter
     one-or-two =
-        record { same = go (h .opening .named) refl; rest = at-rest-now f₂ x₃ b₃ }
+        record { same = go (h .control .opening .named) refl; rest = at-rest-now f₂ x₃ b₃ }
       where
-        last : {b : Bool} → h .opening .named ≡ b
+        last : {b : Bool} → h .control .opening .named ≡ b
             → called (here f₁ x₁) (stepBy p) ≡ record { answer = y₂; hub = here f₂ (cond b x₂ x₃) }
         last i = c₂ ∙ ap (λ (b : Bool). record { answer = y₂; hub = here f₂ (cond b x₂ x₃) }) i
 
-        go : (b : Bool) → h .opening .named ≡ b
+        go : (b : Bool) → h .control .opening .named ≡ b
             → operated h (record { op = o; party = p })
             ≡ came 0xFF (oneStep h) (withPool (radios h p inside present y₃) (here f₂ x₃))
         go false i =
@@ -134,7 +134,7 @@ module _ (h : Hub) (a : AtRest h) (p : ℕ) (present : ltb p (h .opening .partie
               answer = Answer.Accepted;
               woken = w₂ j;
               steps = cond (sym i j) 2 1;
-              hub = withPool (poolAfter (sym i j) (printed y₃) p (h .pool)) (here f₂ x₃);
+              hub = withPool (poolAfter (sym i j) (printed y₃) p (h .control .pool)) (here f₂ x₃);
             })
         go true i =
             operated-by h (record { op = o; party = p }) Answer.Accepted c₁ refl
@@ -151,11 +151,11 @@ module _ (h : Hub) (a : AtRest h) (p : ℕ) (present : ltb p (h .opening .partie
             })
 
   -- A place written and no radio moved.
-  no-radio : (y : Answer) (k : Hub) → k .pool ≡ h .pool → moved (printed y) p (h .pool) ≡ h .pool
+  no-radio : (y : Answer) (k : Hub) → k .control .pool ≡ h .control .pool → moved (printed y) p (h .control .pool) ≡ h .control .pool
       → withPool (radios h p inside present y) k ≡ k
   no-radio y k e u =
       ap (λ (q : Pool). withPool q k)
-      (still (h .opening .named) (printed y) p (h .pool) u ∙ sym e)
+      (still (h .control .opening .named) (printed y) p (h .control .pool) u ∙ sym e)
 
   -- Ask.
   module _ (m : moveOf h (record { op = Op.Acquire; party = p })
@@ -173,14 +173,14 @@ module _ (h : Hub) (a : AtRest h) (p : ℕ) (present : ltb p (h .opening .partie
     -- With a permit at the counter: 21, and 36.
     module _ (e : aboveZero (figures .counter) ≡ true) where
       permit-21 : called (here asked Phase.Acquiring) (stepBy p)
-          ≡ record { answer = Answer.Acquired; hub = here told-less (withPermit (h .opening .named)) }
+          ≡ record { answer = Answer.Acquired; hub = here told-less (withPermit (h .control .opening .named)) }
       unfolding stepIn stepAcquiring seenBy moved
       permit-21 =
-          step asked Phase.Acquiring told-less (withPermit (h .opening .named)) Answer.Acquired
+          step asked Phase.Acquiring told-less (withPermit (h .control .opening .named)) Answer.Acquired
           (onward h _ _ _ (a .fit) ask-call) refl refl
           (ap (λ (b : Bool). stepAcquiring Phase.Suspending b (look (here asked Phase.Acquiring) p)) e)
 
-      permit-36 : h .opening .named ≡ true
+      permit-36 : h .control .opening .named ≡ true
           → called (here told-less Phase.Fetching) (stepBy p)
           ≡ record {
             answer = Answer.Fetched;
@@ -193,7 +193,7 @@ module _ (h : Hub) (a : AtRest h) (p : ℕ) (present : ltb p (h .opening .partie
           (permit-21 ∙ ap (λ (b : Bool). record { answer = Answer.Acquired; hub = here told-less (withPermit b) }) i))
           refl
           (ap (λ (b : Bool). stepFetching b (look (here told-less Phase.Fetching) p))
-          (le-leb 1 (h .pool .stored)
+          (le-leb 1 (h .control .pool .stored)
           (omega (
             arith,
             a .stored i,
@@ -207,7 +207,7 @@ module _ (h : Hub) (a : AtRest h) (p : ℕ) (present : ltb p (h .opening .partie
           ask-call refl permit-21 refl refl permit-36 refl refl
 
     -- With none: 22, 23, 24.
-    module _ (e : aboveZero (figures .counter) ≡ false) (room : figures .issued < h .oldest + PLACES) where
+    module _ (e : aboveZero (figures .counter) ≡ false) (room : figures .issued < h .control .oldest + PLACES) where
       abbrev ticket : ℕ
       ticket = figures .issued
 
@@ -239,11 +239,11 @@ module _ (h : Hub) (a : AtRest h) (p : ℕ) (present : ltb p (h .opening .partie
           record {
             size = written-size (h .places) (a .places) ticket _;
             unskipped =
-                and-false (ltb (figures .resumed) (h .oldest + PLACES)) _
+                and-false (ltb (figures .resumed) (h .control .oldest + PLACES)) _
                 (written-not (h .places) (a .places) ticket (figures .resumed) (withPlace (Place.Waiting p) (readSeat (h .places) ticket))
                 isCancelled refl (not-cancelled h a));
             unretired =
-                written-not (h .places) (a .places) ticket (h .oldest) (withPlace (Place.Waiting p) (readSeat (h .places) ticket))
+                written-not (h .places) (a .places) ticket (h .control .oldest) (withPlace (Place.Waiting p) (readSeat (h .places) ticket))
                 isDone refl (a .unretired);
           }
         where
@@ -339,14 +339,14 @@ module _ (h : Hub) (a : AtRest h) (p : ℕ) (present : ltb p (h .opening .partie
     -- With nobody waiting: 26, and 38.
     module _ (e : belowZero (figures .counter) ≡ false) where
       give-26 : called (here figures Phase.Releasing) (stepBy p)
-          ≡ record { answer = Answer.Returned; hub = here told-more (withoutPermit (h .opening .named)) }
+          ≡ record { answer = Answer.Returned; hub = here told-more (withoutPermit (h .control .opening .named)) }
       unfolding stepIn stepReleasing seenBy moved
       give-26 =
-          step figures Phase.Releasing told-more (withoutPermit (h .opening .named)) Answer.Returned
+          step figures Phase.Releasing told-more (withoutPermit (h .control .opening .named)) Answer.Returned
           (onward h _ _ _ (a .fit) give-call) refl refl
           (ap (λ (b : Bool). stepReleasing b (look (here figures Phase.Releasing) p)) e)
 
-      give-38 : h .opening .named ≡ true
+      give-38 : h .control .opening .named ≡ true
           → called (here told-more Phase.Storing) (stepBy p)
           ≡ record {
             answer = Answer.Stored;
@@ -402,7 +402,7 @@ module _ (h : Hub) (a : AtRest h) (p : ℕ) (present : ltb p (h .opening .partie
 
       -- the ring before that tidying
       abbrev ring : Ring
-      ring = record { resumed = due + 1; oldest = h .oldest; places = h .places }
+      ring = record { resumed = due + 1; oldest = h .control .oldest; places = h .places }
 
       ring-drawn : Drawn due ring
       ring-drawn = record { size = a .places; above = omega (arith, a .oldest); below = omega arith }
@@ -440,7 +440,7 @@ module _ (h : Hub) (a : AtRest h) (p : ℕ) (present : ltb p (h .opening .partie
       abbrev wakes : Move
       wakes =
           Wake q (withPhase Phase.Holding (look handing p .waiter)) (withPlace Place.Done (look handing p .seat))
-          (to (look handing p .slot) Phase.Free (handing .figures) (Answer.Woke q due))
+          (to (look handing p .slot) Phase.Free (handing .control .figures) (Answer.Woke q due))
 
       handing-row : stepIn (Phase.ResumingAt due) (look handing p) ≡ wakes
       unfolding stepIn stepResumingAt resumeWaiter seenBy
@@ -457,7 +457,7 @@ module _ (h : Hub) (a : AtRest h) (p : ℕ) (present : ltb p (h .opening .partie
 
       -- the record before the last tidying, with these places and slots
       abbrev leaving : List PlaceSlot → List PartySlot → Hub
-      leaving l s = withParts (handing .figures) (handing .oldest) l s (h .pool) h
+      leaving l s = withParts (handing .control .figures) (handing .control .oldest) l s (h .control .pool) h
 
       -- the waiter holds, and the party is free
       slots-left : writeSlot (writeSlot (handing .slots) q (withPhase Phase.Holding (look handing p .waiter))) p

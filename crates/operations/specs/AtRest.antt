@@ -35,11 +35,11 @@ placeTo t a h = withPlaces (writeSeat (h .places) t (withPlace a (readSeat (h .p
 
 -- The radios move on a hub that has some.
 abbrev pub radiosBy : (Pool → Pool) → Hub → Hub
-radiosBy m h = withPool (cond (h .opening .named) (m (h .pool)) (h .pool)) h
+radiosBy m h = withPool (cond (h .control .opening .named) (m (h .control .pool)) (h .control .pool)) h
 
 -- One step, and one more for the radio of a hub that has some.
 abbrev pub oneStep : Hub → ℕ
-oneStep h = cond (h .opening .named) 2 1
+oneStep h = cond (h .control .opening .named) 2 1
 
 abbrev pub came : ℕ → ℕ → Hub → Operated
 came woken steps h = record { answer = Answer.Accepted; woken = woken; steps = steps; hub = h }
@@ -47,13 +47,13 @@ came woken steps h = record { answer = Answer.Accepted; woken = woken; steps = s
 -- Ask: is a permit at the counter? 21, and 36; else 22, 23, 24.
 unfoldable pub acquired : Bool → Hub → ℕ → Operated
 acquired true h p =
-    let f = h .figures in
+    let f = h .control .figures in
     came 0xFF (oneStep h)
     (radiosBy (fetch p)
     (phaseTo p Phase.Holding
     (withFigures (withCounter (predℤ (f .counter)) (withBegun (f .begun + 1) f)) h)))
 acquired false h p =
-    let f = h .figures in
+    let f = h .control .figures in
     let t = f .issued in
     came 0xFF 3
     (placeTo t (Place.Waiting p)
@@ -63,7 +63,7 @@ acquired false h p =
 -- Give up: 2E, 30.
 unfoldable pub cancelled : Hub → ℕ → Operated
 cancelled h p =
-    let f = h .figures in
+    let f = h .control .figures in
     came 0xFF 2
     (tidied
     (placeTo (ticketOf (readSlot (h .slots) p .phase)) Place.Cancelled
@@ -73,13 +73,13 @@ cancelled h p =
 -- Give back: does somebody wait? 27, 28, 2A, and the next in line holds; else 26, and 38.
 unfoldable pub released : Bool → Hub → ℕ → Operated
 released false h p =
-    let f = h .figures in
+    let f = h .control .figures in
     came 0xFF (oneStep h)
     (radiosBy (λ q. putBack (handOf q p) q)
     (phaseTo p Phase.Free
     (withFigures (withCounter (sucℤ (f .counter)) f) h)))
 released true h p =
-    let f = h .figures in
+    let f = h .control .figures in
     let t = f .resumed in
     let q = byWaiter 0xFF (λ x. x) (readPlace (h .places) t) in
     came q 3
@@ -92,9 +92,9 @@ released true h p =
 
 -- An operation that is not refused. A step and call 14 are none, and nothing is claimed of them.
 abbrev pub acceptedAt : Op → Hub → ℕ → Operated
-acceptedAt Op.Acquire h p = acquired (aboveZero (h .figures .counter)) h p
+acceptedAt Op.Acquire h p = acquired (aboveZero (h .control .figures .counter)) h p
 acceptedAt Op.Cancel h p = cancelled h p
-acceptedAt Op.Release h p = released (belowZero (h .figures .counter)) h p
+acceptedAt Op.Release h p = released (belowZero (h .control .figures .counter)) h p
 acceptedAt Op.Step h p = came 0xFF 0 h
 acceptedAt Op.Radio h p = came 0xFF 0 h
 

@@ -48,12 +48,12 @@ pub fn perform_operations(hub: Hub, operations: &[u8], out: &mut [u8])
     requires { ⌜ 3 * (length (now operations) / 2) ≤ length (now out) ⌝ }
     ensures { λ r. ⌜ now (out .exit) ≡ answersWritten hub (now (operations .entry)) (now (out .entry)) ⌝ }
 {
-    let opening = hub.opening;
-    let mut figures = hub.figures;
-    let mut oldest = hub.oldest;
+    let opening = hub.control.opening;
+    let mut figures = hub.control.figures;
+    let mut oldest = hub.control.oldest;
     let mut places = hub.places;
     let mut slots = hub.slots;
-    let mut pool = hub.pool;
+    let mut pool = hub.control.pool;
     let kinds = opening.kinds;
     let count = operations.len() / 2;
     let mut i: usize = 0;

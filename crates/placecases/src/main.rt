@@ -141,14 +141,16 @@ fn asked_at(permits: u8, counter: i32, issued: u32, begun: u32) {
         resumed: 0,
         begun,
     };
-    h.figures = figures;
+    let mut control = h.control;
+    control.figures = figures;
+    h.control = control;
     play(h, b"\x50\x00\x00\x00");
 }
 
 // Kinds that were not 32 in number do not fit.
 fn miscounted() {
     let mut h = opened(1, 3);
-    h.opening.counted = false;
+    h.control.opening.counted = false;
     play(h, b"\x53\x00\x00\x00");
 }
 

@@ -132,17 +132,17 @@ fn radios_met(slots: [PartySlot; 32], places: [PlaceSlot; 256], pool: Pool) -> M
 
 // On a hub with radios.
 pub fn radios_fit(hub: Hub) -> bool
-    requires { ⌜ hub .opening .permits ≤ 32 ⌝ }
+    requires { ⌜ hub .control .opening .permits ≤ 32 ⌝ }
     ensures { λ r. ⌜ r ≡ radiosFit hub ⌝ }
 {
-    let opening = hub.opening;
+    let opening = hub.control.opening;
     if !opening.named {
         return true;
     }
     if !radios_differ(opening) {
         return false;
     }
-    let pool = hub.pool;
+    let pool = hub.control.pool;
     if 32 < pool.stored {
         return false;
     }

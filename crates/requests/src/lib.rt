@@ -3,6 +3,7 @@
 
 use batch::answer_in_turn;
 use encoding::pairs;
+use hub::record::Control;
 use hub::record::Hub;
 use ring::PlaceRing;
 use writer::form::reply_size;
@@ -22,16 +23,16 @@ pub fn answer_requests(hub: Hub, requests: &[u8], count: usize, form: bool, out:
         × (now (out .exit)
         ≡ replied (formOf form) hub count (now (requests .entry)) (now (out .entry))) ⌝ }
 {
-    let opening = hub.opening;
-    let figures = hub.figures;
+    let opening = hub.control.opening;
+    let figures = hub.control.figures;
     let places = hub.places;
     let ring = PlaceRing {
-        resumed: hub.figures.resumed,
-        oldest: hub.oldest,
+        resumed: hub.control.figures.resumed,
+        oldest: hub.control.oldest,
         places,
     };
     let slots = hub.slots;
-    let pool = hub.pool;
+    let pool = hub.control.pool;
     let pairs = pairs::table();
     let left = answer_in_turn(
         opening,
@@ -51,12 +52,15 @@ pub fn answer_requests(hub: Hub, requests: &[u8], count: usize, form: bool, out:
     let places = ring.places;
     let slots = left.slots;
     let pool = left.pool;
-    Hub {
+    let control = Control {
         opening,
         figures,
         oldest: ring.oldest,
+        pool,
+    };
+    Hub {
+        control,
         places,
         slots,
-        pool,
     }
 }

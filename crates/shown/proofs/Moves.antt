@@ -54,25 +54,25 @@ pub record Same (x : Operated) (l : Line) (o : Operation) (y : Moved) : Type 0 w
   pub seen : Seen (x .hub) (y .line)
 
 -- A record whose phases are ls, and a line with others that hold; with others that wait.
-module _ (h : Hub) (l : Line) (o : SameOpening (h .opening) l) (ls : List Phase) (e : phases h ≡ ls) where
+module _ (h : Hub) (l : Line) (o : SameOpening (h .control .opening) l) (ls : List Phase) (e : phases h ≡ ls) where
   other-holders : (hs : List Bool) → hs ≡ map isHolding ls
-      → waiters l ≡ waitersFrom 0 (h .figures .issued) ls → Seen h (withHolding hs l)
+      → waiters l ≡ waitersFrom 0 (h .control .figures .issued) ls → Seen h (withHolding hs l)
   unfolding waiters waitersOf
   other-holders hs f w =
       record {
         opened = o;
         holding = f ∙ ap (map isHolding) (sym e);
-        waiters = w ∙ ap (waitersFrom 0 (h .figures .issued)) (sym e);
+        waiters = w ∙ ap (waitersFrom 0 (h .control .figures .issued)) (sym e);
       }
 
   other-waiters : (ws : List ℕ) → length ws ≤ PARTIES → l .holding ≡ map isHolding ls
-      → ws ≡ waitersFrom 0 (h .figures .issued) ls → Seen h (withWaiters ws l)
+      → ws ≡ waitersFrom 0 (h .control .figures .issued) ls → Seen h (withWaiters ws l)
   unfolding waitersOf
   other-waiters ws i f w =
       record {
         opened = o;
         holding = f ∙ ap (map isHolding) (sym e);
-        waiters = waiters-of l (l .holding) ws i ∙ w ∙ ap (waitersFrom 0 (h .figures .issued)) (sym e);
+        waiters = waiters-of l (l .holding) ws i ∙ w ∙ ap (waitersFrom 0 (h .control .figures .issued)) (sym e);
       }
 
 -- A refusal.
@@ -113,9 +113,9 @@ module _ (h : Hub) (l : Line) (r : AtRest h) (g : Sound l) (s : Seen h l) (p : �
 
   -- Those that wait are the same.
   waiting-kept : (x : Phase) → isWaiting x ≡ false → isWaiting now ≡ false
-      → waiters l ≡ waitersFrom 0 (h .figures .issued) (set (phases h) p x)
+      → waiters l ≡ waitersFrom 0 (h .control .figures .issued) (set (phases h) p x)
   unfolding waitersOf
-  waiting-kept x i j = s .waiters ∙ sym (stays (phases h) p x i j 0 (h .figures .issued))
+  waiting-kept x i j = s .waiters ∙ sym (stays (phases h) p x i j 0 (h .control .figures .issued))
 
   -- Ask, with a permit there or without.
   acquire-same : p < PARTIES → isFree now ≡ true → (b : Bool) → hasPermit l ≡ b
@@ -139,11 +139,11 @@ module _ (h : Hub) (l : Line) (r : AtRest h) (g : Sound l) (s : Seen h l) (p : �
         steps = ap (λ (c : Bool). cond c (toCounter (l .named)) TO-WAIT) (sym e);
         seen =
             other-waiters _ l (s .opened)
-            (set (phases h) p (Phase.Waiting (h .figures .issued))) (write-phase (h .slots) p _)
+            (set (phases h) p (Phase.Waiting (h .control .figures .issued))) (write-phase (h .slots) p _)
             (waiters l ++ p ∷ []) j
-            (holding-kept (Phase.Waiting (h .figures .issued)) (sym (not-holding now (inl f))))
+            (holding-kept (Phase.Waiting (h .control .figures .issued)) (sym (not-holding now (inl f))))
             (ap (λ (w : List ℕ). w ++ p ∷ []) (s .waiters)
-            ∙ sym (comes (phases h) (h .figures .resumed) (h .figures .issued) (between h r) p inside
+            ∙ sym (comes (phases h) (h .control .figures .resumed) (h .control .figures .issued) (between h r) p inside
             (not-waiting now (inl f))));
       }
     where
@@ -164,7 +164,7 @@ module _ (h : Hub) (l : Line) (r : AtRest h) (g : Sound l) (s : Seen h l) (p : �
             (write-phase (h .slots) p _) (without p (waiters l)) j
             (holding-kept Phase.Free (sym (not-holding now (inr f))))
             (ap (without p) (s .waiters)
-            ∙ sym (leaves (phases h) (apart h r) p (ticketOf now) e Phase.Free refl (h .figures .issued)
+            ∙ sym (leaves (phases h) (apart h r) p (ticketOf now) e Phase.Free refl (h .control .figures .issued)
             (between h r p (ticketOf now) e .1)));
       }
     where
@@ -172,7 +172,7 @@ module _ (h : Hub) (l : Line) (r : AtRest h) (g : Sound l) (s : Seen h l) (p : �
       e = one-of (Phase.Waiting 0) now f
 
   -- Give back, with nobody waiting or somebody.
-  release-same : isHolding now ≡ true → (b : Bool) → belowZero (h .figures .counter) ≡ b → hasWaiter l ≡ b
+  release-same : isHolding now ≡ true → (b : Bool) → belowZero (h .control .figures .counter) ≡ b → hasWaiter l ≡ b
       → release true b l p .line .waiting ≤ PARTIES
       → Same (released b h p) l Operation.Release (release true b l p)
   unfolding released release tidied waitersOf ownSteps ownWoken isOneOf
@@ -204,16 +204,16 @@ module _ (h : Hub) (l : Line) (r : AtRest h) (g : Sound l) (s : Seen h l) (p : �
             (ap (drop 1) (s .waiters ∙ line-first h l r g s z)
             ∙ sym (stays (set (phases h) q Phase.Holding) p Phase.Free refl
             (ap isWaiting (getD-set-other (phases h) q p Phase.Holding Phase.Free differs)
-            ∙ not-waiting now (inr f)) 0 (h .figures .issued)
-            ∙ leaves (phases h) (apart h r) q (h .figures .resumed) first Phase.Holding refl
-            (h .figures .issued) (between h r q (h .figures .resumed) first .1)
+            ∙ not-waiting now (inr f)) 0 (h .control .figures .issued)
+            ∙ leaves (phases h) (apart h r) q (h .control .figures .resumed) first Phase.Holding refl
+            (h .control .figures .issued) (between h r q (h .control .figures .resumed) first .1)
             ∙ ap (without q) (line-first h l r g s z) ∙ without-behind [] q _ refl));
       }
     where
       q : ℕ
       q = nextAt h
 
-      first : phaseIn (phases h) q ≡ Phase.Waiting (h .figures .resumed)
+      first : phaseIn (phases h) q ≡ Phase.Waiting (h .control .figures .resumed)
       first = next h r z
 
       -- who holds is not who waits
@@ -261,7 +261,7 @@ module _ (h : Hub) (l : Line) (r : AtRest h) (g : Sound l) (s : Seen h l) (p : �
       → Follows (byMove (decide (callOf o p .op) full (look h p)) h (callOf o p)) o (ownMove l o p)
   unfolding decide ownMove seenBy
   own-same i Operation.Acquire full =
-      let e = leb MAX-BEGUN (h .figures .begun) in
+      let e = leb MAX-BEGUN (h .control .figures .begun) in
       subst
       (λ (b : Bool).
       Follows (byMove (table.acquire b e full (look h p)) h (callOf Operation.Acquire p)) Operation.Acquire
@@ -295,23 +295,23 @@ module _ (h : Hub) (l : Line) (r : AtRest h) (g : Sound l) (s : Seen h l) (p : �
   hubBy fit there o =
       byMove
       (checked fit there
-      (decide (callOf o p .op) (isFull (h .oldest) (h .figures .issued) (h .slots)) (look h p)))
+      (decide (callOf o p .op) (isFull (h .control .oldest) (h .control .figures .issued) (h .slots)) (look h p)))
       h (callOf o p)
 
-  checked-same : (o : Operation) (b : Bool) → ltb p (h .opening .parties) ≡ b
+  checked-same : (o : Operation) (b : Bool) → ltb p (h .control .opening .parties) ≡ b
       → Follows (hubBy true b o) o (checkedMove true b l (ownMove l o p))
   unfolding checked checkedMove
   checked-same o false e = λ n j. refused-same h l o Refusal.NoSuchParty s refl
   checked-same o true e =
-      own-same (omega (arith, ltb-true p (h .opening .parties) e, r .few)) o
-      (isFull (h .oldest) (h .figures .issued) (h .slots))
+      own-same (omega (arith, ltb-true p (h .control .opening .parties) e, r .few)) o
+      (isFull (h .control .oldest) (h .control .figures .issued) (h .slots))
 
   fitting-same : (o : Operation)
-      → Follows (hubBy (fits h) (ltb p (h .opening .parties)) o) o (lineMove l o p)
+      → Follows (hubBy (fits h) (ltb p (h .control .opening .parties)) o) o (lineMove l o p)
   unfolding lineMove run
   fitting-same o =
       let fit : fits h ≡ true = r .fit [] in
-      let there = ltb p (h .opening .parties) in
+      let there = ltb p (h .control .opening .parties) in
       let own = ownMove l o p in
       subst (λ (b : Bool). Follows (hubBy b there o) o (lineMove l o p)) (sym fit)
       (subst (λ (b : Bool). Follows (hubBy true there o) o (checkedMove b (ltb p (l .parties)) l own))

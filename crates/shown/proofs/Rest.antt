@@ -23,7 +23,7 @@ phases h = phasesOf (h .slots)
 
 -- The waiter that a hand-over would meet.
 abbrev pub nextAt : Hub → ℕ
-nextAt h = byWaiter 0xFF (λ x. x) (readPlace (h .places) (h .figures .resumed))
+nextAt h = byWaiter 0xFF (λ x. x) (readPlace (h .places) (h .control .figures .resumed))
 
 -- At rest the tests of a call come to two.
 pub free-at-rest : (f : Phase) → atRest f ≡ true → isFree f ≡ not (isHolding f) && not (isWaiting f)
@@ -40,7 +40,7 @@ cancel-at-rest = resting (λ f. canCancel f ≡ isWaiting f) refl refl (λ t. re
 
 module _ (h : Hub) (r : AtRest h) where
   waits : (p t : ℕ) → phaseIn (phases h) p ≡ Phase.Waiting t
-      → (readPlace (h .places) t ≡ Place.Waiting p) × (h .figures .resumed ≤ t) × (t < h .figures .issued)
+      → (readPlace (h .places) t ≡ Place.Waiting p) × (h .control .figures .resumed ≤ t) × (t < h .control .figures .issued)
   waits p t e = r .waits p t (read-phase (h .slots) p ∙ e)
 
   -- Each number is one party's: its place says whose.
@@ -50,14 +50,14 @@ module _ (h : Hub) (r : AtRest h) where
       let j = waits q t f .0 in
       cc
 
-  pub between : Between (h .figures .resumed) (h .figures .issued) (phases h)
+  pub between : Between (h .control .figures .resumed) (h .control .figures .issued) (phases h)
   between p t e = (waits p t e .1, waits p t e .2)
 
   pub calm : (p : ℕ) → atRest (phaseIn (phases h) p) ≡ true
   calm p = ap atRest (sym (read-phase (h .slots) p)) ∙ r .calm p
 
   -- Where nothing is due nobody waits.
-  pub nobody : belowZero (h .figures .counter) ≡ false → (p : ℕ) → isWaiting (phaseIn (phases h) p) ≡ false
+  pub nobody : belowZero (h .control .figures .counter) ≡ false → (p : ℕ) → isWaiting (phaseIn (phases h) p) ≡ false
   nobody e p = go (isWaiting (phaseIn (phases h) p)) refl
     where
       go : (b : Bool) → isWaiting (phaseIn (phases h) p) ≡ b → isWaiting (phaseIn (phases h) p) ≡ false
@@ -68,8 +68,8 @@ module _ (h : Hub) (r : AtRest h) where
           cc
 
   -- Else the next number to resume is waited with, by the party that its place names.
-  pub next : belowZero (h .figures .counter) ≡ true
-      → phaseIn (phases h) (nextAt h) ≡ Phase.Waiting (h .figures .resumed)
+  pub next : belowZero (h .control .figures .counter) ≡ true
+      → phaseIn (phases h) (nextAt h) ≡ Phase.Waiting (h .control .figures .resumed)
   next e =
       let q = next-waits h r e in
       ap (λ (a : Place). phaseIn (phases h) (byWaiter 0xFF (λ x. x) a)) (r .waits (q .0) _ (q .1) .0)

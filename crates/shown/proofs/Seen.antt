@@ -38,7 +38,7 @@ SameOpening o l = OpenedAs o (l .permits) (l .parties) (l .named) (l .kinds)
 
 -- The line l shows the record h.
 pub record Seen (h : Hub) (l : Line) : Type 0 where
-  pub opened : SameOpening (h .opening) l
+  pub opened : SameOpening (h .control .opening) l
   pub holding : l .holding ≡ map isHolding (phases h)
   pub waiters : waiters l ≡ waitersOf h
 
@@ -52,14 +52,14 @@ module _ (h : Hub) (l : Line) (r : AtRest h) (g : Sound l) (s : Seen h l) where
   unfolding waitsIn waitersOf
   waits-same p =
       ap (λ (w : List ℕ). among w p) (s .waiters)
-      ∙ among-waiters (phases h) (apart h r) (h .figures .resumed) (h .figures .issued) (between h r) p
+      ∙ among-waiters (phases h) (apart h r) (h .control .figures .resumed) (h .control .figures .issued) (between h r) p
 
   pub free-same : (p : ℕ) → not (holdsIn l p) && not (waitsIn l p) ≡ isFree (phaseIn (phases h) p)
   free-same p =
       ap₂ (λ (a b : Bool). not a && not b) (holds-same p) (waits-same p)
       ∙ sym (free-at-rest _ (calm h r p))
 
-  pub permit-same : hasPermit l ≡ aboveZero (h .figures .counter)
+  pub permit-same : hasPermit l ≡ aboveZero (h .control .figures .counter)
   unfolding hasPermit holders
   permit-same =
       ap₂ ltb holder-count-same (s .opened .permits) ∙ sym (permit-left h r)
@@ -70,22 +70,22 @@ module _ (h : Hub) (l : Line) (r : AtRest h) (g : Sound l) (s : Seen h l) where
           ∙ ap length (sym (parties-bits 0 isHolding (phases h))) ∙ parties-count isHolding (phases h)
 
   -- The first that waits is the one that a hand-over would meet.
-  pub line-first : belowZero (h .figures .counter) ≡ true
+  pub line-first : belowZero (h .control .figures .counter) ≡ true
       → waitersOf h
-      ≡ nextAt h ∷ waitersFrom (suc (h .figures .resumed)) (h .figures .issued - suc (h .figures .resumed)) (phases h)
+      ≡ nextAt h ∷ waitersFrom (suc (h .control .figures .resumed)) (h .control .figures .issued - suc (h .control .figures .resumed)) (phases h)
   unfolding waitersOf
   line-first e =
-      is-first (phases h) (apart h r) (nextAt h) (h .figures .resumed) (next h r e) (h .figures .issued) (between h r)
+      is-first (phases h) (apart h r) (nextAt h) (h .control .figures .resumed) (next h r e) (h .control .figures .issued) (between h r)
 
-  pub next-same : belowZero (h .figures .counter) ≡ true → nextWaiter l ≡ nextAt h
+  pub next-same : belowZero (h .control .figures .counter) ≡ true → nextWaiter l ≡ nextAt h
   unfolding nextWaiter
   next-same e = ap (λ (w : List ℕ). getD w 0 0) (s .waiters ∙ line-first e)
 
-  pub waiter-same : hasWaiter l ≡ belowZero (h .figures .counter)
+  pub waiter-same : hasWaiter l ≡ belowZero (h .control .figures .counter)
   unfolding hasWaiter waitersOf
-  waiter-same = ap (leb 1) (sym (waiting-is l g) ∙ ap length (s .waiters)) ∙ go (belowZero (h .figures .counter)) refl
+  waiter-same = ap (leb 1) (sym (waiting-is l g) ∙ ap length (s .waiters)) ∙ go (belowZero (h .control .figures .counter)) refl
     where
-      go : (b : Bool) → belowZero (h .figures .counter) ≡ b → leb 1 (length (waitersOf h)) ≡ b
+      go : (b : Bool) → belowZero (h .control .figures .counter) ≡ b → leb 1 (length (waitersOf h)) ≡ b
       go true e = le-leb 1 (length (waitersOf h)) (omega (arith, ap length (line-first e)))
       go false e =
-          ap (λ (w : List ℕ). leb 1 (length w)) (nobody-waits (phases h) (h .figures .issued) (nobody h r e))
+          ap (λ (w : List ℕ). leb 1 (length w)) (nobody-waits (phases h) (h .control .figures .issued) (nobody h r e))

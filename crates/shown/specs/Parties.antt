@@ -27,4 +27,4 @@ waitersFrom t (suc n) l = partiesFrom 0 (waitsWith t) l ++ waitersFrom (suc t) n
 
 -- The parties that wait, in the order of their numbers: those from 0 up to *numbered*.
 unfoldable pub waitersOf : Hub → List ℕ
-waitersOf h = waitersFrom 0 (h .figures .issued) (phasesOf (h .slots))
+waitersOf h = waitersFrom 0 (h .control .figures .issued) (phasesOf (h .slots))

@@ -59,7 +59,7 @@ pub record Alike (h : Hub) (l : Line) (rs : List DeskRequest) : Type 0 where
   pub waiters : waitersOf (hubAfter h rs) ≡ waiters (lineAfter l rs)
   pub told : hubTold h rs ≡ lineTold l rs
   -- The screen goes by the hub's kinds.
-  pub kinds : hubAfter h rs .opening .kinds ≡ lineAfter l rs .kinds
+  pub kinds : hubAfter h rs .control .opening .kinds ≡ lineAfter l rs .kinds
   -- Nobody is busy.
   pub atRest : (p : ℕ) → rests (hubAfter h rs) p ≡ true
 

@@ -42,7 +42,7 @@ pub record Admitted (c x n : ℕ) : Type 0 where
 pub record LetIn (h : Hub) (p : ℕ) : Type 0 where
   pub party : p < 32
   pub counts : Counted h
-  pub store : h .opening .named ≡ true → h .pool .stored ≤ STORE
+  pub store : h .control .opening .named ≡ true → h .control .pool .stored ≤ STORE
 
 not-so : {A : Type 0} → false ≡ true → A
 not-so e = let z : _≡_ {A = ℕ} 0 1 = cc in let y : ⊥ = omega arith in absurd y
@@ -86,16 +86,16 @@ module _ (hub : Hub) (c x : ℕ) (r : Reachable hub) where
   abbrev turned-away : Admission → Response
   turned-away d = record { reply = record { party = d .party; answer = plain (d .code) }; hub = hub }
 
-  pub refused-response : (d : Admission) → d ≡ admissionOf c x (hub .opening .parties) → d .admitted ≡ false
+  pub refused-response : (d : Admission) → d ≡ admissionOf c x (hub .control .opening .parties) → d .admitted ≡ false
       → respond hub (requestFor c x) ≡ turned-away d
   unfolding whenOpen admissionOf
   refused-response d e z =
       answers-open (requestFor c x)
-      ∙ go (isCall c) (ltb x (hub .opening .parties)) refl (eqb c 1)
+      ∙ go (isCall c) (ltb x (hub .control .opening .parties)) refl (eqb c 1)
       (sym (ap (λ (d : Admission). d .admitted) e) ∙ z)
       ∙ ap turned-away (sym e)
     where
-      go : (a b : Bool) → ltb x (hub .opening .parties) ≡ b → (o : Bool)
+      go : (a b : Bool) → ltb x (hub .control .opening .parties) ≡ b → (o : Bool)
           → cond a (cond b (admitted c x) (refused x 4)) (cond o (refused 0xFF 13) (refused 0xFF 12)) .admitted
           ≡ false
           → whenOpen hub
@@ -108,17 +108,17 @@ module _ (hub : Hub) (c x : ℕ) (r : Reachable hub) where
       go false b eb false w = refl
 
   -- A call that is admitted is the table's to answer.
-  pub let-in : Admitted c x (hub .opening .parties) → LetIn hub x
+  pub let-in : Admitted c x (hub .control .opening .parties) → LetIn hub x
   let-in p =
       let n = counted hub fit in
       record {
-        party = omega (arith, ltb-true x (hub .opening .parties) (p .party), n .parties);
+        party = omega (arith, ltb-true x (hub .control .opening .parties) (p .party), n .parties);
         counts = n;
         store = few-stored hub fit;
       }
 
-  pub call-response : Admitted c x (hub .opening .parties)
-      → let m = decide (opOf c) (isFull (hub .oldest) (hub .figures .issued) (hub .slots)) (look hub x) in
+  pub call-response : Admitted c x (hub .control .opening .parties)
+      → let m = decide (opOf c) (isFull (hub .control .oldest) (hub .control .figures .issued) (hub .slots)) (look hub x) in
       respond hub (requestFor c x)
       ≡ record {
         reply = record { party = x; answer = printed (answerOf m) };

@@ -27,7 +27,7 @@ reachable-fits h r =
 
 pub reachable-open : (h : Hub) → Reachable h → isOpen h ≡ true
 reachable-open h r =
-    le-leb 1 (h .opening .permits) (counted h (reachable-fits h r) .permits .0)
+    le-leb 1 (h .control .opening .permits) (counted h (reachable-fits h r) .permits .0)
 
 -- An opening, and one response more.
 pub opening-reachable : (o : Opening) → opening o .answer ≡ Answer.Opened

@@ -23,7 +23,7 @@ use Rattle.hub.specs.Look.{look}
 use Rattle.hub.specs.Moves.{Move}
 use Rattle.hub.specs.Phases.{ticketOf}
 use Rattle.hub.specs.Radios.{handOf}
-use Rattle.hub.specs.Record.{PARTIES, emptySeat, freeSlot, ofFields, readSlot, withPool, writeSlot}
+use Rattle.hub.specs.Record.{PARTIES, controlOf, emptySeat, freeSlot, ofFields, readSlot, withPool, writeSlot}
 use Rattle.hub.specs.Ring.{PLACES, readSeat}
 use Rattle.hub.specs.Table.{decide}
 use Rattle.encoding.specs.Frame.{opOf, frameOf}
@@ -155,7 +155,7 @@ reply-fits c =
 -- The call is admitted.
 pass : (c : At tie.Else1)
     → let h = head c in
-    Admitted (code (asked c)) (party (asked c)) (hub h .opening .parties)
+    Admitted (code (asked c)) (party (asked c)) (hub h .control .opening .parties)
     × (requestAt (bytes h) (2 * h .loop .i) ≡ requestFor (code (asked c)) (party (asked c)))
 pass c = is-admitted _ _ _ _ (asked c .admit-at .ensures) (not-false _ (c .if1 .left))
 
@@ -253,10 +253,10 @@ turns-most c =
 abbrev untidied : At tie.After-is-untidy → Hub
 untidied s =
     let h = head (within s) in
-    ofFields (hub h .opening) (effect s .figures) (h .loop .ring .oldest)
+    ofFields
+    (controlOf (hub h .control .opening) (effect s .figures) (h .loop .ring .oldest) (moving s .if3 .pool))
     (set (h .loop .ring .places) (ticketAt (seen (effected s))) (effect s .seat))
     (writeSlot (woken (placed s) .if2 .slots) (party (asked (within s))) (effect s .slot))
-    (moving s .if3 .pool)
 
 woken-slots : (s : At tie.After-is-untidy)
     → woken (placed s) .if2 .slots
@@ -286,9 +286,9 @@ leaves s u e =
     let d = effected s in
     let b = within s in
     e
-    ∙ ap (λ (g : Hub). tidiedBy (effect s .turns) (withPool (untidied s .pool) g))
+    ∙ ap (λ (g : Hub). tidiedBy (effect s .turns) (withPool (untidied s .control .pool) g))
     (stores (hub (head b)) (party (asked b)) _ (index (seen d)) (effect s) _ (woken-slots s))
-    ∙ left _ _ _ _ _ (reading (seen d)) (op b) (effect s) (effect-is d) (untidied s .pool) (moved-pool s)
+    ∙ left _ _ _ _ _ (reading (seen d)) (op b) (effect s) (effect-is d) (untidied s .control .pool) (moved-pool s)
 
 -- The slots stay as many.
 still-32 : (s : At tie.After-is-untidy) → length (untidied s .slots) ≡ 32

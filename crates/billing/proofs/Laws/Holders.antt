@@ -69,21 +69,21 @@ unfolding isOneOf
 free-holds-none f e = ap holds (one-of Phase.Free f e)
 
 -- In a record that fits the parties from n up are free.
-free-beyond : (h : Hub) → fits h ≡ true → (p : ℕ) → h .opening .parties ≤ p → p < PARTIES
+free-beyond : (h : Hub) → fits h ≡ true → (p : ℕ) → h .control .opening .parties ≤ p → p < PARTIES
     → isFree (readSlot (h .slots) p .phase) ≡ true
 unfolding fits stateFits partyFits
 free-beyond h e p n b =
-    let state = first (stateFits h) (kindsFit (h .opening)) e in
-    let figures = figuresFit (h .opening) (h .figures) (h .oldest) in
+    let state = first (stateFits h) (kindsFit (h .control .opening)) e in
+    let figures = figuresFit (h .control .opening) (h .control .figures) (h .control .oldest) in
     let parties = allFrom (partyFits h) 0 PARTIES in
-    let places = allFrom (placeFits h) (h .oldest) PLACES in
+    let places = allFrom (placeFits h) (h .control .oldest) PLACES in
     let all =
     second figures parties (first (figures && parties) places (first (figures && parties && places) _ state)) in
     let f = readSlot (h .slots) p .phase in
-    let there = ltb p (h .opening .parties) || isFree f in
-    let tickets = ticketFits (h .figures) (h .oldest) f in
+    let there = ltb p (h .control .opening .parties) || isFree f in
+    let tickets = ticketFits (h .control .figures) (h .control .oldest) f in
     let listed = placeListed f (look h p .seat .place) in
-    absent (ltb p (h .opening .parties)) (le-ltb p _ n)
+    absent (ltb p (h .control .opening .parties)) (le-ltb p _ n)
     (first there tickets
     (first (there && tickets) listed
     (first (there && tickets && listed) _
@@ -175,7 +175,7 @@ module _ (o : Opening) (a : opening o .answer ≡ Answer.Opened) where
     pub calls : List Call
     pub hub : h ≡ run (opening o .hub) calls
     pub ledger : e ≡ ledger (opened o) (entries (opening o .hub) calls)
-    pub opening : h .opening ≡ o
+    pub opening : h .control .opening ≡ o
     pub size : length (e .phases) ≡ PARTIES
 
   pub start : Standing (opening o .hub) (opened o)
@@ -185,7 +185,7 @@ module _ (o : Opening) (a : opening o .answer ≡ Answer.Opened) where
         calls = [];
         hub = refl;
         ledger = refl;
-        opening = ap (λ (h : Hub). h .opening) (in-range o a .hub);
+        opening = ap (λ (h : Hub). h .control .opening) (in-range o a .hub);
         size = length-replicate {A = Phase} PARTIES Phase.Free;
       }
 

@@ -8,7 +8,7 @@ use Rattle.encoding.specs.Frame.{frameOf, twosComplement}
 use Rattle.encoding.specs.Hex.{textOf}
 use Rattle.line.specs.Program.{closing}
 
-pub shown : (h : Hub) (c : Counts) → c ≡ countsOf h → (n : ℕ) → n ≡ twosComplement (h .figures .counter)
+pub shown : (h : Hub) (c : Counts) → c ≡ countsOf h → (n : ℕ) → n ≡ twosComplement (h .control .figures .counter)
     → textOf (frameOf (c .held) (record { code = 0x7E; woken = c .waiting; number = n }))
     ≡ closing h
 unfolding countsOf

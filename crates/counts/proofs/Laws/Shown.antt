@@ -51,7 +51,7 @@ module _ (h : Hub) (c₁ c₂ d₁ d₂ g v w x : ℕ) where
       → d₁ ≡ count (isOneOf (Refusing 0 ∷ Refusing 0 ∷ Refusing 0 ∷ Refusing 0 ∷ [])) phases
       → d₂ ≡ count (isPlaceOf (Refused ∷ Refused ∷ Refused ∷ Refused ∷ [])) places
       → g ≡ count (isOneOf (Holding ∷ Releasing ∷ Fetching ∷ Fetching ∷ [])) phases
-      → v ≡ atCounter (h .figures .counter)
+      → v ≡ atCounter (h .control .figures .counter)
       → w ≡ count (isOneOf (Waiting 0 ∷ Waiting 0 ∷ Waiting 0 ∷ Waiting 0 ∷ [])) phases
       → x ≡ (c₁ + c₂) - (d₁ + d₂)
       → record

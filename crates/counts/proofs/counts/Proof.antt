@@ -40,7 +40,7 @@ at-counter-requires c κs = search needs
 returns : tie.Need-returns
 returns c =
     let h = c .before .before .before .before .before .before .before .before .before .before .before .args .hub in
-    let f : SFits w32 (h .figures .counter) = search needs in (
+    let f : SFits w32 (h .control .figures .counter) = search needs in (
       shown h _ _ _ _ _ _ _ _
           (c .before .before .before .before .before .before .before .before .count-phases .ensures .0)
           (c .before .before .before .before .before .before .before .count-places .ensures .0)
@@ -55,7 +55,7 @@ returns c =
 returns-2 : tie.Need-returns-2
 returns-2 c =
     let h = c .before .before .before .before .before .before .before .before .before .before .before .args .hub in
-    let f : SFits w32 (h .figures .counter) = search needs in (
+    let f : SFits w32 (h .control .figures .counter) = search needs in (
       shown h _ _ _ _ _ _ _ _
           (c .before .before .before .before .before .before .before .before .count-phases .ensures .0)
           (c .before .before .before .before .before .before .before .count-places .ensures .0)

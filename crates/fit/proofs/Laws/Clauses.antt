@@ -63,8 +63,8 @@ module _ (x : Opening) (f : Figures) (o : ℕ) (e : figuresFit x f o ≡ true) w
 -- A party's clauses, with the place at its ticket, whether or not it has one.
 abbrev clauses : Hub → ℕ → Phase → Bool
 clauses h p f =
-    (ltb p (h .opening .parties) || isFree f) && ticketFits (h .figures) (h .oldest) f
-    && placeListed f (readPlace (h .places) (ticketOf f)) && implies (ofRadios f) (h .opening .named)
+    (ltb p (h .control .opening .parties) || isFree f) && ticketFits (h .control .figures) (h .control .oldest) f
+    && placeListed f (readPlace (h .places) (ticketOf f)) && implies (ofRadios f) (h .control .opening .named)
 
 module _ (h : Hub) (p : ℕ) where
   by-clauses : clauses h p (readSlot (h .slots) p .phase) ≡ partyFits h p
@@ -72,22 +72,22 @@ module _ (h : Hub) (p : ℕ) where
   by-clauses = rw (listed-any (readSeat (h .places)) (readSlot (h .slots) p .phase))
 
   -- One of the n parties.
-  pub party-test : {r : Bool} (t : ℕ) → p < h .opening .parties
+  pub party-test : {r : Bool} (t : ℕ) → p < h .control .opening .parties
       → t ≡ ticketOf (readSlot (h .slots) p .phase)
       → r
-      ≡ ticketFits (h .figures) (h .oldest) (readSlot (h .slots) p .phase)
+      ≡ ticketFits (h .control .figures) (h .control .oldest) (readSlot (h .slots) p .phase)
       && placeListed (readSlot (h .slots) p .phase) (readPlace (h .places) t)
-      && implies (ofRadios (readSlot (h .slots) p .phase)) (h .opening .named)
+      && implies (ofRadios (readSlot (h .slots) p .phase)) (h .control .opening .named)
       → r ≡ partyFits h p
-  party-test t l e i = i ∙ rw (e, sym by-clauses, lt-ltb p (h .opening .parties) l)
+  party-test t l e i = i ∙ rw (e, sym by-clauses, lt-ltb p (h .control .opening .parties) l)
 
   -- One that waits acts on no place: only its ticket is tested.
-  pub waiting-test : {r : Bool} (t : ℕ) → p < h .opening .parties
+  pub waiting-test : {r : Bool} (t : ℕ) → p < h .control .opening .parties
       → readSlot (h .slots) p .phase ≡ Phase.Waiting t
-      → r ≡ inWindow (h .oldest) (h .figures .issued) t → r ≡ partyFits h p
+      → r ≡ inWindow (h .control .oldest) (h .control .figures .issued) t → r ≡ partyFits h p
   unfolding ticketFits placeListed allOf isOneOf
   waiting-test t l e i =
-      i ∙ rw (sym by-clauses, e, lt-ltb p (h .opening .parties) l) (sym (and-true _ ∙ and-true _ ∙ and-true _))
+      i ∙ rw (sym by-clauses, e, lt-ltb p (h .control .opening .parties) l) (sym (and-true _ ∙ and-true _ ∙ and-true _))
 
   -- A free party fits, whatever else is there.
   pub free-fits : readSlot (h .slots) p .phase ≡ Phase.Free → partyFits h p ≡ true
@@ -95,14 +95,14 @@ module _ (h : Hub) (p : ℕ) where
   free-fits e = sym by-clauses ∙ rw (e, or-true)
 
   -- From n up only a free one does.
-  pub past-parties : h .opening .parties ≤ p
+  pub past-parties : h .control .opening .parties ≤ p
       → OneOf (allBut (0 ∷ [])) (tagOf phase.the-type (readSlot (h .slots) p .phase))
       → partyFits h p ≡ false
   unfolding isOneOf
   past-parties l o =
       rw (
         sym by-clauses,
-        le-ltb p (h .opening .parties) l,
+        le-ltb p (h .control .opening .parties) l,
         sym (phase-arm (allBut (0 ∷ [])) isFree (readSlot (h .slots) p .phase) refl o),
       )
 
@@ -111,23 +111,23 @@ abbrev placeAt : Hub → ℕ → Place
 placeAt h i = getD (h .places) i emptySeat .place
 
 abbrev test : Hub → ℕ → Place → Bool
-test h i = byWaiter true (λ q. standsAt (readSlot (h .slots) q .phase) (ticketAt (h .oldest) i))
+test h i = byWaiter true (λ q. standsAt (readSlot (h .slots) q .phase) (ticketAt (h .control .oldest) i))
 
 module _ (h : Hub) (i : ℕ) (b : i < PLACES) where
-  at-index : test h i (placeAt h i) ≡ placeFits h (ticketAt (h .oldest) i)
+  at-index : test h i (placeAt h i) ≡ placeFits h (ticketAt (h .control .oldest) i)
   unfolding placeFits
   at-index =
       ap (λ (s : PlaceSlot). test h i (s .place))
-      (read-index (h .places) (ticketAt (h .oldest) i) i (sym (index-of (h .oldest) i b)))
+      (read-index (h .places) (ticketAt (h .control .oldest) i) i (sym (index-of (h .control .oldest) i b)))
 
   -- The test of the party that is waited for there.
   pub waiter-test : {r : Bool} (q : ℕ) → placeAt h i ≡ Place.Waiting q
-      → r ≡ standsAt (readSlot (h .slots) q .phase) (ticketAt (h .oldest) i)
-      → r ≡ placeFits h (ticketAt (h .oldest) i)
+      → r ≡ standsAt (readSlot (h .slots) q .phase) (ticketAt (h .control .oldest) i)
+      → r ≡ placeFits h (ticketAt (h .control .oldest) i)
   waiter-test q e f = f ∙ ap (test h i) (sym e) ∙ at-index
 
   pub not-waited : OneOf (0 ∷ 2 ∷ 3 ∷ 4 ∷ 5 ∷ []) (tagOf place.the-type (placeAt h i))
-      → placeFits h (ticketAt (h .oldest) i) ≡ true
+      → placeFits h (ticketAt (h .control .oldest) i) ≡ true
   not-waited o =
       sym (place-arm (0 ∷ 2 ∷ 3 ∷ 4 ∷ 5 ∷ []) (test h i) (placeAt h i) refl o ∙ at-index)
 
@@ -140,29 +140,29 @@ stands-nowhere l q t s i = rw (past-slots l s q i)
 -- The whole: the figures and the kinds, the parties, the places, the radios.
 module _ (h : Hub) where
   abbrev pub outlineFits : Bool
-  outlineFits = figuresFit (h .opening) (h .figures) (h .oldest) && kindsFit (h .opening)
+  outlineFits = figuresFit (h .control .opening) (h .control .figures) (h .control .oldest) && kindsFit (h .control .opening)
 
   pub outline-fails : outlineFits ≡ false → false ≡ fits h
   unfolding fits stateFits
-  outline-fails e = go (figuresFit (h .opening) (h .figures) (h .oldest)) refl
+  outline-fails e = go (figuresFit (h .control .opening) (h .control .figures) (h .control .oldest)) refl
     where
-      go : (b : Bool) → figuresFit (h .opening) (h .figures) (h .oldest) ≡ b → false ≡ fits h
-      go true i = rw (sym (ap (λ (b : Bool). b && kindsFit (h .opening)) i) ∙ e, and-false)
+      go : (b : Bool) → figuresFit (h .control .opening) (h .control .figures) (h .control .oldest) ≡ b → false ≡ fits h
+      go true i = rw (sym (ap (λ (b : Bool). b && kindsFit (h .control .opening)) i) ∙ e, and-false)
       go false i = rw i
 
   pub parties-fail : false ≡ allFrom (partyFits h) 0 PARTIES → false ≡ fits h
   unfolding fits stateFits
   parties-fail e = rw (sym e, and-false)
 
-  pub places-fail : false ≡ allFrom (placeFits h) (h .oldest) PLACES → false ≡ fits h
+  pub places-fail : false ≡ allFrom (placeFits h) (h .control .oldest) PLACES → false ≡ fits h
   unfolding fits stateFits
   places-fail e = rw (sym e, and-false)
 
   pub radios-left : {r : Bool} → outlineFits ≡ true
-      → true ≡ allFrom (partyFits h) 0 PARTIES → true ≡ allFrom (placeFits h) (h .oldest) PLACES
+      → true ≡ allFrom (partyFits h) 0 PARTIES → true ≡ allFrom (placeFits h) (h .control .oldest) PLACES
       → r ≡ radiosFit h → r ≡ fits h
   unfolding fits stateFits
   radios-left e p q i =
-      let f = figuresFit (h .opening) (h .figures) (h .oldest) in
-      let k = kindsFit (h .opening) in
+      let f = figuresFit (h .control .opening) (h .control .figures) (h .control .oldest) in
+      let k = kindsFit (h .control .opening) in
       rw (first f k e, sym p, sym q, second f k e) (i ∙ sym (and-true (radiosFit h)))

@@ -1,11 +1,16 @@
 -- Sums over a list, and what one changed element does to them.
 use Prim.Native.Nat.{ℕ, zero, suc, suc-le-suc, _+_, _*_, _≤_, _<_}
-use mathlib.Core.Path.{_≡_, refl, ap}
+use mathlib.Core.Path.{_≡_, refl, sym, ap, _∙_}
 use mathlib.Core.List.{List, [], _∷_, _++_, map}
 use native.Mathlib.Nat.{le-of-suc-le-suc, not-suc-le-zero, mul-zero, mul-add}
 use native.Mathlib.Omega.{arith}
-use lib.ListN.{length, getD, set, replicate}
+use lib.ListN.{length, getD, set, replicate, length-map}
 use Rattle.hub.specs.Basics.{weight}
+
+-- A list has as many elements as what is made of them: an array's length is told of its elements as they lie in memory.
+pub mapped-size : {A B : Type 0} (f : A → B) (l : List A) (n : ℕ) → length (map f l) ≡ n
+    → length l ≡ n
+mapped-size f l n e = sym (length-map l f) ∙ e
 
 -- One element replaced, then each changed: the other way round.
 pub map-set : {A B : Type 0} (f : A → B) (l : List A) (i : ℕ) (x : A) → map f (set l i x) ≡ set (map f l) i (f x)

@@ -39,19 +39,19 @@ use Rattle.hub.proofs.Radios.Rows.{Goes, decide-goes}
 pub record Kept (h : Hub) : Type 0 where
   pub slots : length (h .slots) ≡ PARTIES
   pub places : length (h .places) ≡ PLACES
-  pub hands : length (h .pool .hands) ≡ PARTIES
-  pub laid : length (h .pool .laid) ≡ PLACES
-  pub store : length (h .pool .store) ≡ STORE
-  pub few : h .opening .permits ≤ STORE
+  pub hands : length (h .control .pool .hands) ≡ PARTIES
+  pub laid : length (h .control .pool .laid) ≡ PLACES
+  pub store : length (h .control .pool .store) ≡ STORE
+  pub few : h .control .opening .permits ≤ STORE
   pub counted : count hasRadio (phasesOf (h .slots)) + count isPermit (placesOf (h .places))
-      + h .pool .stored ≡ h .opening .permits
+      + h .control .pool .stored ≡ h .control .opening .permits
   pub same : (b : ℕ)
-      → occurs b (radiosIn (h .slots) (h .places) (h .pool)) ≡ occurs b (radiosOf (h .opening))
+      → occurs b (radiosIn (h .slots) (h .places) (h .control .pool)) ≡ occurs b (radiosOf (h .control .opening))
 
 -- A record whose radios weigh what those of one with all this do.
-kept-by : (h h′ : Hub) → Kept h → h′ .opening ≡ h .opening
-    → Same (carriers (h .slots)) (permitsAt (h .places)) (h .pool) (carriers (h′ .slots))
-    (permitsAt (h′ .places)) (h′ .pool)
+kept-by : (h h′ : Hub) → Kept h → h′ .control .opening ≡ h .control .opening
+    → Same (carriers (h .slots)) (permitsAt (h .places)) (h .control .pool) (carriers (h′ .slots))
+    (permitsAt (h′ .places)) (h′ .control .pool)
     → Kept h′
 kept-by h h′ k e w =
     record {
@@ -64,15 +64,15 @@ kept-by h h′ k e w =
       counted =
           omega (
             arith,
-            radios-count (h′ .slots) (h′ .places) (h′ .pool) (cc i) (cc j),
-            radios-count (h .slots) (h .places) (h .pool) (omega arith) (omega arith),
+            radios-count (h′ .slots) (h′ .places) (h′ .control .pool) (cc i) (cc j),
+            radios-count (h .slots) (h .places) (h .control .pool) (omega arith) (omega arith),
             w .weigh one,
             ap (λ (o : Opening). o .permits) e,
           );
       same = λ b.
-          radios-weigh (λ r. bit (eqb b r)) (h′ .slots) (h′ .places) (h′ .pool)
+          radios-weigh (λ r. bit (eqb b r)) (h′ .slots) (h′ .places) (h′ .control .pool)
           ∙ w .weigh (λ r. bit (eqb b r))
-          ∙ sym (radios-weigh (λ r. bit (eqb b r)) (h .slots) (h .places) (h .pool))
+          ∙ sym (radios-weigh (λ r. bit (eqb b r)) (h .slots) (h .places) (h .control .pool))
           ∙ k .same b
           ∙ ap (λ (o : Opening). occurs b (radiosOf o)) (sym e);
     }
@@ -131,11 +131,11 @@ placed-permits : (h : Hub) (a : PlaceSlot) (f : Phase)
     ≡ byTicket (permitsAt (h .places)) (λ t. set (permitsAt (h .places)) (t % PLACES) (isPermit (a .place))) f
 placed-permits h a = phases-alike _ _ (λ t. simp write-mapped)
 
-module _ (h : Hub) (c : Call) (named : h .opening .named ≡ true) (k : Kept h) where
+module _ (h : Hub) (c : Call) (named : h .control .opening .named ≡ true) (k : Kept h) where
   abbrev p : ℕ
   p = c .party
 
-  sized : Sized (carriers (h .slots)) (permitsAt (h .places)) (h .pool)
+  sized : Sized (carriers (h .slots)) (permitsAt (h .places)) (h .control .pool)
   sized =
       record {
         slots = length-map (h .slots) _ ∙ k .slots;
@@ -143,7 +143,7 @@ module _ (h : Hub) (c : Call) (named : h .opening .named ≡ true) (k : Kept h) 
         hands = k .hands;
         laid = k .laid;
         store = k .store;
-        few = omega (arith, radios-count (h .slots) (h .places) (h .pool) (omega arith) (omega arith));
+        few = omega (arith, radios-count (h .slots) (h .places) (h .control .pool) (omega arith) (omega arith));
       }
 
   -- The check before the call refuses, and moves nothing.
@@ -155,9 +155,9 @@ module _ (h : Hub) (c : Call) (named : h .opening .named ≡ true) (k : Kept h) 
   checked-goes true true m g = g
 
   after : (m : Move) → Goes h p named sized (look h p .slot .phase) m
-      → Same (carriers (h .slots)) (permitsAt (h .places)) (h .pool)
+      → Same (carriers (h .slots)) (permitsAt (h .places)) (h .control .pool)
       (carriers (apply h (look h p) m .slots)) (permitsAt (apply h (look h p) m .places))
-      (moved (printed (answerOf m)) p (h .pool))
+      (moved (printed (answerOf m)) p (h .control .pool))
   unfolding apply seenBy writeSlot
   after (Refuse r) g = g
   after (Tell y) g = g
@@ -165,7 +165,7 @@ module _ (h : Hub) (c : Call) (named : h .opening .named ≡ true) (k : Kept h) 
   after (Put a d) g = rw (tidied-slots, tidied-permits, map-set, placed-permits) g
   after (Wake q x a d) g = rw (tidied-slots, tidied-permits, map-set, map-set, placed-permits) g
 
-pub called-kept : (h : Hub) (c : Call) → h .opening .named ≡ true → Kept h → Kept (called h c .hub)
+pub called-kept : (h : Hub) (c : Call) → h .control .opening .named ≡ true → Kept h → Kept (called h c .hub)
 unfolding poolAfter seenBy
 called-kept h c named k =
     let m = moveOf h c in
@@ -173,8 +173,8 @@ called-kept h c named k =
     kept-by h (called h c .hub) k (kept-opening h v m)
     (subst
     (λ (b : Bool).
-    Same (carriers (h .slots)) (permitsAt (h .places)) (h .pool) (carriers (apply h v m .slots))
-    (permitsAt (apply h v m .places)) (poolAfter b (printed (answerOf m)) (c .party) (h .pool)))
+    Same (carriers (h .slots)) (permitsAt (h .places)) (h .control .pool) (carriers (apply h v m .slots))
+    (permitsAt (apply h v m .places)) (poolAfter b (printed (answerOf m)) (c .party) (h .control .pool)))
     (sym named)
     (after h c named k m
     (checked-goes h c named k _ _ _
@@ -189,7 +189,7 @@ none-shown f has x e (suc n) [] = refl
 none-shown f has x e (suc n) (r ∷ rs) = if-false (has (f x)) _ _ e ∙ none-shown f has x e n rs
 
 module _ (o : Opening) (few : o .permits ≤ STORE) where
-  stored-only : radiosIn (fresh o .slots) (fresh o .places) (fresh o .pool) ≡ storedIn (fresh o .pool)
+  stored-only : radiosIn (fresh o .slots) (fresh o .places) (fresh o .control .pool) ≡ storedIn (fresh o .control .pool)
   unfolding fresh radiosIn isOneOf isPlaceOf
   stored-only =
       rw (
@@ -208,10 +208,10 @@ module _ (o : Opening) (few : o .permits ≤ STORE) where
         store = padded-length (o .radios);
         few = few;
         counted =
-            radios-count (fresh o .slots) (fresh o .places) (fresh o .pool) refl refl
-            ∙ sym (radios-weigh one (fresh o .slots) (fresh o .places) (fresh o .pool))
+            radios-count (fresh o .slots) (fresh o .places) (fresh o .control .pool) refl refl
+            ∙ sym (radios-weigh one (fresh o .slots) (fresh o .places) (fresh o .control .pool))
             ∙ ap (weight one) stored-only
-            ∙ count-ring (fresh o .pool .store) 0 (o .permits);
+            ∙ count-ring (fresh o .control .pool .store) 0 (o .permits);
         same = λ b.
             ap (occurs b)
             (stored-only ∙ ring-take (padded (o .radios)) 0 (o .permits) (padded-length (o .radios)) (omega arith));

@@ -23,14 +23,14 @@ unfolding radiosOf
 radios-length o i = length-take-le (o .permits) (padded (o .radios)) (omega (arith, padded-length (o .radios)))
 
 pub kept-length : (h : Hub) → Kept h
-    → length (radiosIn (h .slots) (h .places) (h .pool)) ≡ length (radiosOf (h .opening))
+    → length (radiosIn (h .slots) (h .places) (h .control .pool)) ≡ length (radiosOf (h .control .opening))
 kept-length h k =
     omega (
       arith,
-      each-one (radiosIn (h .slots) (h .places) (h .pool)),
-      radios-weigh one (h .slots) (h .places) (h .pool),
-      radios-count (h .slots) (h .places) (h .pool) (omega (arith, k .slots, k .hands))
+      each-one (radiosIn (h .slots) (h .places) (h .control .pool)),
+      radios-weigh one (h .slots) (h .places) (h .control .pool),
+      radios-count (h .slots) (h .places) (h .control .pool) (omega (arith, k .slots, k .hands))
           (omega (arith, k .places, k .laid)),
       k .counted,
-      radios-length (h .opening) (k .few),
+      radios-length (h .control .opening) (k .few),
     )

@@ -43,8 +43,8 @@ use Rattle.hub.proofs.Laws.Seats.{read-mapped}
 use Rattle.hub.proofs.Radios.Ways.{Same, Sized, carriers, permitsAt, unmoved, within}
 use Rattle.hub.proofs.Radios.Ways.{fetched, stored, left, passed, found, dropped}
 
-module _ (h : Hub) (p : ℕ) (named : h .opening .named ≡ true)
-    (s : Sized (carriers (h .slots)) (permitsAt (h .places)) (h .pool)) where
+module _ (h : Hub) (p : ℕ) (named : h .control .opening .named ≡ true)
+    (s : Sized (carriers (h .slots)) (permitsAt (h .places)) (h .control .pool)) where
   abbrev bs : List Bool
   bs = carriers (h .slots)
 
@@ -55,19 +55,19 @@ module _ (h : Hub) (p : ℕ) (named : h .opening .named ≡ true)
   phase = readSlot (h .slots) p .phase
 
   abbrev After : List Bool → List Bool → Pool → Type 0
-  After = Same bs cs (h .pool)
+  After = Same bs cs (h .control .pool)
 
   -- What a move of the party has to show, where the places have their permits so once its place is written.
   abbrev GoesBy : (PlaceSlot → List Bool) → Move → Type 0
-  GoesBy marks (Refuse r) = After bs cs (moved (printed (Answer.Refused r)) p (h .pool))
-  GoesBy marks (Tell y) = After bs cs (moved (printed y) p (h .pool))
+  GoesBy marks (Refuse r) = After bs cs (moved (printed (Answer.Refused r)) p (h .control .pool))
+  GoesBy marks (Tell y) = After bs cs (moved (printed y) p (h .control .pool))
   GoesBy marks (Act c) =
-      After (set bs p (hasRadio (c .slot .phase))) cs (moved (printed (c .answer)) p (h .pool))
+      After (set bs p (hasRadio (c .slot .phase))) cs (moved (printed (c .answer)) p (h .control .pool))
   GoesBy marks (Put a c) =
-      After (set bs p (hasRadio (c .slot .phase))) (marks a) (moved (printed (c .answer)) p (h .pool))
+      After (set bs p (hasRadio (c .slot .phase))) (marks a) (moved (printed (c .answer)) p (h .control .pool))
   GoesBy marks (Wake q x a c) =
       After (set (set bs q (hasRadio (x .phase))) p (hasRadio (c .slot .phase))) (marks a)
-      (moved (printed (c .answer)) p (h .pool))
+      (moved (printed (c .answer)) p (h .control .pool))
 
   -- Its place is that of ticket t; of the ticket of its phase.
   abbrev GoesAt : ℕ → Move → Type 0
@@ -123,11 +123,11 @@ module _ (h : Hub) (p : ℕ) (named : h .opening .named ≡ true)
   giving-up t true e = party-still (radio-of p e) unmoved
   giving-up t false e = party-still (radio-of p e) unmoved
 
-  fetching : (z : Bool) → leb 1 (h .pool .stored) ≡ z → phase ≡ Fetching
+  fetching : (z : Bool) → leb 1 (h .control .pool .stored) ≡ z → phase ≡ Fetching
       → Goes Fetching (stepFetching z (look h p))
   unfolding stepFetching isOneOf moved seenBy
   fetching true i e =
-      fetched bs cs (h .pool) s p (radio-of p e) (party-in p e refl) (leb-true 1 (h .pool .stored) i)
+      fetched bs cs (h .control .pool) s p (radio-of p e) (party-in p e refl) (leb-true 1 (h .control .pool .stored) i)
   fetching false i e = unmoved
 
   numbered : (f x : Phase) → hasRadio f ≡ false → isFree f ≡ false → hasRadio x ≡ false → (t : ℕ) (a : Place)
@@ -135,7 +135,7 @@ module _ (h : Hub) (p : ℕ) (named : h .opening .named ≡ true)
   unfolding stepTicketed isOneOf isPlaceOf moved seenBy
   numbered f x n m l t Empty i e = party-still (radio-of p e ∙ n ∙ sym l) (place-still t (there t i) unmoved)
   numbered f x n m l t Permit i e =
-      found bs cs (h .pool) s t (there t i) p (radio-of p e ∙ n) (party-in p e m)
+      found bs cs (h .control .pool) s t (there t i) p (radio-of p e ∙ n) (party-in p e m)
   numbered f x n m l t (WaitedBy q) i e = unmoved
   numbered f x n m l t Cancelled i e = unmoved
   numbered f x n m l t Refused i e = unmoved
@@ -147,7 +147,7 @@ module _ (h : Hub) (p : ℕ) (named : h .opening .named ≡ true)
   cancelling t (WaitedBy q) i e =
       party-still (radio-of p e) (place-still t (there t i) unmoved)
   cancelling t Permit i e =
-      found bs cs (h .pool) s t (there t i) p (radio-of p e) (party-in p e refl)
+      found bs cs (h .control .pool) s t (there t i) p (radio-of p e) (party-in p e refl)
   cancelling t Empty i e = unmoved
   cancelling t Cancelled i e = unmoved
   cancelling t Refused i e = unmoved
@@ -158,7 +158,7 @@ module _ (h : Hub) (p : ℕ) (named : h .opening .named ≡ true)
   unfolding stepRefusing isOneOf isPlaceOf moved seenBy
   refusing t (WaitedBy q) i e =
       party-still (radio-of p e) (place-still t (there t i) unmoved)
-  refusing t Permit i e = party-still (radio-of p e) (dropped bs cs (h .pool) s t (there t i))
+  refusing t Permit i e = party-still (radio-of p e) (dropped bs cs (h .control .pool) s t (there t i))
   refusing t Empty i e = unmoved
   refusing t Cancelled i e = unmoved
   refusing t Refused i e = unmoved
@@ -172,19 +172,19 @@ module _ (h : Hub) (p : ℕ) (named : h .opening .named ≡ true)
   handing-to t q true i w e =
       let x = one-of (Waiting 0) (readSlot (h .slots) q .phase) w in
       place-still t (there t i)
-      (passed bs cs (h .pool) s p (radio-of p e) q (radio-of q x) (party-in q x refl))
-  handing-to t q false i w e = left bs cs (h .pool) s p (radio-of p e) t (there t i)
+      (passed bs cs (h .control .pool) s p (radio-of p e) q (radio-of q x) (party-in q x refl))
+  handing-to t q false i w e = left bs cs (h .control .pool) s p (radio-of p e) t (there t i)
 
   handing : (t : ℕ) (a : Place) → readPlace (h .places) t ≡ a → look h p .seat .place ≡ a
       → phase ≡ ResumingAt t → Goes (ResumingAt t) (stepResumingAt t a (look h p))
   unfolding stepResumingAt isOneOf isPlaceOf moved seenBy
-  handing t Empty i j e = left bs cs (h .pool) s p (radio-of p e) t (there t i)
+  handing t Empty i j e = left bs cs (h .control .pool) s p (radio-of p e) t (there t i)
   handing t (WaitedBy q) i j e =
       handing-to t q _ i
       (ap (λ (a : Place). isWaiting (byWaiter freeSlot (readSlot (h .slots)) a .phase)) (sym j)) e
   handing t Cancelled i j e = party-still (radio-of p e) (place-still t (there t i) unmoved)
   handing t Refused i j e =
-      place-still t (there t i) (stored bs cs (h .pool) s p (radio-of p e))
+      place-still t (there t i) (stored bs cs (h .control .pool) s p (radio-of p e))
   handing t Permit i j e = unmoved
   handing t Done i j e = unmoved
 
@@ -209,7 +209,7 @@ module _ (h : Hub) (p : ℕ) (named : h .opening .named ≡ true)
   step-goes Resuming e = party-still (radio-of p e) unmoved
   step-goes (ResumingAt t) e = handing t _ (seen e) refl e
   step-goes Fetching e = fetching _ refl e
-  step-goes Storing e = stored bs cs (h .pool) s p (radio-of p e)
+  step-goes Storing e = stored bs cs (h .control .pool) s p (radio-of p e)
   step-goes AcquiringMarked e = asked AcquiringMarked SuspendingMarked refl refl _ e
   step-goes SuspendingMarked e = party-still (radio-of p e) unmoved
   step-goes (TicketedMarked t) e = numbered (TicketedMarked t) (Aborting t) refl refl refl t _ (seen e) e

@@ -48,7 +48,7 @@ use Rattle.hub.proofs.Window.Reached.{reached-fits}
 -- What the hub's move v does beside the queue's: the same, unless it answers 7, and then nothing.
 abbrev left : Hub → ℕ → Sight → Move → Hub
 left h p s v =
-    withPool (poolAfter (h .opening .named) (printed (answerOf v)) p (h .pool)) (apply h s v)
+    withPool (poolAfter (h .control .opening .named) (printed (answerOf v)) p (h .control .pool)) (apply h s v)
 
 pub record Follows (k : ℕ) (h : Hub) (m : Queue) (c : Call) (s : Sight) (v : Move) : Type 0 where
   pub alike : isSeven (answerOf v) ≡ false
@@ -119,9 +119,9 @@ module _ (k : ℕ) (h : Hub) (m : Queue) (r : Tracks k h m) (c : Call) where
       }
 
   -- A good move, for which there is room.
-  module _ (spare : m .figures .issued + sum drawing m + isAcquire (c .op) ≤ h .oldest + PLACES) where
+  module _ (spare : m .figures .issued + sum drawing m + isAcquire (c .op) ≤ h .control .oldest + PLACES) where
     changed : (a : Answer) (h′ : Hub) (m′ : Queue) → Next k (c .op) (c .party) a m m′
-        → Shows h′ m′ → length (h′ .places) ≡ PLACES → h′ .oldest ≡ h .oldest
+        → Shows h′ m′ → length (h′ .places) ≡ PLACES → h′ .control .oldest ≡ h .control .oldest
         → Tracks k (tidied h′) (queue.tidied m′)
     changed a h′ m′ g w z j =
         tidied-tracks k h′ m′
@@ -208,7 +208,7 @@ module _ (k : ℕ) (h : Hub) (m : Queue) (r : Tracks k h m) (c : Call) where
   full-acquire true false e = seventh
 
   abbrev full : Bool
-  full = isFull (h .oldest) (h .figures .issued) (h .slots)
+  full = isFull (h .control .oldest) (h .control .figures .issued) (h .slots)
 
   decided : (b : Bool) (o : Op) → full ≡ b → c .op ≡ o
       → Good k (c .op) (c .party) m phase (decide o false seen)
@@ -218,8 +218,8 @@ module _ (k : ℕ) (h : Hub) (m : Queue) (r : Tracks k h m) (c : Call) where
       made
       (omega (
         arith,
-        room-left (phases m) (h .oldest) (m .figures .issued)
-            (sym (λ i. isFull (h .oldest) (r .shows .figures i .issued) (r .shows .slots i)) ∙ f),
+        room-left (phases m) (h .control .oldest) (m .figures .issued)
+            (sym (λ i. isFull (h .control .oldest) (r .shows .figures i .issued) (r .shows .slots i)) ∙ f),
         at-most (c .op),
       ))
       (decide o false seen) g e
@@ -250,7 +250,7 @@ module _ (k : ℕ) (h : Hub) (m : Queue) (r : Tracks k h m) (c : Call) where
   fitting : fits h ≡ true → Follows k h m c (look h (c .party)) (moveOf h c)
   fitting i =
       subst (λ (x : Bool). Follows k h m c (look h (c .party))
-      (checked x (ltb (c .party) (h .opening .parties)) (decide (c .op) full (look h (c .party)))))
+      (checked x (ltb (c .party) (h .control .opening .parties)) (decide (c .op) full (look h (c .party)))))
       (sym i)
       (subst (λ (n : ℕ). Follows k h m c (look h (c .party))
       (checked true (ltb (c .party) n) (decide (c .op) full (look h (c .party)))))

@@ -33,7 +33,7 @@ pub tidied-tracks : (k : ℕ) (h : Hub) (m : Queue) → Tracks k h m
 unfolding tidied
 tidied-tracks k h m r =
     let cells = skip-cells (m .figures .issued) m in
-    let x = tidied-tracked (h .figures .resumed) (ap (λ (f : Figures). f .resumed) (r .shows .figures)) (tracked r) in
+    let x = tidied-tracked (h .control .figures .resumed) (ap (λ (f : Figures). f .resumed) (r .shows .figures)) (tracked r) in
     subst (Tracks k (tidied h)) (sym cells)
     (record {
       permits = r .permits;

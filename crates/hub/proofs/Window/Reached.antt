@@ -81,14 +81,14 @@ module _ (k : ℕ) (h : Hub) (m : Queue) (r : Tracks k h m) where
         weight-add suspending live (phases m),
       ))
 
-  figures-fit : 1 ≤ k → k ≤ 32 → figuresFit (h .opening) (h .figures) (h .oldest) ≡ true
+  figures-fit : 1 ≤ k → k ≤ 32 → figuresFit (h .control .opening) (h .control .figures) (h .control .oldest) ≡ true
   unfolding figuresFit
   figures-fit a b =
       let few = r .inv .tickets .few in
       let same-n = ap (λ (o : Opening). o .parties) (r .shows .opening) in
-      ap (λ (f : Figures). figuresFit (h .opening) f (h .oldest)) (r .shows .figures)
-      ∙ passed _ _ (up-to-32 (h .opening .permits) (omega (arith, r .permits)) (omega (arith, r .permits)))
-      (passed _ _ (up-to-32 (h .opening .parties) (omega arith) (omega arith))
+      ap (λ (f : Figures). figuresFit (h .control .opening) f (h .control .oldest)) (r .shows .figures)
+      ∙ passed _ _ (up-to-32 (h .control .opening .permits) (omega (arith, r .permits)) (omega (arith, r .permits)))
+      (passed _ _ (up-to-32 (h .control .opening .parties) (omega arith) (omega arith))
       (passed _ _ (counter-fits (m .figures .counter) refl b) (numbers-fit (tracked r))))
 
   -- The table lists the step of every party; those from n up are at rest.
@@ -111,19 +111,19 @@ module _ (k : ℕ) (h : Hub) (m : Queue) (r : Tracks k h m) where
       (both _ _
       (ap (λ (o : Opening). ltb p (o .parties) || isFree (readSlot (h .slots) p .phase)) (r .shows .opening)
       ∙ absent-free (tracked r) p _ (read-same k h m r p))
-      (ap₂ (λ (f : Figures). ticketFits f (h .oldest)) (r .shows .figures) (read-same k h m r p)
+      (ap₂ (λ (f : Figures). ticketFits f (h .control .oldest)) (r .shows .figures) (read-same k h m r p)
       ∙ ticket-fits (tracked r) p _ refl))
       (sym (listed-is-tabled (look h p))
       ∙ ap (λ (s : Sight). isListed (step s)) (look-same k h m r p) ∙ listed p _ refl))
       (ap₂ (λ (f : Phase) (o : Opening). implies (ofRadios f) (o .named)) (read-same k h m r p)
       (r .shows .opening) ∙ with-radios (phaseIn (phases m) p) (m .opening .named) (r .inv .radios p))
 
-  place-fits : (t : ℕ) → h .oldest ≤ t → t < h .oldest + PLACES → placeFits h t ≡ true
+  place-fits : (t : ℕ) → h .control .oldest ≤ t → t < h .control .oldest + PLACES → placeFits h t ≡ true
   unfolding placeFits
   place-fits = waiter-stands (tracked r) (λ p. readSlot (h .slots) p .phase) (read-same k h m r)
 
 -- Each radio is somewhere once.
-radios-fit : (h : Hub) → radiosDiffer (h .opening) ≡ true → (h .opening .named ≡ true → Kept h)
+radios-fit : (h : Hub) → radiosDiffer (h .control .opening) ≡ true → (h .control .opening .named ≡ true → Kept h)
     → radiosFit h ≡ true
 unfolding radiosFit rearranged
 radios-fit h d e =
@@ -140,6 +140,6 @@ reached-fits k h m r a b =
     (both _ _
     (both _ _ (figures-fit k h m t a b)
     (all-true (partyFits h) 0 PARTIES (λ p i j. party-fits k h m t p)))
-    (all-true (placeFits h) (h .oldest) PLACES (place-fits k h m t)))
+    (all-true (placeFits h) (h .control .oldest) PLACES (place-fits k h m t)))
     (radios-fit h (r .differ) (r .radios)))
     (r .kinds)

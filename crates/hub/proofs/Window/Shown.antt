@@ -24,23 +24,23 @@ use Rattle.hub.proofs.Window.Tracked.{Tracked, seat-same}
 
 -- The record h tracks the queue m: it shows it, and the queue keeps the invariant.
 pub record Tracks (k : ℕ) (h : Hub) (m : Queue) : Type 0 where
-  pub permits : h .opening .permits ≡ k
+  pub permits : h .control .opening .permits ≡ k
   pub size : length (h .places) ≡ PLACES
   pub shows : Shows h m
   pub inv : Inv k m
-  pub room : m .figures .issued + sum drawing m ≤ h .oldest + PLACES
+  pub room : m .figures .issued + sum drawing m ≤ h .control .oldest + PLACES
 
 -- A record that a schedule reaches: on a hub with radios, they are those of its opening.
 pub record Reached (k : ℕ) (h : Hub) (m : Queue) : Type 0 where
   pub tracks : Tracks k h m
-  pub differ : radiosDiffer (h .opening) ≡ true
-  pub kinds : kindsFit (h .opening) ≡ true
-  pub radios : h .opening .named ≡ true → Kept h
+  pub differ : radiosDiffer (h .control .opening) ≡ true
+  pub kinds : kindsFit (h .control .opening) ≡ true
+  pub radios : h .control .opening .named ≡ true → Kept h
 
 -- Its places beside the queue's cells.
 pub tracked : {k : ℕ} {h : Hub} {m : Queue} → Tracks k h m
     → let f = m .figures in
-    Tracked (phases m) (m .cells) (h .oldest) (h .places) (m .opening .parties) (f .issued) (f .resumed)
+    Tracked (phases m) (m .cells) (h .control .oldest) (h .places) (m .opening .parties) (f .issued) (f .resumed)
     (f .begun) (down (f .counter)) (sum resuming m)
 tracked r =
     record { size = r .size; window = r .shows .window; tickets = r .inv .tickets; room = r .room }

@@ -12,7 +12,7 @@ use Rattle.hub.specs.declared.record.PlaceSlot.{PlaceSlot}
 use Rattle.hub.specs.Kinds.{kindIn}
 use Rattle.hub.specs.Phases.{ticketOf}
 use Rattle.hub.specs.Ring.{PLACES, readSeat}
-use Rattle.clauses.proofs.Laws.Sizes.{mapped-size}
+use Rattle.hub.proofs.Laws.Lists.{mapped-size}
 use Rattle.transition.proofs.Laws.Loops.{tidy}
 use Rattle.latch.specs.declared.moves.LatchSight.{LatchSight}
 use Rattle.latch.specs.declared.record.Latch.{Latch}

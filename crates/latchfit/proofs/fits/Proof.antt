@@ -13,7 +13,7 @@ use Rattle.hub.specs.Ring.{readSeat}
 use Rattle.clauses.specs.Window.{ticketAt}
 use Rattle.clauses.proofs.Laws.Bools.{failed, passed}
 use Rattle.clauses.proofs.Laws.Ranges.{Left, one-fails, one-passes, none-left, by-index}
-use Rattle.clauses.proofs.Laws.Sizes.{mapped-size}
+use Rattle.hub.proofs.Laws.Lists.{mapped-size}
 use Rattle.latch.specs.Fits.{figuresFit, partyFits, placeFits}
 use Rattle.latch.specs.Record.{readSlot}
 use Rattle.latchfit.proofs.Laws.Clauses.{oldest-small, parties-few}

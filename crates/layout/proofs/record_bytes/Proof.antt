@@ -120,7 +120,7 @@ returns c =
     let kinds = at-put-few2 .put-few2 .ensures in
     let w6 = next 1881 _ 1849 32 _ _ _ _ w5 (omega arith) refl (kinds .1) (kinds .0) in
     all-written 1881 _ 1881 _ w6 (omega arith) ∙ six (figureBytes h) (placeBytes (h .places)) (phaseBytes (h .slots))
-    (radioBytes (h .opening) (h .slots) (h .places) (h .pool)) (markBytes (h .slots)) (h .opening .kinds)
+    (radioBytes (h .control .opening) (h .slots) (h .places) (h .control .pool)) (markBytes (h .slots)) (h .control .opening .kinds)
 
 pub record-bytes-spec : {M : Type 1} → statement M
 record-bytes-spec =

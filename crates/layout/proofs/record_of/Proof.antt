@@ -1,5 +1,6 @@
 -- `record_of` meets its contract: each part is read where it stands.
 use borrow.Author.Needs.{needs}
+use Rattle.hub.specs.Record.{controlOf, ofFields}
 use Rattle.layout.proofs.record_of.Statement.{statement}
 use Rattle.layout.proofs.record_of.Tie as tie
 
@@ -24,14 +25,11 @@ pool-of-requires c κs = search needs
 returns : tie.Need-returns
 returns c =
     λ j.
-    record {
-      opening = c .before .before .before .before .before .opening-of .ensures j;
-      figures = c .before .before .before .before .figures-of .ensures j;
-      oldest = c .before .before .before .number-at .ensures j;
-      places = c .before .before .places-at .ensures j;
-      slots = c .before .slots-of .ensures j;
-      pool = c .pool-of .ensures j;
-    }
+    ofFields
+    (controlOf (c .before .before .before .before .before .opening-of .ensures j)
+    (c .before .before .before .before .figures-of .ensures j) (c .before .before .before .number-at .ensures j)
+    (c .pool-of .ensures j))
+    (c .before .before .places-at .ensures j) (c .before .slots-of .ensures j)
 
 pub record-of-spec : {M : Type 1} → statement M
 record-of-spec =

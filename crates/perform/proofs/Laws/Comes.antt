@@ -89,28 +89,28 @@ module _ (h : Hub) (p : ℕ) where
   callBy c = record { op = opOf c; party = p }
 
   abbrev pub ticketAt : ℕ → ℕ
-  ticketAt c = ticketFor c (readSlot (h .slots) p .phase) (h .figures)
+  ticketAt c = ticketFor c (readSlot (h .slots) p .phase) (h .control .figures)
 
   -- What the operation of code c looks at.
   abbrev pub seenOf : ℕ → Seen
   seenOf c =
       record {
         party = p;
-        kind = kindIn (h .opening .kinds) p;
-        named = h .opening .named;
+        kind = kindIn (h .control .opening .kinds) p;
+        named = h .control .opening .named;
         slot = readSlot (h .slots) p;
         seat = readSeat (h .places) (ticketAt c);
-        figures = h .figures;
+        figures = h .control .figures;
       }
 
   abbrev pub full : Bool
-  full = isFull (h .oldest) (h .figures .issued) (h .slots)
+  full = isFull (h .control .oldest) (h .control .figures .issued) (h .slots)
 
   abbrev pub planAt : ℕ → Plan
   planAt c = planOf c full (seenOf c)
 
   abbrev made : Figures → List PlaceSlot → List PartySlot → Pool → Hub
-  made f a l q = withParts f (h .oldest) a l q h
+  made f a l q = withParts f (h .control .oldest) a l q h
 
   -- The slots, the places and the radios, once a plan of code c is stored.
   abbrev pub slotsBy : Plan → List PartySlot
@@ -123,7 +123,7 @@ module _ (h : Hub) (p : ℕ) where
   placesBy c e = writeSeat (h .places) (ticketAt c) (e .seat)
 
   abbrev pub radiosBy : ℕ → Plan → Pool
-  radiosBy c e = poolAfter (h .opening .named) (printed (radioBy c (e .steps) (e .woken))) p (h .pool)
+  radiosBy c e = poolAfter (h .control .opening .named) (printed (radioBy c (e .steps) (e .woken))) p (h .control .pool)
 
   abbrev pub storedBy : ℕ → Plan → Hub
   storedBy c e = made (e .figures) (placesBy c e) (slotsBy e) (radiosBy c e)
@@ -137,8 +137,8 @@ module _ (h : Hub) (p : ℕ) where
 
   -- Whoever is woken has a number of one byte.
   pub woken-byte :
-      (belowZero (h .figures .counter) ≡ true
-      → byWaiter 0xFF (λ q. q) (readPlace (h .places) (h .figures .resumed)) ≤ 0xFF)
+      (belowZero (h .control .figures .counter) ≡ true
+      → byWaiter 0xFF (λ q. q) (readPlace (h .places) (h .control .figures .resumed)) ≤ 0xFF)
       → (c : ℕ) → isOperationCode c ≡ true → planAt c .woken ≤ 0xFF
   woken-byte e =
       among-three (λ c. planAt c .woken ≤ 0xFF) (asked-woken (seenOf 0x10) _ _ _ _)
@@ -167,10 +167,10 @@ module _ (h : Hub) (p : ℕ) where
           steps = refl;
           hub =
               tidied-none _
-              ∙ (λ i. made (h .figures) (same-seat (h .places) (ticketAt c) i)
+              ∙ (λ i. made (h .control .figures) (same-seat (h .places) (ticketAt c) i)
               ((alone own ∙ same-slot (h .slots) p) i)
-              ((ap (λ (y : Answer). poolAfter (h .opening .named) (printed y) p (h .pool)) e
-              ∙ unmoved p (h .pool) (h .opening .named)) i));
+              ((ap (λ (y : Answer). poolAfter (h .control .opening .named) (printed y) p (h .control .pool)) e
+              ∙ unmoved p (h .control .pool) (h .control .opening .named)) i));
         }
 
     takes : Comes 0x10 (planAcquire true false false true (seenOf 0x10)) (acquired true h p)
@@ -182,9 +182,9 @@ module _ (h : Hub) (p : ℕ) where
           steps = refl;
           hub =
               tidied-none _
-              ∙ (λ i. made (afterAcquire (h .figures .issued) (h .figures))
-              (same-seat (h .places) (h .figures .issued) i) (alone (withPhase Phase.Holding own) i)
-              (fetched p (h .pool) (h .opening .named) i));
+              ∙ (λ i. made (afterAcquire (h .control .figures .issued) (h .control .figures))
+              (same-seat (h .places) (h .control .figures .issued) i) (alone (withPhase Phase.Holding own) i)
+              (fetched p (h .control .pool) (h .control .opening .named) i));
         }
 
     parks : Comes 0x10 (planAcquire true false false false (seenOf 0x10)) (acquired false h p)
@@ -196,11 +196,11 @@ module _ (h : Hub) (p : ℕ) where
           steps = refl;
           hub =
               tidied-none _
-              ∙ (λ i. made (afterAcquire (h .figures .issued + 1) (h .figures)) (acquired false h p .hub .places)
-              (alone (withPhase (Phase.Waiting (h .figures .issued)) own) i) (unmoved p (h .pool) (h .opening .named) i));
+              ∙ (λ i. made (afterAcquire (h .control .figures .issued + 1) (h .control .figures)) (acquired false h p .hub .places)
+              (alone (withPhase (Phase.Waiting (h .control .figures .issued)) own) i) (unmoved p (h .control .pool) (h .control .opening .named) i));
         }
 
-    asks : (a b f z : Bool) → aboveZero (h .figures .counter) ≡ z
+    asks : (a b f z : Bool) → aboveZero (h .control .figures .counter) ≡ z
         → Comes 0x10 (planAcquire a b f z (seenOf 0x10)) (byMove (acquire a b f (look h p)) h (callBy 0x10))
     unfolding planAcquire acquire
     asks false b f z e = refused 0x10 Refusal.NotFree refl
@@ -223,9 +223,9 @@ module _ (h : Hub) (p : ℕ) where
           hub =
               tidied-all _
               ∙ ap tidied
-              (λ i. made (afterReturn (h .figures .resumed) (h .figures))
+              (λ i. made (afterReturn (h .control .figures .resumed) (h .control .figures))
               (placesBy 0x12 (planCancel true false (seenOf 0x12))) (alone (withPhase Phase.Free own) i)
-              (unmoved p (h .pool) (h .opening .named) i));
+              (unmoved p (h .control .pool) (h .control .opening .named) i));
         }
 
     cancels : (a k : Bool) (x : Phase)
@@ -244,9 +244,9 @@ module _ (h : Hub) (p : ℕ) where
           steps = refl;
           hub =
               tidied-none _
-              ∙ (λ i. made (afterReturn (h .figures .resumed) (h .figures))
-              (same-seat (h .places) (h .figures .resumed) i) (alone (withPhase Phase.Free own) i)
-              (stored p (h .pool) (h .opening .named) i));
+              ∙ (λ i. made (afterReturn (h .control .figures .resumed) (h .control .figures))
+              (same-seat (h .places) (h .control .figures .resumed) i) (alone (withPhase Phase.Free own) i)
+              (stored p (h .control .pool) (h .control .opening .named) i));
         }
 
     hands-over : Comes 0x13 (planRelease true true (seenOf 0x13)) (released true h p)
@@ -264,10 +264,10 @@ module _ (h : Hub) (p : ℕ) where
               (writeSlot
               (writeSlot (h .slots) (e .woken) (withPhase Phase.Holding (readSlot (h .slots) (e .woken)))) p
               (sym (phase-alone Phase.Free Phase.Holding (h .slots) p (e .woken)) i))
-              (handed p (h .pool) (h .opening .named) (e .woken) i));
+              (handed p (h .control .pool) (h .control .opening .named) (e .woken) i));
         }
 
-    releases : (a z : Bool) → belowZero (h .figures .counter) ≡ z
+    releases : (a z : Bool) → belowZero (h .control .figures .counter) ≡ z
         → Comes 0x13 (planRelease a z (seenOf 0x13)) (byMove (release a (look h p)) h (callBy 0x13))
     unfolding planRelease release
     releases false z e = refused 0x13 Refusal.NotHolding refl
@@ -278,12 +278,12 @@ module _ (h : Hub) (p : ℕ) where
 
     module _ (fit : fits h ≡ true) where
       -- 4, before the call's own refusals.
-      pub no-such-party : (c : ℕ) → ltb p (h .opening .parties) ≡ false
+      pub no-such-party : (c : ℕ) → ltb p (h .control .opening .parties) ≡ false
           → operatedAtRest h (callBy c) ≡ turnedDown Refusal.NoSuchParty
       unfolding operatedAtRest checked
       no-such-party c n = rw (fit, n)
 
-      module _ (n : ltb p (h .opening .parties) ≡ true) (rest : atRest (readSlot (h .slots) p .phase) ≡ true) where
+      module _ (n : ltb p (h .control .opening .parties) ≡ true) (rest : atRest (readSlot (h .slots) p .phase) ≡ true) where
         by-table : (c : ℕ)
             → byMove (decide (opOf c) full (look h p)) h (callBy c) ≡ operatedAtRest h (callBy c)
         unfolding operatedAtRest checked
@@ -302,7 +302,7 @@ module _ (h : Hub) (p : ℕ) where
             let x = readSlot (h .slots) p .phase in
             subst (Comes 0x12 (planAt 0x12)) (by-table 0x12)
             (subst (λ (b : Bool).
-            Comes 0x12 (planAt 0x12) (byMove (cancel b (eqb (kindIn (h .opening .kinds) p) 3) (givenUp x) (look h p)) h (callBy 0x12)))
+            Comes 0x12 (planAt 0x12) (byMove (cancel b (eqb (kindIn (h .control .opening .kinds) p) 3) (givenUp x) (look h p)) h (callBy 0x12)))
             (sym (gives-up x rest)) (cancels _ _ _))
 
         give-back : AsPlanned 0x13

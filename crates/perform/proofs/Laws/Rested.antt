@@ -31,14 +31,14 @@ module _ (h : Hub) (r : Rested h) where
       (at-rest (a .from) (a .accepted) (a .calls)) (r .calm)
 
   -- Whoever is next in line is one of the 32.
-  pub next-in-line : belowZero (h .figures .counter) ≡ true
-      → byWaiter 0xFF (λ q. q) (readPlace (h .places) (h .figures .resumed)) ≤ 0xFF
+  pub next-in-line : belowZero (h .control .figures .counter) ≡ true
+      → byWaiter 0xFF (λ q. q) (readPlace (h .places) (h .control .figures .resumed)) ≤ 0xFF
   next-in-line e =
       let w = next-waits h known e in
       omega (
         arith,
-        ap (byWaiter 0xFF (λ q. q)) (known .waits (w .0) (h .figures .resumed) (w .1) .0),
-        waiter-inside h known (w .0) (h .figures .resumed) (w .1),
+        ap (byWaiter 0xFF (λ q. q)) (known .waits (w .0) (h .control .figures .resumed) (w .1) .0),
+        waiter-inside h known (w .0) (h .control .figures .resumed) (w .1),
         known .slots,
       )
 

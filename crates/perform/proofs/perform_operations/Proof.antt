@@ -22,7 +22,7 @@ use Rattle.hub.specs.declared.record.Pool.{Pool}
 use Rattle.hub.specs.Calls.{ringOf, withRing}
 use Rattle.hub.specs.Fits.{fits}
 use Rattle.hub.specs.Kinds.{kindIn}
-use Rattle.hub.specs.Record.{emptySeat, ofFields, readSlot, withPhase, writeSlot}
+use Rattle.hub.specs.Record.{controlOf, emptySeat, ofFields, readSlot, withPhase, writeSlot}
 use Rattle.hub.specs.Ring.{PLACES, Ring, readSeat, writeSeat}
 use Rattle.encoding.specs.Frame.{opOf}
 use Rattle.operations.specs.declared.Operated.{Operated}
@@ -63,7 +63,8 @@ abbrev μ-loop2 : tie.MeasureT-loop2
 
 abbrev Inv-loop : tie.InvT-loop
 Inv-loop operations out₀ opening f₀ o₀ places₀ slots₀ pool₀ _ _ _ out f o places slots pool i =
-    Upto (ofFields opening f₀ o₀ places₀ slots₀ pool₀) operations out₀ (ofFields opening f o places slots pool) out i
+    Upto (ofFields (controlOf opening f₀ o₀ pool₀) places₀ slots₀) operations out₀
+    (ofFields (controlOf opening f o pool) places slots) out i
     × (length slots ≡ 32)
 
 abbrev μ-loop : tie.MeasureT-loop
@@ -134,8 +135,8 @@ asking c = known (entered c)
 -- The record at the head of a turn, and the operation.
 abbrev hub : Head → Hub
 hub c =
-    ofFields (begun c .args .hub .opening) (c .loop .figures) (c .loop .oldest) (c .loop .places)
-    (c .loop .slots) (c .loop .pool)
+    ofFields (controlOf (begun c .args .hub .control .opening) (c .loop .figures) (c .loop .oldest) (c .loop .pool))
+    (c .loop .places) (c .loop .slots)
 
 abbrev bytes : Head → List ℕ
 bytes c = begun c .args .operations .now
@@ -209,8 +210,8 @@ plan-is c =
     let sight : ℕ → Seen = λ t.
     record {
       party = party k;
-      kind = getD (hub h .opening .kinds) (party k) 0;
-      named = hub h .opening .named;
+      kind = getD (hub h .control .opening .kinds) (party k) 0;
+      named = hub h .control .opening .named;
       slot = readSlot (h .loop .slots) (party k);
       seat = getD (h .loop .places) t emptySeat;
       figures = h .loop .figures;
@@ -250,8 +251,8 @@ abbrev untidied : Settled → Hub
 untidied s =
     let c = within s in
     let h = head (asking c) in
-    ofFields (hub h .opening) (plan c .figures) (h .loop .oldest) (set (h .loop .places) (index c) (plan c .seat))
-    (writeSlot (woken s .if2 .slots) (party (asking c)) (plan c .slot)) (s .if3 .pool)
+    ofFields (controlOf (hub h .control .opening) (plan c .figures) (h .loop .oldest) (s .if3 .pool))
+    (set (h .loop .places) (index c) (plan c .seat)) (writeSlot (woken s .if2 .slots) (party (asking c)) (plan c .slot))
 
 abbrev wokenSlots : Planned → List PartySlot
 wokenSlots c =
@@ -286,8 +287,8 @@ unfolding writeSeat
 stored s =
     let c = within s in
     let h = head (asking c) in
-    (λ i. ofFields (hub h .opening) (plan c .figures) (h .loop .oldest) (set (h .loop .places) (index-is c i) (plan c .seat))
-    (writeSlot (woken-slots s i) (party (asking c)) (plan c .slot)) (moved-pool s i))
+    (λ i. ofFields (controlOf (hub h .control .opening) (plan c .figures) (h .loop .oldest) (moved-pool s i))
+    (set (h .loop .places) (index-is c i) (plan c .seat)) (writeSlot (woken-slots s i) (party (asking c)) (plan c .slot)))
 
 -- The answer that is written.
 abbrev said : Plan → List ℕ
@@ -304,7 +305,7 @@ worded c =
 one-more : (s : Settled) (u : Hub) → u ≡ tidiedBy (plan (within s) .turns) (untidied s)
     → let h = head (asking (within s)) in
     let b = begun h .args in
-    Upto (ofFields (b .hub .opening) (b .hub .figures) (b .hub .oldest) (b .hub .places) (b .hub .slots) (b .hub .pool))
+    Upto (ofFields (b .hub .control) (b .hub .places) (b .hub .slots))
     (bytes h) (b .out .now) u (s .before .before .before .put-at2 .last .0) (h .loop .i + 1)
 one-more s u e =
     let c = within s in
@@ -323,7 +324,7 @@ still-32 s =
     ∙ head (asking c) .loop .inv .1
 
 -- A party that there is not is refused at once.
-turned-down : (c : Known) → hub (head c) .opening .parties ≤ party c
+turned-down : (c : Known) → hub (head c) .control .opening .parties ≤ party c
     → operated (hub (head c)) (call c)
     ≡ record {
       answer = Answer.Refused Refusal.NoSuchParty;

@@ -21,55 +21,55 @@ use Rattle.pool.specs.Met.{ENOUGH, Notes, noted}
 
 -- A hub without radios; one whose opening has two alike.
 module _ (h : Hub) where
-  pub unnamed-fit : h .opening .named ≡ false → radiosFit h ≡ true
+  pub unnamed-fit : h .control .opening .named ≡ false → radiosFit h ≡ true
   unfolding radiosFit
-  unnamed-fit e = rw (unnamed-differ (h .opening) e, e)
+  unnamed-fit e = rw (unnamed-differ (h .control .opening) e, e)
 
-  pub alike-unfit : radiosDiffer (h .opening) ≡ false → radiosFit h ≡ false
+  pub alike-unfit : radiosDiffer (h .control .opening) ≡ false → radiosFit h ≡ false
   unfolding radiosFit
   alike-unfit e = rw e
 
 -- The radios that there are.
 abbrev pub inAll : Hub → List ℕ
-inAll h = radiosIn (h .slots) (h .places) (h .pool)
+inAll h = radiosIn (h .slots) (h .places) (h .control .pool)
 
 -- Where no two are alike, they are a rearrangement of the opening's.
-module _ (h : Hub) (e : h .opening .named ≡ true) (d : radiosDiffer (h .opening) ≡ true)
-    (size : length (h .opening .radios) ≡ 32) (few : h .opening .permits ≤ 32) where
-  by-rearranged : radiosFit h ≡ rearranged (inAll h) (radiosOf (h .opening))
+module _ (h : Hub) (e : h .control .opening .named ≡ true) (d : radiosDiffer (h .control .opening) ≡ true)
+    (size : length (h .control .opening .radios) ≡ 32) (few : h .control .opening .permits ≤ 32) where
+  by-rearranged : radiosFit h ≡ rearranged (inAll h) (radiosOf (h .control .opening))
   unfolding radiosFit
   by-rearranged =
-      ap₂ (λ (a b : Bool). a && implies b (rearranged (inAll h) (radiosOf (h .opening)))) d e
+      ap₂ (λ (a b : Bool). a && implies b (rearranged (inAll h) (radiosOf (h .control .opening)))) d e
 
   -- They are not as many.
-  other-length : (length (inAll h) ≡ h .opening .permits → ⊥) → radiosFit h ≡ false
+  other-length : (length (inAll h) ≡ h .control .opening .permits → ⊥) → radiosFit h ≡ false
   unfolding rearranged
   other-length n =
       by-rearranged
-      ∙ rw (ne-eqb (length (inAll h)) (length (radiosOf (h .opening))) (λ z. n (z ∙ opened)))
+      ∙ rw (ne-eqb (length (inAll h)) (length (radiosOf (h .control .opening))) (λ z. n (z ∙ opened)))
     where
-      opened : length (radiosOf (h .opening)) ≡ h .opening .permits
+      opened : length (radiosOf (h .control .opening)) ≡ h .control .opening .permits
       opened =
-          ap length (radios-of (h .opening) size)
-          ∙ length-take-le (h .opening .permits) (h .opening .radios) (omega arith)
+          ap length (radios-of (h .control .opening) size)
+          ∙ length-take-le (h .control .opening .permits) (h .control .opening .radios) (omega arith)
 
-  pub stored-over : 32 < h .pool .stored → radiosFit h ≡ false
+  pub stored-over : 32 < h .control .pool .stored → radiosFit h ≡ false
   unfolding radiosIn
   stored-over s = other-length (λ z. omega (arith, z, long))
     where
       held : List ℕ
-      held = shown hasRadio (phasesOf (h .slots)) (h .pool .hands)
+      held = shown hasRadio (phasesOf (h .slots)) (h .control .pool .hands)
 
       lying : List ℕ
-      lying = shown isPermit (placesOf (h .places)) (h .pool .laid)
+      lying = shown isPermit (placesOf (h .places)) (h .control .pool .laid)
 
-      long : length (held ++ (lying ++ storedIn (h .pool))) ≡ length held + (length lying + h .pool .stored)
+      long : length (held ++ (lying ++ storedIn (h .control .pool))) ≡ length held + (length lying + h .control .pool .stored)
       long =
           omega (
             arith,
-            length-append held (lying ++ storedIn (h .pool)),
-            length-append lying (storedIn (h .pool)),
-            ring-length (h .pool .store) (h .pool .first) (h .pool .stored),
+            length-append held (lying ++ storedIn (h .control .pool)),
+            length-append lying (storedIn (h .control .pool)),
+            ring-length (h .control .pool .store) (h .control .pool .first) (h .control .pool .stored),
           )
 
   -- Those noted are all, unless they are too many.
@@ -80,17 +80,17 @@ module _ (h : Hub) (e : h .opening .named ≡ true) (d : radiosDiffer (h .openin
     all-noted : length (inAll h) ≤ 32 → noted m ≡ (inAll h)
     all-noted i = n .front ∙ take-all ENOUGH (inAll h) (omega arith)
 
-    pub other-count : (m .count ≡ h .opening .permits → ⊥) → radiosFit h ≡ false
+    pub other-count : (m .count ≡ h .control .opening .permits → ⊥) → radiosFit h ≡ false
     other-count c =
         other-length (λ z. c (sym counted ∙ ap length (all-noted (omega (arith, z))) ∙ z))
 
-    pub same-count : m .count ≡ h .opening .permits
-        → rearranged (take (h .opening .permits) (m .radios))
-        (take (h .opening .permits) (h .opening .radios))
+    pub same-count : m .count ≡ h .control .opening .permits
+        → rearranged (take (h .control .opening .permits) (m .radios))
+        (take (h .control .opening .permits) (h .control .opening .radios))
         ≡ radiosFit h
     same-count c =
         ap₂ rearranged (ap (λ (j : ℕ). take j (m .radios)) (sym c) ∙ all-noted short)
-        (sym (radios-of (h .opening) size))
+        (sym (radios-of (h .control .opening) size))
         ∙ sym by-rearranged
       where
         short : length (inAll h) ≤ 32

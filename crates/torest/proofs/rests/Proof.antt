@@ -3,7 +3,7 @@ use borrow.Author.Needs.{needs}
 use mathlib.Core.Path.{_≡_, refl}
 use lib.ListN.{length}
 use Rattle.hub.specs.Record.{readSlot}
-use Rattle.clauses.proofs.Laws.Sizes.{mapped-size}
+use Rattle.hub.proofs.Laws.Lists.{mapped-size}
 use Rattle.torest.proofs.Laws.{past, by-rank}
 use Rattle.torest.proofs.rests.Statement.{statement}
 use Rattle.torest.proofs.rests.Tie as tie

@@ -43,7 +43,7 @@ asks o p = record { op = o; party = p }
 
 -- The radios once party p is answered y.
 abbrev pub radiosAfter : Hub → ℕ → Answer → Pool
-radiosAfter h p y = poolAfter (h .opening .named) (printed y) p (h .pool)
+radiosAfter h p y = poolAfter (h .control .opening .named) (printed y) p (h .control .pool)
 
 -- What a move answers and leaves.
 abbrev outcome : Hub → ℕ → Move → Outcome
@@ -54,7 +54,7 @@ outcome h p m =
     }
 
 abbrev full : Hub → Bool
-full h = isFull (h .oldest) (h .figures .issued) (h .slots)
+full h = isFull (h .control .oldest) (h .control .figures .issued) (h .slots)
 
 -- A refusal leaves the record as it was.
 refusal : (h : Hub) (p : ℕ) (r : Refusal)
@@ -62,7 +62,7 @@ refusal : (h : Hub) (p : ℕ) (r : Refusal)
 unfolding apply
 refusal h p r =
     ap (λ (q : Pool). record { answer = Answer.Refused r; hub = withPool q h })
-    (sym (refused-pool (h .opening .named) r p (h .pool)))
+    (sym (refused-pool (h .control .opening .named) r p (h .control .pool)))
 
 -- Refused by 1, and by 4.
 pub unfit : (h : Hub) (p : ℕ) (o : Op) → fits h ≡ false
@@ -71,9 +71,9 @@ unfolding checked
 unfit h p o e =
     refusal h p Refusal.Unfit
     ∙ sym (ap (λ (a : Bool).
-    outcome h p (checked a (ltb p (h .opening .parties)) (decide o (full h) (look h p)))) e)
+    outcome h p (checked a (ltb p (h .control .opening .parties)) (decide o (full h) (look h p)))) e)
 
-pub no-such-party : (h : Hub) (p : ℕ) (o : Op) → fits h ≡ true → ltb p (h .opening .parties) ≡ false
+pub no-such-party : (h : Hub) (p : ℕ) (o : Op) → fits h ≡ true → ltb p (h .control .opening .parties) ≡ false
     → record { answer = Answer.Refused Refusal.NoSuchParty; hub = h } ≡ called h (asks o p)
 unfolding checked
 no-such-party h p o e f =
@@ -82,7 +82,7 @@ no-such-party h p o e f =
     outcome h p (checked a b (decide o (full h) (look h p)))) e f)
 
 -- A call that neither refuses does what is decided.
-pub admitted : (h : Hub) (p : ℕ) (o : Op) → fits h ≡ true → ltb p (h .opening .parties) ≡ true
+pub admitted : (h : Hub) (p : ℕ) (o : Op) → fits h ≡ true → ltb p (h .control .opening .parties) ≡ true
     → outcome h p (decide o (full h) (look h p)) ≡ called h (asks o p)
 unfolding checked
 admitted h p o e f =
@@ -91,35 +91,35 @@ admitted h p o e f =
 
 -- The figures of a record that fits.
 pub record Counted (h : Hub) : Type 0 where
-  pub permits : (1 ≤ h .opening .permits) × (h .opening .permits ≤ 32)
-  pub parties : h .opening .parties ≤ 32
-  pub counter : counterFits (h .figures .counter) ≡ true
-  pub issued : h .figures .issued ≤ MAX-BEGUN
-  pub resumed : h .figures .resumed ≤ MAX-BEGUN
-  pub oldest : h .oldest ≤ MAX-BEGUN
+  pub permits : (1 ≤ h .control .opening .permits) × (h .control .opening .permits ≤ 32)
+  pub parties : h .control .opening .parties ≤ 32
+  pub counter : counterFits (h .control .figures .counter) ≡ true
+  pub issued : h .control .figures .issued ≤ MAX-BEGUN
+  pub resumed : h .control .figures .resumed ≤ MAX-BEGUN
+  pub oldest : h .control .oldest ≤ MAX-BEGUN
 
 pub counted : (h : Hub) → fits h ≡ true → Counted h
 unfolding fits stateFits figuresFit
 counted h e =
     let parties = allFrom (partyFits h) 0 PARTIES in
-    let places = allFrom (placeFits h) (h .oldest) PLACES in
-    let f = figuresFit (h .opening) (h .figures) (h .oldest) in
-    let state = first (stateFits h) (kindsFit (h .opening)) e in
+    let places = allFrom (placeFits h) (h .control .oldest) PLACES in
+    let f = figuresFit (h .control .opening) (h .control .figures) (h .control .oldest) in
+    let state = first (stateFits h) (kindsFit (h .control .opening)) e in
     let all = first f parties (first (f && parties) places (first (f && parties && places) (radiosFit h) state)) in
-    let cs = figuresClauses (h .opening) (h .figures) (h .oldest) in
+    let cs = figuresClauses (h .control .opening) (h .control .figures) (h .control .oldest) in
     let k = clause 0 cs all in
     let n = clause 1 cs all in
-    let i = leb-true (h .figures .issued) MAX-BEGUN (clause 4 cs all) in
-    let o = leb-true (h .oldest) (h .figures .issued) (clause 6 cs all) in
+    let i = leb-true (h .control .figures .issued) MAX-BEGUN (clause 4 cs all) in
+    let o = leb-true (h .control .oldest) (h .control .figures .issued) (clause 6 cs all) in
     record {
       permits = (
-        leb-true 1 (h .opening .permits) (first (leb 1 (h .opening .permits)) _ k),
-        leb-true (h .opening .permits) 32 (second (leb 1 (h .opening .permits)) _ k),
+        leb-true 1 (h .control .opening .permits) (first (leb 1 (h .control .opening .permits)) _ k),
+        leb-true (h .control .opening .permits) 32 (second (leb 1 (h .control .opening .permits)) _ k),
       );
-      parties = leb-true (h .opening .parties) 32 (second (leb 1 (h .opening .parties)) _ n);
+      parties = leb-true (h .control .opening .parties) 32 (second (leb 1 (h .control .opening .parties)) _ n);
       counter = clause 2 cs all;
       issued = i;
-      resumed = leb-true (h .figures .resumed) MAX-BEGUN (clause 5 cs all);
+      resumed = leb-true (h .control .figures .resumed) MAX-BEGUN (clause 5 cs all);
       oldest = omega arith;
     }
 
@@ -163,7 +163,7 @@ module _ (h : Hub) (p : ℕ) (seat : PlaceSlot) (q : ℕ) (waiter : PartySlot)
         ∙ applied h p (r .size) waiter move (same _ refl .1))
 
     -- What the call answers and leaves, where the record fits and has the party.
-    pub outcome-is : fits h ≡ true → ltb p (h .opening .parties) ≡ true → (x : Pool)
+    pub outcome-is : fits h ≡ true → ltb p (h .control .opening .parties) ≡ true → (x : Pool)
         → x ≡ radiosAfter h p (e .answer) → (g : Hub)
         → g ≡ tidiedBy (e .turns) (withPool x (stored h p e))
         → record { answer = e .answer; hub = g } ≡ called h (asks o p)

@@ -45,27 +45,27 @@ few-radios : (o : Opening) → length (radiosOf o) ≤ STORE
 unfolding radiosOf padded
 few-radios o = simp length-take (omega arith)
 
-stored-within : (h : Hub) → h .pool .stored ≤ length (radiosIn (h .slots) (h .places) (h .pool))
+stored-within : (h : Hub) → h .control .pool .stored ≤ length (radiosIn (h .slots) (h .places) (h .control .pool))
 unfolding radiosIn
 stored-within h =
-    simp length-append (omega (arith, ring-length (h .pool .store) (h .pool .first) (h .pool .stored)))
+    simp length-append (omega (arith, ring-length (h .control .pool .store) (h .control .pool .first) (h .control .pool .stored)))
 
 -- On a hub with radios whose record fits.
-pub few-stored : (h : Hub) → fits h ≡ true → h .opening .named ≡ true → h .pool .stored ≤ STORE
+pub few-stored : (h : Hub) → fits h ≡ true → h .control .opening .named ≡ true → h .control .pool .stored ≤ STORE
 unfolding fits stateFits radiosFit rearranged
 few-stored h e n =
     let parties = allFrom (partyFits h) 0 PARTIES in
-    let places = allFrom (placeFits h) (h .oldest) PLACES in
-    let f = figuresFit (h .opening) (h .figures) (h .oldest) in
-    let state = first (stateFits h) (kindsFit (h .opening)) e in
-    let r = second (radiosDiffer (h .opening)) _ (second (f && parties && places) (radiosFit h) state) in
-    let same = rearranged (radiosIn (h .slots) (h .places) (h .pool)) (radiosOf (h .opening)) in
+    let places = allFrom (placeFits h) (h .control .oldest) PLACES in
+    let f = figuresFit (h .control .opening) (h .control .figures) (h .control .oldest) in
+    let state = first (stateFits h) (kindsFit (h .control .opening)) e in
+    let r = second (radiosDiffer (h .control .opening)) _ (second (f && parties && places) (radiosFit h) state) in
+    let same = rearranged (radiosIn (h .slots) (h .places) (h .control .pool)) (radiosOf (h .control .opening)) in
     let s : same ≡ true = sym (ap (λ (b : Bool). implies b same) n) ∙ r in
-    let l = length (radiosIn (h .slots) (h .places) (h .pool)) in
-    let m = length (radiosOf (h .opening)) in
+    let l = length (radiosIn (h .slots) (h .places) (h .control .pool)) in
+    let m = length (radiosOf (h .control .opening)) in
     omega (
       arith,
       stored-within h,
-      few-radios (h .opening),
+      few-radios (h .control .opening),
       eqb-true l m (first (eqb l m) _ s),
     )

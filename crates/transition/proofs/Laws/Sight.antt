@@ -42,7 +42,7 @@ pub record Reads (h : Hub) (p : ℕ) (seat : PlaceSlot) (q : ℕ) (waiter : Part
   pub near : waiter ≡ cond (ltb q PARTIES) (readSlot (h .slots) (q % PARTIES)) freeSlot
 
 abbrev pub sightOf : Hub → ℕ → PlaceSlot → PartySlot → Sight
-sightOf h p = sightOn (h .figures) (h .opening) (h .pool) p (readSlot (h .slots) p)
+sightOf h p = sightOn (h .control .figures) (h .control .opening) (h .control .pool) p (readSlot (h .slots) p)
 
 -- A party that has a ticket: that is what it looks at.
 pub looked : (h : Hub) (p : ℕ) (seat : PlaceSlot) (q : ℕ) (waiter : PartySlot)

@@ -71,7 +71,7 @@ told (Wake q x a c) s = refl
 
 -- The record after the stores, but for the radios.
 abbrev pub made : Hub → Figures → List PlaceSlot → List PartySlot → Hub
-made h f a l = withParts f (h .oldest) a l (h .pool) h
+made h f a l = withParts f (h .control .oldest) a l (h .control .pool) h
 
 abbrev pub stored : Hub → ℕ → Effect → Hub
 stored h p e =
@@ -103,7 +103,7 @@ module _ (h : Hub) (p : ℕ) (size : length (h .slots) ≡ PARTIES) where
     unchanged : (y : Answer) → tidiedBy 0 (stored h p (unmoved y s)) ≡ h
     unchanged y =
         tidied-none _
-        ∙ ap₂ (made h (h .figures)) (same-seat (h .places) (ticketOf x))
+        ∙ ap₂ (made h (h .control .figures)) (same-seat (h .places) (ticketOf x))
         (no-waker _ _ ∙ same-slot (h .slots) p)
 
     pub applied : (m : Move) → ((touches m ≡ true) → ticketed x ≡ true)

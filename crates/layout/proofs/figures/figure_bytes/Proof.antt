@@ -49,7 +49,7 @@ slice-aggregate-put-bytes-at-6 c = search needs
 put-bytes-at-requires-3 : tie.Need-put-bytes-at-requires-3
 put-bytes-at-requires-3 c κs = search needs
 
-bits : (c : tie.Start) → SFits w32 (c .args .hub .figures .counter)
+bits : (c : tie.Start) → SFits w32 (c .args .hub .control .figures .counter)
 bits c = search needs
 
 returns : tie.Need-returns
@@ -63,7 +63,7 @@ returns c =
     let start = at-put-bytes-at .before .before .before .before in
     let h = start .args .hub in
     let w1 =
-    next 22 (replicate 22 0) 0 2 [] (h .opening .permits ∷ h .opening .parties ∷ []) _ _ (nothing 22 _ refl)
+    next 22 (replicate 22 0) 0 2 [] (h .control .opening .permits ∷ h .control .opening .parties ∷ []) _ _ (nothing 22 _ refl)
     (omega arith) refl refl (at-put-bytes-at .put-bytes-at .ensures) in
     let counter =
     at-number-bytes .number-bytes .ensures

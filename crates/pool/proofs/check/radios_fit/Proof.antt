@@ -12,13 +12,13 @@ use Rattle.pool.proofs.check.radios_fit.Tie as tie
 abbrev start : tie.After-radios-differ → tie.Start
 start c = c .before .before .before .before
 
-named : (c : tie.Else2) → start (c .before) .args .hub .opening .named ≡ true
+named : (c : tie.Else2) → start (c .before) .args .hub .control .opening .named ≡ true
 named c = not-false _ (c .before .before .if1 .left)
 
-differ : (c : tie.Else2) → radiosDiffer (start (c .before) .args .hub .opening) ≡ true
+differ : (c : tie.Else2) → radiosDiffer (start (c .before) .args .hub .control .opening) ≡ true
 differ c = sym (c .before .radios-differ .ensures) ∙ not-false _ (c .if2 .left)
 
-size : (c : tie.Else2) → length (start (c .before) .args .hub .opening .radios) ≡ 32
+size : (c : tie.Else2) → length (start (c .before) .args .hub .control .opening .radios) ≡ 32
 size c = search needs
 
 -- From what is noted back to there.
