@@ -6,11 +6,8 @@ use hub::answers::Answer;
 use hub::answers::Refusal;
 use hub::moves::Op;
 use hub::moves::Sight;
-use hub::record::Control;
 use hub::record::Hub;
 use hub::record::Outcome;
-use hub::record::PartySlot;
-use hub::record::PlaceSlot;
 use pool::moving::move_radio;
 use ring::PlaceRing;
 use ring::reclaim;
@@ -22,52 +19,37 @@ use transition::tidy::is_untidy;
 ghost use mathlib.Core.Path.{_≡_};
 ghost use Rattle.hub.specs.Answers.{printed};
 ghost use Rattle.hub.specs.Calls.{called};
-ghost use Rattle.hub.specs.Record.{ofFields};
 
-// Over the fields of a record, which a shell hands over as they lie. Check, look, store and tidy stand in one function, since a
-// record that is handed on is copied; what goes to other functions is small. A refused call stores what was there, and so
-// do 37 and 39.
-pub fn call_fields(
-    op: Op,
-    party: u8,
-    mut control: Control,
-    mut places: [PlaceSlot; 256],
-    mut slots: [PartySlot; 32],
-) -> Outcome
-    ensures { λ r. ⌜ r ≡ called (ofFields control places slots) (record { op = op; party = party }) ⌝ }
+// Check, look, store and tidy stand in one function, since a record that is handed
+// on is copied; what goes to other functions is small. A refused call stores what was there, and so do 37 and 39.
+pub fn call(mut hub: Hub, op: Op, party: u8) -> Outcome
+    ensures { λ r. ⌜ (r ≡ called hub (record { op = op; party = party }))
+        × (printed (r .answer) ≡ printed (called hub (record { op = op; party = party }) .answer)) ⌝ }
 {
-    if !fits(control, places, slots) {
+    if !fits(hub) {
         return Outcome {
             answer: Answer::Refused(Refusal::Unfit),
-            hub: Hub {
-                control,
-                places,
-                slots,
-            },
+            hub,
         };
     }
-    if control.opening.parties <= party {
+    if hub.control.opening.parties <= party {
         return Outcome {
             answer: Answer::Refused(Refusal::NoSuchParty),
-            hub: Hub {
-                control,
-                places,
-                slots,
-            },
+            hub,
         };
     }
     let p = party as usize;
-    let slot = slots[p];
+    let slot = hub.slots[p];
     let t = seat_index(slot);
-    let seat = places[t];
+    let seat = hub.places[t];
     let q = waiter_at(seat);
     let w = (q % 32) as usize;
-    let near = slots[w];
+    let near = hub.slots[w];
     let waiter = slot_within(q, near);
-    let figures = control.figures;
-    let hands = control.pool.hands;
+    let figures = hub.control.figures;
+    let hands = hub.control.pool.hands;
     let radio = hands[p];
-    let kinds = control.opening.kinds;
+    let kinds = hub.control.opening.kinds;
     let kind = kinds[p];
     let s = Sight {
         party,
@@ -76,70 +58,52 @@ pub fn call_fields(
         seat,
         waiter,
         figures,
-        named: control.opening.named,
+        named: hub.control.opening.named,
         radio,
-        stocked: 0 < control.pool.stored,
+        stocked: 0 < hub.control.pool.stored,
     };
-    let e = decide(op, control.oldest, slots, s);
+    let slots = hub.slots;
+    let e = decide(op, hub.control.oldest, slots, s);
     let woken = e.woken;
     if woken < 32 {
         let v = woken as usize;
         let woke = e.waiter;
-        slots[v] = woke;
+        hub.slots[v] = woke;
     }
     let own = e.slot;
-    slots[p] = own;
+    hub.slots[p] = own;
     let put = e.seat;
-    places[t] = put;
+    hub.places[t] = put;
     let after = e.figures;
+    let mut control = hub.control;
     control.figures = after;
+    hub.control = control;
     let answer = e.answer;
-    if control.opening.named {
-        let pool = control.pool;
+    if hub.control.opening.named {
+        let pool = hub.control.pool;
         let moved = move_radio(answer, party, pool);
+        let mut control = hub.control;
         control.pool = moved;
+        hub.control = control;
     }
     // the tidying, if there is any
-    let r = (control.figures.resumed % Hub::PLACES) as usize;
-    let o = (control.oldest % Hub::PLACES) as usize;
-    let next = places[r];
-    let first = places[o];
+    let r = (hub.control.figures.resumed % Hub::PLACES) as usize;
+    let o = (hub.control.oldest % Hub::PLACES) as usize;
+    let next = hub.places[r];
+    let first = hub.places[o];
     if !is_untidy(next, first) {
-        return Outcome {
-            answer,
-            hub: Hub {
-                control,
-                places,
-                slots,
-            },
-        };
+        return Outcome { answer, hub };
     }
+    let places = hub.places;
     let ring = PlaceRing {
-        resumed: control.figures.resumed,
-        oldest: control.oldest,
+        resumed: hub.control.figures.resumed,
+        oldest: hub.control.oldest,
         places,
     };
     let tidied = reclaim(ring, e.turns);
-    control.figures.resumed = tidied.resumed;
-    control.oldest = tidied.oldest;
+    hub.control.figures.resumed = tidied.resumed;
+    hub.control.oldest = tidied.oldest;
     let left = tidied.places;
-    Outcome {
-        answer,
-        hub: Hub {
-            control,
-            places: left,
-            slots,
-        },
-    }
-}
-
-// The same over a whole record.
-pub fn call(hub: Hub, op: Op, party: u8) -> Outcome
-    ensures { λ r. ⌜ (r ≡ called hub (record { op = op; party = party }))
-        × (printed (r .answer) ≡ printed (called hub (record { op = op; party = party }) .answer)) ⌝ }
-{
-    let control = hub.control;
-    let places = hub.places;
-    let slots = hub.slots;
-    call_fields(op, party, control, places, slots)
+    hub.places = left;
+    Outcome { answer, hub }
 }

@@ -40,7 +40,7 @@ replied form h n requests out =
 
 -- The record that the loop's parts make. Its figures have the next ticket to resume, not its ring.
 abbrev pub ofParts : Opening → Figures → PlaceRing → List PartySlot → Pool → Hub
-ofParts opening figures ring slots pool = ofFields (controlOf opening figures (ring .oldest) pool) (ring .places) slots
+ofParts opening figures ring slots pool = ofFields (ring .places) slots (controlOf opening figures (ring .oldest) pool)
 
 -- What an accepted opening and a list of calls lead to: such a record needs no check.
 pub record Reachable (h : Hub) : Type 0 where

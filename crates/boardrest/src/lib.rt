@@ -17,17 +17,17 @@ ghost use Rattle.operations.specs.Operation.{operated, toldOf};
 fn operate_fields(
     op: Op,
     party: u8,
-    control: Control,
     places: [PlaceSlot; 256],
     slots: [PartySlot; 32],
+    control: Control,
 ) -> Operated
-    ensures { λ r. ⌜ r ≡ operated (ofFields control places slots)
+    ensures { λ r. ⌜ r ≡ operated (ofFields places slots control)
         (record { op = op; party = party }) ⌝ }
 {
     let hub = Hub {
-        control,
         places,
         slots,
+        control,
     };
     torest::operate(hub, op, party)
 }
@@ -38,7 +38,7 @@ pub fn operate(hub: &mut Hub, op: Op, party: u8) -> Told
         × (printed (r .answer) ≡ printed (operated (now (hub .entry)) (record { op = op; party = party }) .answer))
         × (now (hub .exit) ≡ operated (now (hub .entry)) (record { op = op; party = party }) .hub) ⌝ }
 {
-    let o = operate_fields(op, party, hub.control, hub.places, hub.slots);
+    let o = operate_fields(op, party, hub.places, hub.slots, hub.control);
     *hub = o.hub;
     Told {
         answer: o.answer,

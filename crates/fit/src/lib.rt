@@ -4,34 +4,30 @@ use clauses::figures_and_kinds_fit;
 use clauses::in_window;
 use clauses::party_fits;
 use clauses::waiter_fits;
-use hub::record::Control;
 use hub::record::Hub;
-use hub::record::PartySlot;
 use hub::record::Phase;
 use hub::record::Place;
-use hub::record::PlaceSlot;
 use phases::ticket;
 use pool::check::radios_fit;
 ghost use mathlib.Core.Path.{_≡_};
 ghost use Rattle.hub.specs.Fits;
-ghost use Rattle.hub.specs.Record.{ofFields};
 
 // Does the record fit? Little is done where there is little to test: a free party, one that waits, a
 // party from n up, a place where nobody waits. Eight places in a turn, which the compiler asks at once
 // whether anyone waits there, a place being two bytes.
-pub fn fits(control: Control, places: [PlaceSlot; 256], slots: [PartySlot; 32]) -> bool
-    ensures { λ r. ⌜ r ≡ Rattle.hub.specs.Fits.fits (ofFields control places slots) ⌝ }
+pub fn fits(hub: Hub) -> bool
+    ensures { λ r. ⌜ r ≡ Rattle.hub.specs.Fits.fits hub ⌝ }
 {
-    let opening = control.opening;
-    let figures = control.figures;
-    let oldest = control.oldest;
+    let opening = hub.control.opening;
+    let figures = hub.control.figures;
+    let oldest = hub.control.oldest;
     if !figures_and_kinds_fit(opening, figures, oldest) {
         return false;
     }
     let n = opening.parties as usize;
     let mut p: usize = 0;
     while p < n {
-        let slot = slots[p];
+        let slot = hub.slots[p];
         let phase = slot.phase;
         // no arm of the match below, which would become a table of jumps
         if let Phase::Free = phase {
@@ -43,7 +39,7 @@ pub fn fits(control: Control, places: [PlaceSlot; 256], slots: [PartySlot; 32]) 
             Phase::Waiting(t) => in_window(oldest, figures.issued, t),
             _ => {
                 let i = (ticket(phase) % Hub::PLACES) as usize;
-                let seat = places[i];
+                let seat = hub.places[i];
                 let place = seat.place;
                 party_fits(phase, place, figures, oldest, opening.named)
             }
@@ -55,7 +51,7 @@ pub fn fits(control: Control, places: [PlaceSlot; 256], slots: [PartySlot; 32]) 
     }
     let mut free = true;
     while p < 32 {
-        let slot = slots[p];
+        let slot = hub.slots[p];
         let phase = slot.phase;
         match phase {
             Phase::Free => {}
@@ -71,7 +67,7 @@ pub fn fits(control: Control, places: [PlaceSlot; 256], slots: [PartySlot; 32]) 
         let mut anyone = false;
         let mut b: usize = 0;
         while b < 8 {
-            let seat = places[8 * j + b];
+            let seat = hub.places[8 * j + b];
             let place = seat.place;
             match place {
                 Place::Waiting(_) => anyone = true,
@@ -83,13 +79,13 @@ pub fn fits(control: Control, places: [PlaceSlot; 256], slots: [PartySlot; 32]) 
             let mut k: usize = 0;
             while k < 8 {
                 let i = 8 * j + k;
-                let seat = places[i];
+                let seat = hub.places[i];
                 let place = seat.place;
                 if let Place::Waiting(q) = place {
                     if 32 <= q {
                         return false;
                     }
-                    let slot = slots[q as usize];
+                    let slot = hub.slots[q as usize];
                     let phase = slot.phase;
                     if !waiter_fits(phase, oldest, i) {
                         return false;
@@ -101,12 +97,8 @@ pub fn fits(control: Control, places: [PlaceSlot; 256], slots: [PartySlot; 32]) 
         j += 1;
     }
     // without radios the record is not handed on, which copies it
-    if !control.opening.named {
+    if !hub.control.opening.named {
         return true;
     }
-    radios_fit(Hub {
-        control,
-        places,
-        slots,
-    })
+    radios_fit(hub)
 }

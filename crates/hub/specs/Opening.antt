@@ -73,7 +73,7 @@ poolAt o =
 -- The record of a hub just opened.
 unfoldable pub fresh : Opening → Hub
 fresh o =
-    ofFields (controlOf o (figuresAt o) 0 (poolAt o)) (replicate PLACES emptySeat) (replicate PARTIES freeSlot)
+    ofFields (replicate PLACES emptySeat) (replicate PARTIES freeSlot) (controlOf o (figuresAt o) 0 (poolAt o))
 
 -- A refused opening makes no record; what stands in its place refuses every call by 1.
 abbrev pub nobody : Opening

@@ -52,21 +52,21 @@ abbrev pub controlOf : Opening → Figures → ℕ → Pool → Control
 controlOf opening figures oldest pool =
     record { opening = opening; figures = figures; oldest = oldest; pool = pool }
 
-abbrev pub ofFields : Control → List PlaceSlot → List PartySlot → Hub
-ofFields control places slots = record { control = control; places = places; slots = slots }
+abbrev pub ofFields : List PlaceSlot → List PartySlot → Control → Hub
+ofFields places slots control = record { places = places; slots = slots; control = control }
 
 -- The record with all that a call may change; with other figures, places, slots or radios, and all else as it was.
 abbrev pub withParts : Figures → ℕ → List PlaceSlot → List PartySlot → Pool → Hub → Hub
-withParts f o a l q h = ofFields (controlOf (h .control .opening) f o q) a l
+withParts f o a l q h = ofFields a l (controlOf (h .control .opening) f o q)
 
 abbrev pub withFigures : Figures → Hub → Hub
 withFigures f h = withParts f (h .control .oldest) (h .places) (h .slots) (h .control .pool) h
 
 abbrev pub withPlaces : List PlaceSlot → Hub → Hub
-withPlaces a h = ofFields (h .control) a (h .slots)
+withPlaces a h = ofFields a (h .slots) (h .control)
 
 abbrev pub withSlots : List PartySlot → Hub → Hub
-withSlots l h = ofFields (h .control) (h .places) l
+withSlots l h = ofFields (h .places) l (h .control)
 
 abbrev pub withPool : Pool → Hub → Hub
 withPool q h = withParts (h .control .figures) (h .control .oldest) (h .places) (h .slots) q h

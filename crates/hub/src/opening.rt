@@ -53,14 +53,14 @@ impl Hub {
         let empty = empty_seat();
         let free = free_slot();
         Hub {
+            places: [empty; 256],
+            slots: [free; 32],
             control: Control {
                 opening: o,
                 figures: figures_at(o),
                 oldest: 0,
                 pool: pool_at(o),
             },
-            places: [empty; 256],
-            slots: [free; 32],
         }
     }
 }

@@ -69,10 +69,11 @@ pub struct Control {
     pub pool: Pool,
 }
 
+// The control block comes last: in front of the arrays it makes a call in place dearer by a sixth (docs/DECISIONS.md, 20).
 pub struct Hub {
-    pub control: Control,
     pub places: [PlaceSlot; 256], // a ring: that of ticket t is at t modulo 256
     pub slots: [PartySlot; 32],
+    pub control: Control,
 }
 
 impl Hub {

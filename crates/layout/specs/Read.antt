@@ -40,4 +40,4 @@ slotsIn b = each PARTIES (slotIn b)
 
 abbrev pub recordIn : List ℕ → Hub
 recordIn b =
-    ofFields (controlOf (openingOfBytes b) (figuresIn b) (numberAt b 18) (poolIn b)) (placesAt b 22) (slotsIn b)
+    ofFields (placesAt b 22) (slotsIn b) (controlOf (openingOfBytes b) (figuresIn b) (numberAt b 18) (poolIn b))

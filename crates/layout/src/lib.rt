@@ -41,9 +41,9 @@ pub fn record_of(bytes: &[u8]) -> Hub
         pool,
     };
     Hub {
-        control,
         places,
         slots,
+        control,
     }
 }
 

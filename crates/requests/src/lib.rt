@@ -59,8 +59,8 @@ pub fn answer_requests(hub: Hub, requests: &[u8], count: usize, form: bool, out:
         pool,
     };
     Hub {
-        control,
         places,
         slots,
+        control,
     }
 }

@@ -75,9 +75,9 @@ signature R = record {
   params =
       plain (λ _. O.the-row)
       ∷ plain (λ _. u8)
-      ∷ plain (λ _. Control.the-row)
       ∷ ArrayOf (plain (λ _. PlaceSlot.the-row)) (λ _. tt) 256
       ∷ ArrayOf (plain (λ _. PartySlot.the-row)) (λ _. tt) 32
+      ∷ plain (λ _. Control.the-row)
       ∷ [];
   result = plain (λ _. R);
 }
@@ -157,14 +157,14 @@ module _ {M : Type 1} (𝓤 : URA M) (H : Heap 𝓤) (A : Atoms 𝓤) (W : Given
   goes-core a u h n is-op fits is =
       let e = LL.owed T.the-type T′.the-laws h _ is in
       qed W (‵ ftrue ∷ []) ∵
+      owned ! Control.the-row (Is Control.the-row) (LL.makes Control.the-type Control′.the-plain 𝓤 H A)
+      (h .control) _ (e .1 .1 .0) $ fjoin ! $
       owned ! (Array PartySlot.the-row 32) (Is (Array PartySlot.the-row 32))
       (array-makes 𝓤 H A W PartySlot.the-row (LL.makes PartySlot.the-type PartySlot′.the-plain 𝓤 H A) 32)
-      (h .slots) _ (of-records PartySlot.the-type 32 (h .slots) _ (e .1 .1 .0)) $ fjoin ! $
+      (h .slots) _ (of-records PartySlot.the-type 32 (h .slots) _ (e .1 .0)) $ fjoin ! $
       owned ! (Array PlaceSlot.the-row 256) (Is (Array PlaceSlot.the-row 256))
       (array-makes 𝓤 H A W PlaceSlot.the-row (LL.makes PlaceSlot.the-type PlaceSlot′.the-plain 𝓤 H A) 256)
-      (h .places) _ (of-records PlaceSlot.the-type 256 (h .places) _ (e .1 .0)) $ fjoin ! $
-      owned ! Control.the-row (Is Control.the-row) (LL.makes Control.the-type Control′.the-plain 𝓤 H A)
-      (h .control) _ (e .0) $ fjoin ! $
+      (h .places) _ (of-records PlaceSlot.the-type 256 (h .places) _ (e .0)) $ fjoin ! $
       owned ! u8 (Is u8) (uint-makes 𝓤 H A W w8) n _ (refl, fits) $ fjoin ! $
       owned ! O.the-row (Is O.the-row) (EL.makes O.the-type O′.the-plain 𝓤 H A) a _ is-op $ fjoin ! $
       nothing ! $ join ! $ frame ! $ done !

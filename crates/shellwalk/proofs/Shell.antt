@@ -182,9 +182,9 @@ ref = tyRef (named 0) mut (pointee (T.the-row .written))
 
 abbrev pub fieldTypes : List Ty
 fieldTypes =
-    Control′.mir
-    ∷ tyArray PlaceSlot′.mir 256
+    tyArray PlaceSlot′.mir 256
     ∷ tyArray PartySlot′.mir 32
+    ∷ Control′.mir
     ∷ []
 
 abbrev pub localTypes : Ty → Ty → Ty → Ty → Types

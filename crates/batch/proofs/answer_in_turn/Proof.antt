@@ -253,10 +253,9 @@ turns-most c =
 abbrev untidied : At tie.After-is-untidy → Hub
 untidied s =
     let h = head (within s) in
-    ofFields
-    (controlOf (hub h .control .opening) (effect s .figures) (h .loop .ring .oldest) (moving s .if3 .pool))
-    (set (h .loop .ring .places) (ticketAt (seen (effected s))) (effect s .seat))
+    ofFields (set (h .loop .ring .places) (ticketAt (seen (effected s))) (effect s .seat))
     (writeSlot (woken (placed s) .if2 .slots) (party (asked (within s))) (effect s .slot))
+    (controlOf (hub h .control .opening) (effect s .figures) (h .loop .ring .oldest) (moving s .if3 .pool))
 
 woken-slots : (s : At tie.After-is-untidy)
     → woken (placed s) .if2 .slots

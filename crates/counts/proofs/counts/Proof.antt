@@ -37,10 +37,15 @@ count-phases-requires-4 c κs = search needs
 at-counter-requires : tie.Need-at-counter-requires
 at-counter-requires c κs = search needs
 
+-- The counter is of its width.
+width : (c : tie.Start) → SFits w32 (c .args .hub .control .figures .counter)
+width c = search needs
+
 returns : tie.Need-returns
 returns c =
-    let h = c .before .before .before .before .before .before .before .before .before .before .before .args .hub in
-    let f : SFits w32 (h .control .figures .counter) = search needs in (
+    let s = c .before .before .before .before .before .before .before .before .before .before .before in
+    let h = s .args .hub in
+    let f = width s in (
       shown h _ _ _ _ _ _ _ _
           (c .before .before .before .before .before .before .before .before .count-phases .ensures .0)
           (c .before .before .before .before .before .before .before .count-places .ensures .0)
@@ -54,8 +59,9 @@ returns c =
 
 returns-2 : tie.Need-returns-2
 returns-2 c =
-    let h = c .before .before .before .before .before .before .before .before .before .before .before .args .hub in
-    let f : SFits w32 (h .control .figures .counter) = search needs in (
+    let s = c .before .before .before .before .before .before .before .before .before .before .before in
+    let h = s .args .hub in
+    let f = width s in (
       shown h _ _ _ _ _ _ _ _
           (c .before .before .before .before .before .before .before .before .count-phases .ensures .0)
           (c .before .before .before .before .before .before .before .count-places .ensures .0)

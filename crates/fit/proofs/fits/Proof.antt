@@ -10,7 +10,7 @@ use lib.ListN.{length}
 use Rattle.hub.specs.declared.record.Hub.{Hub}
 use Rattle.hub.specs.Basics.{allFrom}
 use Rattle.hub.specs.Fits.{figuresFit, fits, kindsFit, partyFits, placeFits, radiosFit}
-use Rattle.hub.specs.Record.{ofFields, readSlot}
+use Rattle.hub.specs.Record.{readSlot}
 use Rattle.hub.specs.Ring.{readSeat}
 use Rattle.hub.proofs.Laws.Bools.{first, never}
 use Rattle.pool.proofs.Laws.Fits.{unnamed-fit}
@@ -38,36 +38,36 @@ moved : (h : Hub) {i j : ℕ} → Places h i → i ≡ j → Places h j
 moved h l e = subst (Places h) e l
 
 abbrev Inv-loop : tie.InvT-loop
-Inv-loop control places slots opening figures oldest n p₀ p = Parties (ofFields control places slots) true p
+Inv-loop hub opening figures oldest n p₀ p = Parties hub true p
 
 abbrev μ-loop : tie.MeasureT-loop
-μ-loop control places slots opening figures oldest n p₀ p = n - p
+μ-loop hub opening figures oldest n p₀ p = n - p
 
 abbrev Inv-loop2 : tie.InvT-loop2
-Inv-loop2 control places slots oldest n p₀ free₀ p free = (n ≤ p) × Parties (ofFields control places slots) free p
+Inv-loop2 hub oldest n p₀ free₀ p free = (n ≤ p) × Parties hub free p
 
 abbrev μ-loop2 : tie.MeasureT-loop2
-μ-loop2 control places slots oldest n p₀ free₀ p free = 32 - p
+μ-loop2 hub oldest n p₀ free₀ p free = 32 - p
 
 -- While nobody waits at the places of a turn, they are tested.
 abbrev Inv-loop4 : tie.InvT-loop4
-Inv-loop4 control places slots oldest n p free j anyone₀ b₀ anyone b =
-    (b ≤ 8) × (anyone ≡ false → Places (ofFields control places slots) (8 * j + b))
+Inv-loop4 hub oldest n p free j anyone₀ b₀ anyone b =
+    (b ≤ 8) × (anyone ≡ false → Places hub (8 * j + b))
 
 abbrev μ-loop4 : tie.MeasureT-loop4
-μ-loop4 control places slots oldest n p free j anyone₀ b₀ anyone b = 8 - b
+μ-loop4 hub oldest n p free j anyone₀ b₀ anyone b = 8 - b
 
 abbrev Inv-loop5 : tie.InvT-loop5
-Inv-loop5 control places slots oldest n p free j anyone b k₀ k = (k ≤ 8) × Places (ofFields control places slots) (8 * j + k)
+Inv-loop5 hub oldest n p free j anyone b k₀ k = (k ≤ 8) × Places hub (8 * j + k)
 
 abbrev μ-loop5 : tie.MeasureT-loop5
-μ-loop5 control places slots oldest n p free j anyone b k₀ k = 8 - k
+μ-loop5 hub oldest n p free j anyone b k₀ k = 8 - k
 
 abbrev Inv-loop3 : tie.InvT-loop3
-Inv-loop3 control places slots oldest n p free j₀ j = Places (ofFields control places slots) (8 * j)
+Inv-loop3 hub oldest n p free j₀ j = Places hub (8 * j)
 
 abbrev μ-loop3 : tie.MeasureT-loop3
-μ-loop3 control places slots oldest n p free j₀ j = 32 - j
+μ-loop3 hub oldest n p free j₀ j = 32 - j
 
 -- A state or a need of the function, with these invariants and measures.
 abbrev At :
@@ -85,7 +85,7 @@ abbrev start : At tie.At-loop → At tie.Start
 start c = c .before .before .before .before .before .before
 
 abbrev hub : At tie.At-loop → Hub
-hub c = let a = start c .args in ofFields (a .control) (a .t2) (a .t3)
+hub c = start c .args .t1
 
 -- The record and the index in the inner loops.
 abbrev hub4 : At tie.At-loop4 → Hub
@@ -116,7 +116,7 @@ few c = parties-few _ _ _ (figures c)
 oldest : (c : At tie.At-loop) → hub c .control .oldest ≤ 1000000
 oldest c = oldest-small _ _ _ (figures c)
 
-size : (c : At tie.Start) → length (c .args .t3) ≡ 32
+size : (c : At tie.Start) → length (c .args .t1 .slots) ≡ 32
 size c = search mapped-size
 
 -- The round that a party is tested in; the test is the definition's, of one that waits as of any other.
@@ -152,8 +152,8 @@ loop-holds c = refl
 mul-slot : At tie.Need-mul-slot
 mul-slot c = search needs
 
-array-copy-out-slot : At tie.Need-array-copy-out-slot
-array-copy-out-slot c = omega (arith, few (c .before), c .loop-test .taken)
+element-copy-out-slot : At tie.Need-element-copy-out-slot
+element-copy-out-slot c = omega (arith, few (c .before), c .loop-test .taken)
 
 enum-told : At tie.Need-enum-told
 enum-told c = search needs
@@ -186,8 +186,8 @@ cast-i c = search needs
 mul-seat : At tie.Need-mul-seat
 mul-seat c = search needs
 
-array-copy-out-seat : At tie.Need-array-copy-out-seat
-array-copy-out-seat c = search needs
+element-copy-out-seat : At tie.Need-element-copy-out-seat
+element-copy-out-seat c = search needs
 
 party-fits-requires : At tie.Need-party-fits-requires
 party-fits-requires c κs = oldest (c .before .before .before .before .before .before)
@@ -217,8 +217,8 @@ loop2-holds c = (omega (arith, c .loop-test .left), c .before .loop .inv)
 mul-slot-2 : At tie.Need-mul-slot-2
 mul-slot-2 c = search needs
 
-array-copy-out-slot-2 : At tie.Need-array-copy-out-slot-2
-array-copy-out-slot-2 c = search needs
+element-copy-out-slot-2 : At tie.Need-element-copy-out-slot-2
+element-copy-out-slot-2 c = search needs
 
 enum-told-2 : At tie.Need-enum-told-2
 enum-told-2 c = search needs
@@ -268,8 +268,8 @@ add-seat c = search needs
 mul-seat-3 : At tie.Need-mul-seat-3
 mul-seat-3 c = search needs
 
-array-copy-out-seat-2 : At tie.Need-array-copy-out-seat-2
-array-copy-out-seat-2 c = search needs
+element-copy-out-seat-2 : At tie.Need-element-copy-out-seat-2
+element-copy-out-seat-2 c = search needs
 
 enum-told-3 : At tie.Need-enum-told-3
 enum-told-3 c = search needs
@@ -304,8 +304,8 @@ add-i c = search needs
 mul-seat-4 : At tie.Need-mul-seat-4
 mul-seat-4 c = search needs
 
-array-copy-out-seat-3 : At tie.Need-array-copy-out-seat-3
-array-copy-out-seat-3 c = search needs
+element-copy-out-seat-3 : At tie.Need-element-copy-out-seat-3
+element-copy-out-seat-3 c = search needs
 
 enum-known-place : At tie.Need-enum-known-place
 enum-known-place c = search needs
@@ -325,8 +325,8 @@ cast-slot c = search needs
 mul-slot-3 : At tie.Need-mul-slot-3
 mul-slot-3 c = search needs
 
-array-copy-out-slot-3 : At tie.Need-array-copy-out-slot-3
-array-copy-out-slot-3 c = search needs
+element-copy-out-slot-3 : At tie.Need-element-copy-out-slot-3
+element-copy-out-slot-3 c = search needs
 
 waiter-fits-requires : At tie.Need-waiter-fits-requires
 waiter-fits-requires c κs =
@@ -387,13 +387,13 @@ passes l i e =
     (none-left _ 256 _ true _ (l .loop3 .inv) (omega arith)) e
 
 returns-6 : At tie.Need-returns-6
-returns-6 c = passes (c .before .before .before) (search needs) (sym (unnamed-fit _ (not-true _ (c .if7 .taken))))
+returns-6 c = passes (c .before .before) (search needs) (sym (unnamed-fit _ (not-true _ (c .if7 .taken))))
 
 radios-fit-requires : At tie.Need-radios-fit-requires
-radios-fit-requires c κs = permits-few _ _ _ (figures (loop (c .before .before .before)))
+radios-fit-requires c κs = permits-few _ _ _ (figures (loop (c .before .before)))
 
 returns-7 : At tie.Need-returns-7
-returns-7 c = passes (c .before .before .before .before) (search needs) (c .radios-fit .ensures)
+returns-7 c = passes (c .before .before .before) (search needs) (c .radios-fit .ensures)
 
 pub fits-spec : {M : Type 1} → statement M
 fits-spec =
@@ -414,7 +414,7 @@ fits-spec =
     cast-n
     loop-holds
     mul-slot
-    array-copy-out-slot
+    element-copy-out-slot
     enum-told
     add-p
     loop-less
@@ -424,7 +424,7 @@ fits-spec =
     ticket-requires
     cast-i
     mul-seat
-    array-copy-out-seat
+    element-copy-out-seat
     party-fits-requires
     returns-2
     add-p-2
@@ -432,7 +432,7 @@ fits-spec =
     loop-again-2
     loop2-holds
     mul-slot-2
-    array-copy-out-slot-2
+    element-copy-out-slot-2
     enum-told-2
     add-p-3
     loop2-less
@@ -443,7 +443,7 @@ fits-spec =
     mul-seat-2
     add-seat
     mul-seat-3
-    array-copy-out-seat-2
+    element-copy-out-seat-2
     enum-told-3
     add-b
     loop4-less
@@ -452,12 +452,12 @@ fits-spec =
     mul-i
     add-i
     mul-seat-4
-    array-copy-out-seat-3
+    element-copy-out-seat-3
     enum-known-place
     returns-4
     cast-slot
     mul-slot-3
-    array-copy-out-slot-3
+    element-copy-out-slot-3
     waiter-fits-requires
     returns-5
     add-k

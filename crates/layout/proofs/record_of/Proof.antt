@@ -25,11 +25,10 @@ pool-of-requires c κs = search needs
 returns : tie.Need-returns
 returns c =
     λ j.
-    ofFields
+    ofFields (c .before .before .places-at .ensures j) (c .before .slots-of .ensures j)
     (controlOf (c .before .before .before .before .before .opening-of .ensures j)
     (c .before .before .before .before .figures-of .ensures j) (c .before .before .before .number-at .ensures j)
     (c .pool-of .ensures j))
-    (c .before .before .places-at .ensures j) (c .before .slots-of .ensures j)
 
 pub record-of-spec : {M : Type 1} → statement M
 record-of-spec =

@@ -63,8 +63,8 @@ abbrev μ-loop2 : tie.MeasureT-loop2
 
 abbrev Inv-loop : tie.InvT-loop
 Inv-loop operations out₀ opening f₀ o₀ places₀ slots₀ pool₀ _ _ _ out f o places slots pool i =
-    Upto (ofFields (controlOf opening f₀ o₀ pool₀) places₀ slots₀) operations out₀
-    (ofFields (controlOf opening f o pool) places slots) out i
+    Upto (ofFields places₀ slots₀ (controlOf opening f₀ o₀ pool₀)) operations out₀
+    (ofFields places slots (controlOf opening f o pool)) out i
     × (length slots ≡ 32)
 
 abbrev μ-loop : tie.MeasureT-loop
@@ -135,8 +135,8 @@ asking c = known (entered c)
 -- The record at the head of a turn, and the operation.
 abbrev hub : Head → Hub
 hub c =
-    ofFields (controlOf (begun c .args .hub .control .opening) (c .loop .figures) (c .loop .oldest) (c .loop .pool))
-    (c .loop .places) (c .loop .slots)
+    ofFields (c .loop .places) (c .loop .slots)
+    (controlOf (begun c .args .hub .control .opening) (c .loop .figures) (c .loop .oldest) (c .loop .pool))
 
 abbrev bytes : Head → List ℕ
 bytes c = begun c .args .operations .now
@@ -251,8 +251,8 @@ abbrev untidied : Settled → Hub
 untidied s =
     let c = within s in
     let h = head (asking c) in
-    ofFields (controlOf (hub h .control .opening) (plan c .figures) (h .loop .oldest) (s .if3 .pool))
-    (set (h .loop .places) (index c) (plan c .seat)) (writeSlot (woken s .if2 .slots) (party (asking c)) (plan c .slot))
+    ofFields (set (h .loop .places) (index c) (plan c .seat)) (writeSlot (woken s .if2 .slots) (party (asking c)) (plan c .slot))
+    (controlOf (hub h .control .opening) (plan c .figures) (h .loop .oldest) (s .if3 .pool))
 
 abbrev wokenSlots : Planned → List PartySlot
 wokenSlots c =
@@ -287,8 +287,9 @@ unfolding writeSeat
 stored s =
     let c = within s in
     let h = head (asking c) in
-    (λ i. ofFields (controlOf (hub h .control .opening) (plan c .figures) (h .loop .oldest) (moved-pool s i))
-    (set (h .loop .places) (index-is c i) (plan c .seat)) (writeSlot (woken-slots s i) (party (asking c)) (plan c .slot)))
+    (λ i. ofFields (set (h .loop .places) (index-is c i) (plan c .seat))
+    (writeSlot (woken-slots s i) (party (asking c)) (plan c .slot))
+    (controlOf (hub h .control .opening) (plan c .figures) (h .loop .oldest) (moved-pool s i)))
 
 -- The answer that is written.
 abbrev said : Plan → List ℕ
@@ -305,7 +306,7 @@ worded c =
 one-more : (s : Settled) (u : Hub) → u ≡ tidiedBy (plan (within s) .turns) (untidied s)
     → let h = head (asking (within s)) in
     let b = begun h .args in
-    Upto (ofFields (b .hub .control) (b .hub .places) (b .hub .slots))
+    Upto (ofFields (b .hub .places) (b .hub .slots) (b .hub .control))
     (bytes h) (b .out .now) u (s .before .before .before .put-at2 .last .0) (h .loop .i + 1)
 one-more s u e =
     let c = within s in
