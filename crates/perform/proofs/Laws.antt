@@ -4,4 +4,3 @@ pub mod Plans
 pub mod Rested
 pub mod Comes
 pub mod Answers
-pub mod Tidying

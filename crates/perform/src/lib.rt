@@ -9,37 +9,20 @@ use exchange::wire::code_at;
 use exchange::wire::party_at;
 use hub::record::Hub;
 use hub::record::Phase;
-use hub::record::Place;
-use hub::record::PlaceSlot;
-use hub::slots::empty_seat;
 use hub::slots::with_phase;
-use hub::slots::with_place;
 use plan::Seen;
 use plan::is_full_for;
 use plan::place_for;
 use plan::plan_for;
 use plan::radios_after_operation;
-use transition::tidy::can_retire;
-use transition::tidy::can_skip;
+use tidystep::tidy_step;
 ghost use mathlib.Core.Path.{_≡_};
-ghost use mathlib.Core.Bool.{true, _&&_};
+ghost use mathlib.Core.Bool.{true};
 ghost use Prim.Native.Nat.{_*_, _/_, _≤_};
-ghost use lib.Dec.{ltb};
 ghost use lib.ListN.{length};
-ghost use Rattle.hub.specs.Phases.{isCancelled};
 ghost use Rattle.run.specs.Bytes.{wellFormed};
 ghost use Rattle.perform.specs.Bytes.{answersWritten, isOperationCode};
 ghost use Rattle.perform.specs.Rested.{Rested};
-
-// May the tidying pass ticket `resumed`, whose place this is, with so many left to pass?
-fn may_skip(skips: u32, seat: PlaceSlot, resumed: u32, end: u32) -> bool
-    ensures { λ r. ⌜ r ≡ (ltb 0 skips && (ltb resumed end && isCancelled (seat .place))) ⌝ }
-{
-    if skips == 0 {
-        return false;
-    }
-    can_skip(seat, resumed, end)
-}
 
 // Performs the operations, two bytes each, on a hub at rest.
 pub fn perform_operations(hub: Hub, operations: &[u8], out: &mut [u8])
@@ -97,28 +80,24 @@ pub fn perform_operations(hub: Hub, operations: &[u8], out: &mut [u8])
         }
         let next = plan.figures;
         figures = next;
-        // both loops of the tidying in one: it skips first, then it retires
         let mut resumed = figures.resumed;
         let mut skips = plan.turns;
         let mut retires = skips;
         while 0 < retires {
-            let a = (resumed % Hub::PLACES) as usize;
-            let ahead = places[a];
-            if may_skip(skips, ahead, resumed, oldest + Hub::PLACES) {
-                places[a] = with_place(Place::Done, ahead);
-                resumed += 1;
-                skips -= 1;
-                continue;
-            }
-            skips = 0;
-            let b = (oldest % Hub::PLACES) as usize;
-            let behind = places[b];
-            if !can_retire(behind) {
-                break;
-            }
-            places[b] = empty_seat();
-            oldest += 1;
-            retires -= 1;
+            let tidy = tidy_step(
+                places[(resumed % Hub::PLACES) as usize],
+                places[(oldest % Hub::PLACES) as usize],
+                resumed,
+                oldest,
+                skips,
+                retires,
+            );
+            let stored = tidy.seat;
+            places[(tidy.ticket % Hub::PLACES) as usize] = stored;
+            resumed = tidy.resumed;
+            oldest = tidy.oldest;
+            skips = tidy.skips;
+            retires = tidy.retires;
         }
         figures.resumed = resumed;
     }

@@ -313,6 +313,17 @@ replied-with s =
     (frameOf (party (asked b)) (printed a)) (h .loop .out))
     (said _ _ _ _ _ (reading (seen d)) (op b) (effect s) (effect-is d))
 
+-- One more request is answered: its reply is written, and u is the record that is left.
+one-more : (s : At tie.After-is-untidy) (u : Hub) → u ≡ tidiedBy (effect s .turns) (untidied s)
+    → let h = head (within s) in
+    let a = begun h .args in
+    Upto (formOf (a .form)) (a .width) (ofParts (a .opening) (a .figures) (a .t3) (a .t4) (a .t5)) (a .count) (bytes h)
+    (a .out .now) u (replying (moving s) .put-answer .last .1 .0) (h .loop .i + 1)
+one-more s u e =
+    let b = within s in
+    responded _ _ _ _ _ _ _ _ _ (head b .loop .inv .0) (turning (asked b) .loop-test .taken) _ _ _
+    (answered b) (replied-with s) (leaves s u e)
+
 loop-holds : At tie.Need-loop-holds
 loop-holds c =
     let a = c .before .before .before in
@@ -457,13 +468,9 @@ loop-again-2 : At tie.Need-loop-again-2
 unfolding readSeat writeSlot
 loop-again-2 c =
     let s = c .before in
-    let b = within s in
     let nothing =
-    tidy (effect s .turns) (ringOf (untidied s)) (sym (s .is-untidy .ensures) ∙ not-true _ (c .if4 .taken)) in (
-      responded _ _ _ _ _ _ _ _ _ (head b .loop .inv .0) (turning (asked b) .loop-test .taken) _ _ _
-          (answered b) (replied-with s) (leaves s _ (ap (withRing (untidied s)) nothing)),
-      still-32 s,
-    )
+    tidy (effect s .turns) (ringOf (untidied s)) (sym (s .is-untidy .ensures) ∙ not-true _ (c .if4 .taken)) in
+    (one-more s _ (ap (withRing (untidied s)) nothing), still-32 s)
 
 reclaim-requires : At tie.Need-reclaim-requires
 reclaim-requires c κs = (low (effected (c .before)), turns-most (effected (c .before)))
@@ -475,11 +482,7 @@ loop-again-3 : At tie.Need-loop-again-3
 unfolding writeSlot
 loop-again-3 c =
     let s = settled c in
-    let b = within s in (
-      responded _ _ _ _ _ _ _ _ _ (head b .loop .inv .0) (turning (asked b) .loop-test .taken) _ _ _
-          (answered b) (replied-with s) (leaves s _ (ap (withRing (untidied s)) (c .reclaim .ensures))),
-      still-32 s,
-    )
+    (one-more s _ (ap (withRing (untidied s)) (c .reclaim .ensures)), still-32 s)
 
 same-length : At tie.Need-same-length
 same-length c = search needs

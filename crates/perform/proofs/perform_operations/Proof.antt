@@ -1,9 +1,9 @@
 -- `perform_operations` meets its contract: the record made of the locals is that of the operations so far, and what is
 -- written with what is still to come is the whole.
 use borrow.Author.Needs.{needs}
-use borrow.Author.Tests.{le-ltb, lt-ltb, not-true, not-false}
+use borrow.Author.Tests.{le-ltb, lt-ltb}
 use mathlib.Core.Path.{_≡_, sym, ap, subst, _∙_}
-use mathlib.Core.Bool.{true, false}
+use mathlib.Core.Bool.{true}
 use mathlib.Core.List.{List, [], _∷_, map}
 use mathlib.Core.Logic.{⊎-elim}
 use native.Mathlib.Omega.{arith}
@@ -32,6 +32,7 @@ use Rattle.transition.specs.Tidied.{tidiedBy}
 use Rattle.transition.proofs.Laws.Called.{Counted, counted}
 use Rattle.transition.proofs.Laws.Radios.{few-stored, with-radios, without-radios}
 use Rattle.transition.proofs.Laws.Stored.{nobody, still}
+use Rattle.tidystep.proofs.Laws.Tidying.{Tidying, ends, tidying, stepAt, steps-on}
 use Rattle.plan.specs.declared.Plan.{Plan}
 use Rattle.plan.specs.declared.Seen.{Seen}
 use Rattle.plan.specs.Plan.{planOf}
@@ -43,8 +44,6 @@ use Rattle.perform.proofs.Laws.Comes.{Comes, as-planned, no-such-party,
 use Rattle.perform.proofs.Laws.Comes.{full, seenOf, ticketAt, woken-byte}
 use Rattle.perform.proofs.Laws.Plans.{as-asked, few-turns}
 use Rattle.perform.proofs.Laws.Rested.{closed, next-in-line, rested-fits}
-use Rattle.perform.proofs.Laws.Tidying.{Tidying, ends, in-window, maySkip, retires-on, skips-on}
-use Rattle.perform.proofs.Laws.Tidying.{still-skips, stops, tidying}
 use Rattle.perform.proofs.perform_operations.Statement.{statement}
 use Rattle.perform.proofs.perform_operations.Tie as tie
 
@@ -116,11 +115,8 @@ woken c = c .before .before .before .before .before .before .before
 abbrev settled : At tie.At-loop2 → Settled
 settled c = c .before .before
 
-abbrev looping : At tie.After-may-skip → At tie.At-loop2
+abbrev looping : At tie.After-tidy-step → At tie.In-loop2
 looping c = c .before .before .before
-
-abbrev passed : At tie.After-can-retire → At tie.Else4
-passed c = c .before .before
 
 -- The same from further on.
 abbrev head : Known → Head
@@ -337,20 +333,15 @@ turned-down c l =
     let h = head c in
     rests-on c ∙ no-such-party (hub h) (party c) (h .loop .inv .1) (fit h) (code c) (le-ltb _ _ l)
 
--- The tidying's first test is that of its definition.
+-- The turn of the tidying is that of its definition.
 abbrev ringAt : At tie.At-loop2 → Ring
 ringAt c = ring (c .loop2 .resumed) (c .loop2 .oldest) (c .loop2 .places)
 
-may-skip-is : (c : At tie.After-may-skip)
-    → maySkip (ringAt (looping c)) (looping c .loop2 .skips) ≡ c .may-skip .result
+turn-is : (c : At tie.After-tidy-step)
+    → let l = looping c .before in
+    c .tidy-step .result ≡ stepAt (ringAt l) (l .loop2 .skips) (l .loop2 .retires)
 unfolding readSeat
-may-skip-is c = sym (c .may-skip .ensures)
-
-skipping : (c : At tie.Then4) → maySkip (ringAt (looping (c .before))) (looping (c .before) .loop2 .skips) ≡ true
-skipping c = may-skip-is (c .before) ∙ c .if4 .taken
-
-retiring : (c : At tie.Else4) → maySkip (ringAt (looping (c .before))) (looping (c .before) .loop2 .skips) ≡ false
-retiring c = may-skip-is (c .before) ∙ c .if4 .left
+turn-is c = c .tidy-step .ensures
 
 loop-holds : At tie.Need-loop-holds
 loop-holds c =
@@ -454,25 +445,32 @@ loop2-holds c =
     let p = within (c .before) in
     (tidying _ _, counts (head (asking p)) .oldest, turns-most p)
 
-cast-a : At tie.Need-cast-a
-cast-a c = search needs
+cast-tidy-step : At tie.Need-cast-tidy-step
+cast-tidy-step c = search needs
 
-mul-ahead : At tie.Need-mul-ahead
-mul-ahead c = search needs
+mul-tidy-step : At tie.Need-mul-tidy-step
+mul-tidy-step c = search needs
 
-array-copy-out-ahead : At tie.Need-array-copy-out-ahead
-array-copy-out-ahead c = search needs
+array-copy-out-tidy-step : At tie.Need-array-copy-out-tidy-step
+array-copy-out-tidy-step c = search needs
 
-add-may-skip : At tie.Need-add-may-skip
-add-may-skip c =
-    let i = c .before .before .loop2 .inv in
-    omega (arith, i .0 .low, i .1, i .2)
+cast-tidy-step-2 : At tie.Need-cast-tidy-step-2
+cast-tidy-step-2 c = search needs
 
-may-skip-requires : At tie.Need-may-skip-requires
-may-skip-requires c κs = search needs
+mul-tidy-step-2 : At tie.Need-mul-tidy-step-2
+mul-tidy-step-2 c = search needs
 
-with-place-requires : At tie.Need-with-place-requires
-with-place-requires c κs = search needs
+array-copy-out-tidy-step-2 : At tie.Need-array-copy-out-tidy-step-2
+array-copy-out-tidy-step-2 c = search needs
+
+tidy-step-requires : At tie.Need-tidy-step-requires
+tidy-step-requires c κs =
+    let l = c .before .before in
+    let i = l .before .loop2 .inv in
+    (omega (arith, i .0 .low, i .1, i .2), l .loop2-test .taken)
+
+cast-places : At tie.Need-cast-places
+cast-places c = search needs
 
 mul-places-2 : At tie.Need-mul-places-2
 mul-places-2 c = search needs
@@ -480,64 +478,19 @@ mul-places-2 c = search needs
 array-set-from-places-2 : At tie.Need-array-set-from-places-2
 array-set-from-places-2 c = search needs
 
-add-resumed : At tie.Need-add-resumed
-add-resumed c =
-    let i = looping (c .before .before) .loop2 .inv in
-    omega (arith, in-window _ _ _ _ _ (i .0) (skipping (c .before)), i .0 .low, i .1, i .2)
-
-sub-skips : At tie.Need-sub-skips
-sub-skips c = omega (arith, still-skips _ _ _ _ _ (looping (c .before .before) .loop2 .inv .0) (skipping (c .before)))
-
 loop2-less : At tie.Need-loop2-less
-loop2-less c = omega (arith, still-skips _ _ _ _ _ (looping (c .before .before) .loop2 .inv .0) (skipping (c .before)))
+loop2-less c =
+    let d = c .before .before in
+    let l = looping d in
+    steps-on _ _ _ _ _ (l .before .loop2 .inv .0) (l .loop2-test .taken) _ (turn-is d) .1
 
 loop2-again : At tie.Need-loop2-again
-unfolding readSeat writeSeat
+unfolding writeSeat
 loop2-again c =
-    let i = looping (c .before .before) .loop2 .inv in
-    (skips-on _ _ _ _ _ (i .0) (skipping (c .before)) _ (c .with-place .ensures), i .1, i .2)
-
-cast-b : At tie.Need-cast-b
-cast-b c = search needs
-
-mul-behind : At tie.Need-mul-behind
-mul-behind c = search needs
-
-array-copy-out-behind : At tie.Need-array-copy-out-behind
-array-copy-out-behind c = search needs
-
-can-retire-requires : At tie.Need-can-retire-requires
-can-retire-requires c κs = search needs
-
-empty-seat-requires : At tie.Need-empty-seat-requires
-empty-seat-requires c κs = search needs
-
-mul-places-3 : At tie.Need-mul-places-3
-mul-places-3 c = search needs
-
-array-set-from-places-3 : At tie.Need-array-set-from-places-3
-array-set-from-places-3 c = search needs
-
-add-oldest : At tie.Need-add-oldest
-add-oldest c =
-    let i = looping (passed (c .before .before) .before) .loop2 .inv in
-    omega (arith, i .0 .low, i .1, i .2)
-
-sub-retires : At tie.Need-sub-retires
-sub-retires c = omega (arith, passed (c .before .before) .before .before .before .loop2-test .taken)
-
-loop2-less-2 : At tie.Need-loop2-less-2
-loop2-less-2 c = omega (arith, passed (c .before .before) .before .before .before .loop2-test .taken)
-
-loop2-again-2 : At tie.Need-loop2-again-2
-unfolding readSeat writeSeat
-loop2-again-2 c =
-    let e = passed (c .before .before) in
-    let i = looping (e .before) .loop2 .inv in
-    let on =
-    retires-on _ _ _ _ _ (i .0) (retiring e) _ (c .empty-seat .ensures) (e .before .before .before .loop2-test .taken)
-    (sym (c .before .before .can-retire .ensures) ∙ not-false _ (c .before .if5 .left)) in
-    (on, i .1, i .2)
+    let d = c .before .before in
+    let l = looping d in
+    let i = l .before .loop2 .inv in
+    (steps-on _ _ _ _ _ (i .0) (l .loop2-test .taken) _ (turn-is d) .0, i .1, i .2)
 
 loop-less-2 : At tie.Need-loop-less-2
 loop-less-2 c = omega (arith, turning (asking (within (settled (c .before)))) .loop-test .taken)
@@ -548,21 +501,6 @@ loop-again-2 c =
     let l = c .before in
     let s = settled l in
     (one-more s _ (ap (withRing (untidied s)) (ends _ _ _ _ _ (l .loop2 .inv .0) (c .loop2-test .left))), still-32 s)
-
-loop-less-3 : At tie.Need-loop-less-3
-loop-less-3 c =
-    omega (arith, turning (asking (within (settled (looping (passed (c .before) .before))))) .loop-test .taken)
-
-loop-again-3 : At tie.Need-loop-again-3
-unfolding readSeat writeSlot
-loop-again-3 c =
-    let e = passed (c .before) in
-    let l = looping (e .before) in
-    let s = settled l in
-    let last =
-    stops _ _ _ _ _ (l .loop2 .inv .0) (retiring e)
-    (sym (c .before .can-retire .ensures) ∙ not-true _ (c .if5 .taken)) in
-    (one-more s _ (ap (withRing (untidied s)) last), still-32 s)
 
 same-length : At tie.Need-same-length
 same-length c = c .before .loop .inv .0 .length
@@ -607,32 +545,19 @@ perform-operations-spec =
     put-at-requires-2
     radios-after-operation-requires
     loop2-holds
-    cast-a
-    mul-ahead
-    array-copy-out-ahead
-    add-may-skip
-    may-skip-requires
-    with-place-requires
+    cast-tidy-step
+    mul-tidy-step
+    array-copy-out-tidy-step
+    cast-tidy-step-2
+    mul-tidy-step-2
+    array-copy-out-tidy-step-2
+    tidy-step-requires
+    cast-places
     mul-places-2
     array-set-from-places-2
-    add-resumed
-    sub-skips
     loop2-less
     loop2-again
-    cast-b
-    mul-behind
-    array-copy-out-behind
-    can-retire-requires
-    empty-seat-requires
-    mul-places-3
-    array-set-from-places-3
-    add-oldest
-    sub-retires
-    loop2-less-2
-    loop2-again-2
     loop-less-2
     loop-again-2
-    loop-less-3
-    loop-again-3
     same-length
     returns)

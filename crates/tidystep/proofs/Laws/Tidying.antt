@@ -6,14 +6,14 @@ use mathlib.Core.Bool.{Bool, true, false, _&&_}
 use native.Mathlib.Omega.{arith}
 use borrow.Author.Tests.{lt-ltb, ltb-true}
 use lib.Dec.{ltb}
-use Rattle.hub.specs.declared.record.Place.{Place}
-use Rattle.hub.specs.declared.record.PlaceSlot.{PlaceSlot}
-use Rattle.hub.specs.Record.{emptySeat, withPlace}
-use Rattle.hub.specs.Ring.{PLACES, Ring, readSeat, writeSeat, canSkip, canRetire, skip, retire, retired}
+use Rattle.hub.specs.Ring.{Ring, readSeat, writeSeat, canSkip, canRetire, skip, skipped, retire, retired}
 use Rattle.hub.proofs.Laws.Bools.{first, second}
+use Rattle.hub.proofs.Laws.Seats.{same-seat}
 use Rattle.hub.proofs.Laws.Ring.{skip-yes, skip-no, retire-yes, retire-no}
 use Rattle.transition.specs.Tidied.{reclaimedBy}
 use Rattle.transition.proofs.Laws.Loops.{skip-none, retire-none}
+use Rattle.tidystep.specs.declared.TidyStep.{TidyStep}
+use Rattle.tidystep.specs.Step.{tidyStep}
 
 -- Of n turns of each loop from r₀ so many are left at r.
 pub record Tidying (n : ℕ) (r₀ r : Ring) (skips retires : ℕ) : Type 0 where
@@ -41,77 +41,70 @@ module _ (r : Ring) where
   retire-off zero e = retire-none r
   retire-off (suc k) e = retire-no k r e
 
+-- The turn that is decided at a ring.
+abbrev pub stepAt : Ring → ℕ → ℕ → TidyStep
+stepAt r skips retires =
+    tidyStep (readSeat (r .places) (r .resumed)) (readSeat (r .places) (r .oldest)) (r .resumed) (r .oldest) skips retires
+
+-- The ring that a turn leaves.
+abbrev pub afterStep : Ring → TidyStep → Ring
+afterStep r d =
+    record { resumed = d .resumed; oldest = d .oldest; places = writeSeat (r .places) (d .ticket) (d .seat) }
+
 module _ (n : ℕ) (r₀ r : Ring) (skips retires : ℕ) (t : Tidying n r₀ r skips retires) where
-  module _ (e : maySkip r skips ≡ true) where
-    pub still-skips : 0 < skips
-    still-skips = ltb-true 0 skips (first (ltb 0 skips) (canSkip r) e)
-
-    pub in-window : r .resumed < r .oldest + PLACES
-    in-window =
-        ltb-true (r .resumed) (r .oldest + PLACES)
-        (first (ltb (r .resumed) (r .oldest + PLACES)) _ (second (ltb 0 skips) (canSkip r) e))
-
-    -- A turn that skips, in which x is written.
-    pub skips-on : (x : PlaceSlot) → x ≡ withPlace Place.Done (readSeat (r .places) (r .resumed))
-        → Tidying n r₀
-        (record {
-          resumed = r .resumed + 1;
-          oldest = r .oldest;
-          places = writeSeat (r .places) (r .resumed) x;
-        }) (skips - 1) retires
-    skips-on x d =
-        subst
-        (λ (y : PlaceSlot).
-        Tidying n r₀
-        (record {
-          resumed = r .resumed + 1;
-          oldest = r .oldest;
-          places = writeSeat (r .places) (r .resumed) y;
-        }) (skips - 1) retires)
-        (sym d)
-        (record {
-          few = omega (arith, t .few);
-          low = t .low;
-          same =
-              ap (retire retires)
-              (sym (ap (λ (k : ℕ). skip k r) (one-less skips still-skips)
-              ∙ skip-yes (skips - 1) r (second (ltb 0 skips) (canSkip r) e)))
-              ∙ t .same;
-        })
+  skips-on : maySkip r skips ≡ true → Tidying n r₀ (skipped r) (skips - 1) retires
+  skips-on e =
+      let some = ltb-true 0 skips (first (ltb 0 skips) (canSkip r) e) in
+      record {
+        few = omega (arith, t .few);
+        low = t .low;
+        same =
+            ap (retire retires)
+            (sym (ap (λ (k : ℕ). skip k r) (one-less skips some)
+            ∙ skip-yes (skips - 1) r (second (ltb 0 skips) (canSkip r) e)))
+            ∙ t .same;
+      }
 
   module _ (e : maySkip r skips ≡ false) where
     all-skipped : retire retires r ≡ reclaimedBy n r₀
     all-skipped = ap (retire retires) (sym (skip-off r skips e)) ∙ t .same
 
-    pub stops : canRetire r ≡ false → r ≡ reclaimedBy n r₀
-    stops f = sym (retire-off r retires f) ∙ all-skipped
-
-    -- A turn that retires, in which x is written.
-    pub retires-on : (x : PlaceSlot) → x ≡ emptySeat → 0 < retires → canRetire r ≡ true
-        → Tidying n r₀
-        (record {
-          resumed = r .resumed;
-          oldest = r .oldest + 1;
-          places = writeSeat (r .places) (r .oldest) x;
-        }) 0 (retires - 1)
-    retires-on x d l f =
-        subst
-        (λ (y : PlaceSlot).
-        Tidying n r₀
-        (record {
-          resumed = r .resumed;
-          oldest = r .oldest + 1;
-          places = writeSeat (r .places) (r .oldest) y;
-        }) 0 (retires - 1))
-        (sym d)
-        (record {
+    retires-on : 0 < retires → canRetire r ≡ true → Tidying n r₀ (retired r) 0 (retires - 1)
+    retires-on l f =
+        record {
           few = omega arith;
           low = omega (arith, t .low);
           same =
               ap (retire (retires - 1)) (skip-none (retired r))
               ∙ sym (ap (λ (k : ℕ). retire k r) (one-less retires l) ∙ retire-yes (retires - 1) r f)
               ∙ all-skipped;
-        })
+        }
+
+    stops : canRetire r ≡ false → Tidying n r₀ r 0 0
+    stops f =
+        record {
+          few = omega arith;
+          low = omega (arith, t .low);
+          same = retire-none (skip 0 r) ∙ skip-none r ∙ sym (retire-off r retires f) ∙ all-skipped;
+        }
+
+  -- A turn leads on, and leaves less to do.
+  abbrev Leads : TidyStep → Type 0
+  Leads d = Tidying n r₀ (afterStep r d) (d .skips) (d .retires) × (d .skips + d .retires < skips + retires)
+
+  leads : 0 < retires → Leads (stepAt r skips retires)
+  unfolding tidyStep
+  leads l = go (maySkip r skips) refl (canRetire r) refl
+    where
+      go : (a : Bool) → maySkip r skips ≡ a → (b : Bool) → canRetire r ≡ b → Leads (stepAt r skips retires)
+      go true ea b eb =
+          let some = ltb-true 0 skips (first (ltb 0 skips) (canSkip r) ea) in
+          rw ea (skips-on ea, omega arith)
+      go false ea true eb = rw (ea, eb) (retires-on ea l eb, omega arith)
+      go false ea false eb = rw (ea, eb, same-seat (r .places) (r .oldest)) (stops ea eb, omega arith)
+
+  pub steps-on : 0 < retires → (d : TidyStep) → d ≡ stepAt r skips retires → Leads d
+  steps-on l d e = subst Leads (sym e) (leads l)
 
   pub ends : retires ≤ 0 → r ≡ reclaimedBy n r₀
   ends l =

@@ -1,0 +1,2 @@
+-- Laws of the turns.
+pub mod Tidying
