@@ -13,7 +13,7 @@ use Rattle.hub.specs.declared.opening.Opening.{Opening}
 use Rattle.hub.specs.declared.record.Phase.{Phase}
 use Rattle.hub.specs.Basics.{among, bit, count, weight}
 use Rattle.hub.specs.Demand3.{Demand3}
-use Rattle.hub.specs.Ledger.{opened, ledger}
+use Rattle.hub.specs.Ledger.{opened}
 use Rattle.hub.specs.Opening.{fresh, opening}
 use Rattle.hub.specs.Phases.{isOneOf, holds}
 use Rattle.hub.specs.Record.{PARTIES, phasesOf}

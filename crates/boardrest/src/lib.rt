@@ -21,8 +21,7 @@ fn operate_fields(
     slots: [PartySlot; 32],
     control: Control,
 ) -> Operated
-    ensures { λ r. ⌜ r ≡ operated (ofFields places slots control)
-        (record { op = op; party = party }) ⌝ }
+    ensures { λ r. ⌜ r ≡ operated (ofFields places slots control) (record { op = op; party = party }) ⌝ }
 {
     let hub = Hub {
         places,

@@ -2,21 +2,18 @@
 -- what the screen tells.
 use Prim.Native.Nat.{ℕ, _*_, _/_}
 use mathlib.Core.Path.{_≡_, refl, ap, sym, _∙_}
-use mathlib.Core.Bool.{true, false, true≢false}
+use mathlib.Core.Bool.{true, true≢false}
 use mathlib.Core.List.{List, [], _∷_, _++_, map}
-use lib.Dec.{eqb, leb}
+use lib.Dec.{eqb}
 use lib.ListN.{length, drop}
-use Rattle.hub.specs.declared.answers.Answer.{Answer}
-use Rattle.hub.specs.declared.moves.Call.{Call}
 use Rattle.hub.specs.declared.record.Hub.{Hub}
 use Rattle.hub.specs.Answers.{printed}
 use Rattle.hub.specs.Opening.{opening}
 use Rattle.hub.proofs.Laws.Bools.{first, second}
 use Rattle.encoding.specs.Frame.{opOf}
-use Rattle.operations.specs.declared.Told.{Told}
 use Rattle.operations.specs.Operation.{operated}
 use Rattle.run.specs.Bytes.{callsOf, wellFormed}
-use Rattle.run.specs.Run.{Ended, endIf}
+use Rattle.run.specs.Run.{endIf}
 use Rattle.perform.specs.Bytes.{answerBytes, answersTo, answersWritten, isOperationCode}
 use Rattle.perform.proofs.Laws.Codes.{among-three}
 use Rattle.screen.specs.Moves.{callOf}

@@ -2,7 +2,6 @@
 use Prim.Native.Nat.{ℕ}
 use Rattle.hub.specs.declared.answers.Answer.{Answer}
 use Rattle.hub.specs.declared.moves.Sight.{Sight}
-use Rattle.hub.specs.declared.record.Figures.{Figures}
 use Rattle.hub.specs.declared.record.PartySlot.{PartySlot}
 use Rattle.hub.specs.declared.record.PlaceSlot.{PlaceSlot}
 use Rattle.hub.specs.Moves.{Change, Move, Refuse, Tell, Act, Put, Wake}

@@ -11,7 +11,7 @@ use hub::record::Place;
 use hub::slots::with_phase;
 use hub::slots::with_place;
 ghost use mathlib.Core.Path.{_≡_};
-ghost use Rattle.hub.specs.Moves.{Move, Refuse, Tell, Act};
+ghost use Rattle.hub.specs.Moves.{Refuse, Tell, Act};
 ghost use Rattle.hub.specs.Table.{change, give, put, take, turn, wake};
 ghost use Rattle.effects.specs.Effect.{effectOf};
 ghost use Rattle.effects.specs.Small.{CounterFits};

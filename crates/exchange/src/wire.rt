@@ -12,7 +12,7 @@ ghost use mathlib.Core.Path.{_≡_};
 ghost use Prim.Native.Nat.{_*_, _+_, _≤_};
 ghost use lib.ListN.{length, getD};
 ghost use Rattle.hub.specs.Answers.{plain, printed};
-ghost use Rattle.encoding.specs.Form.{formOf, inForm, replySize};
+ghost use Rattle.encoding.specs.Form.{formOf, replySize};
 ghost use Rattle.encoding.specs.Frame.{frameOf, paper};
 ghost use Rattle.encoding.specs.Tables.{Pairs};
 ghost use Rattle.exchange.specs.Admission.{admissionOf};

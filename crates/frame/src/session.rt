@@ -12,12 +12,12 @@ use requests::answer_requests;
 use writer::form::TEXT;
 ghost use mathlib.Core.Path.{_≡_};
 ghost use mathlib.Core.List.{_++_};
-ghost use Prim.Native.Nat.{suc, _*_, _≤_};
+ghost use Prim.Native.Nat.{_*_, _≤_};
 ghost use lib.ListN.{length, drop};
 ghost use Rattle.batch.specs.Batch.{Reachable};
 ghost use Rattle.beforeopen.specs.Opening.{askedOpen};
 ghost use Rattle.reader.specs.Reading.{KEPT, asked, requestsWritten};
-ghost use Rattle.frame.specs.Session.{Sound, atStart, fed, finished, rest, told};
+ghost use Rattle.frame.specs.Session.{Sound, atStart, fed, rest, told};
 
 // The record, and the line that is being read.
 pub struct Session {

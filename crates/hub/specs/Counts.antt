@@ -1,5 +1,5 @@
 -- What a record shows of "Counting links".
-use Prim.Native.Nat.{ℕ, _+_, _-_}
+use Prim.Native.Nat.{_+_, _-_}
 use mathlib.Core.Path.{_≡_}
 use mathlib.Core.List.{List}
 use Rattle.hub.specs.declared.answers.Answer.{Answer}

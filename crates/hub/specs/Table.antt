@@ -13,7 +13,6 @@ use Rattle.hub.specs.declared.answers.Answer.the-variants.{ResumeRefused
 use Rattle.hub.specs.declared.answers.Answer.the-variants.{MarkedCancelled, PassedOn}
 use Rattle.hub.specs.declared.answers.Answer.the-variants.{MarkedRefused, DroppedPermit}
 use Rattle.hub.specs.declared.answers.Answer.the-variants.{Fetched, NotYet, Stored, Radio, NoRadio}
-use Rattle.hub.specs.declared.answers.Refusal.{Refusal}
 use Rattle.hub.specs.declared.answers.Refusal.the-variants.{Unfit, NotFree, Exhausted, Full}
 use Rattle.hub.specs.declared.answers.Refusal.the-variants.{AtRest, NotWaiting, NotCancellable}
 use Rattle.hub.specs.declared.answers.Refusal.the-variants.{NotHolding}

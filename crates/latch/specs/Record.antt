@@ -1,6 +1,6 @@
 -- What the record and its slots are made of, and how a party's slot is read and written.
 use Prim.Native.Nat.{ℕ, zero, suc}
-use mathlib.Core.Bool.{Bool, true, false}
+use mathlib.Core.Bool.{true, false}
 use mathlib.Core.List.{List, map}
 use lib.ListN.{getD, set}
 use Rattle.hub.specs.declared.record.Phase.{Phase}

@@ -10,7 +10,6 @@ use Rattle.hub.specs.declared.answers.Answer.the-variants.{LeftPermit, Woke, De
 use Rattle.hub.specs.declared.answers.Answer.the-variants.{ResumeRefused, MustCancel, MustRefuse}
 use Rattle.hub.specs.declared.answers.Answer.the-variants.{MarkedCancelled, PassedOn}
 use Rattle.hub.specs.declared.answers.Answer.the-variants.{MarkedRefused, DroppedPermit}
-use Rattle.hub.specs.declared.answers.Refusal.{Refusal}
 use Rattle.hub.specs.declared.answers.Refusal.the-variants.{Unfit, NotFree, Exhausted, Full}
 use Rattle.hub.specs.declared.answers.Refusal.the-variants.{AtRest, NotWaiting, NotCancellable}
 use Rattle.hub.specs.declared.record.Phase.{Phase}
@@ -30,7 +29,6 @@ use Rattle.latch.specs.declared.moves.LatchOp.the-variants.{Await, Step,
 use Rattle.latch.specs.declared.moves.LatchSight.{LatchSight}
 use Rattle.latch.specs.declared.record.LatchFigures.{LatchFigures}
 use Rattle.latch.specs.declared.record.LatchSlot.{LatchSlot}
-use Rattle.latch.specs.Moves.{Change}
 use Rattle.latch.specs.Moves.{Move}
 use Rattle.latch.specs.Moves.{Refuse, Act, Put, Wake}
 use Rattle.latch.specs.Record.{carryOn, freeSlot, inPhase, toRaise, withLeft, withPhase}

@@ -5,7 +5,7 @@ use mathlib.Core.Bool.{Bool, true, false, cond, _||_}
 use mathlib.Core.List.{List, [], _∷_}
 use native.Mathlib.Omega.{arith}
 use borrow.Author.Tests.{eqb-true, lt-ltb, ltb-true, ne-eqb}
-use lib.Dec.{eqb, ltb}
+use lib.Dec.{ltb}
 use lib.ListN.{getD, replicate}
 use Rattle.hub.specs.declared.answers.Answer.{Answer}
 use Rattle.hub.specs.declared.record.Phase.{Phase}
@@ -15,7 +15,7 @@ use Rattle.hub.specs.Phases.{atRest, isOneOf}
 use Rattle.hub.specs.Record.{PARTIES, emptySeat}
 use Rattle.hub.specs.Refinement.{isSeven, withoutSevens}
 use Rattle.hub.specs.Ring.{PLACES, readSeat}
-use Rattle.hub.proofs.Laws.Bools.{if-true, if-false, second}
+use Rattle.hub.proofs.Laws.Bools.{if-true, second}
 use Rattle.hub.proofs.Laws.Lists.{weight-replicate}
 use Rattle.hub.proofs.Invariant.Weights.{drawing, pick}
 use Rattle.latch.specs.declared.moves.LatchCall.{LatchCall}
@@ -25,7 +25,7 @@ use Rattle.latch.specs.declared.opening.Start.{Start}
 use Rattle.latch.specs.declared.record.Latch.{Latch}
 use Rattle.latch.specs.declared.record.LatchSlot.{LatchSlot}
 use Rattle.latch.specs.Calls.{answerOf, called, checked, moveOf}
-use Rattle.latched.specs.Claims.{Accounts, Busy, NobodyEarly, NobodyLeft, NoneEarly, NoStepRefused, ReachedFits}
+use Rattle.latched.specs.Claims.{NobodyEarly, NobodyLeft, NoneEarly, NoStepRefused, ReachedFits}
 use Rattle.latched.specs.Claims.{letsGo, stepBy}
 use Rattle.latch.specs.Ledger.{Ledger, countIn, enter, isDown, ledger, opened, slotIn, succeeded}
 use Rattle.latch.specs.Look.{look, seenBy}
@@ -34,14 +34,13 @@ use Rattle.latch.specs.Moves.{Refuse, Act, Put, Wake}
 use Rattle.latch.specs.Opening.{fresh, opening}
 use Rattle.latch.specs.Queue.{Queue}
 use Rattle.latch.specs.Queue as queue
-use Rattle.latch.specs.Record.{freeSlot}
 use Rattle.latched.specs.Refinement.{Shows, heard, Refines}
 use Rattle.latch.specs.Schedule.{run, answers, entries}
 use Rattle.latch.specs.Table.{decide}
-use Rattle.latch.proofs.Laws.Opening.{InRange, in-range}
+use Rattle.latch.proofs.Laws.Opening.{in-range}
 use Rattle.latched.proofs.Invariant.Rest.{nobody-waits}
 use Rattle.latched.proofs.Invariant.Rows.{Good, isListed}
-use Rattle.latched.proofs.Invariant.Schedules.{Agrees, Kept, entered, move-good, next-good}
+use Rattle.latched.proofs.Invariant.Schedules.{Agrees, entered, move-good, next-good}
 use Rattle.latched.proofs.Invariant.Schedules.{fresh-inv, fresh-agrees}
 use Rattle.latched.proofs.Window.Shown.{Tracks, look-same}
 use Rattle.latched.proofs.Window.Reached.{reached-fits}

@@ -1,6 +1,5 @@
 -- On the calls that are not answered 7 the latch answers as the unbounded queue does, and its record is a window
 -- of the queue.
-use Prim.Native.Nat.{ℕ}
 use mathlib.Core.Path.{_≡_}
 use mathlib.Core.Bool.{cond}
 use mathlib.Core.List.{List, [], _∷_}

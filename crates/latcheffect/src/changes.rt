@@ -10,7 +10,7 @@ use latch::opening::free_slot;
 use latch::record::LatchFigures;
 use latch::record::LatchSlot;
 ghost use mathlib.Core.Path.{_≡_};
-ghost use Rattle.latch.specs.Moves.{Move, Refuse};
+ghost use Rattle.latch.specs.Moves.{Refuse};
 ghost use Rattle.latch.specs.Table.{act, put, turn, wake};
 ghost use Rattle.latcheffect.specs.Effect.{effectOf};
 

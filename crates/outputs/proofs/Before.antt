@@ -1,26 +1,24 @@
 -- An input of the old format is answered as it was: its openings give no kinds, and the hub that they open holds the
 -- built-in table from then on.
 use Prim.Native.Nat.{ℕ, suc, _+_, _≤_}
-use mathlib.Core.Path.{_≡_, refl, sym, ap, subst, _∙_}
+use mathlib.Core.Path.{_≡_, refl, ap, _∙_}
 use mathlib.Core.Bool.{Bool, true, false, cond, _&&_}
 use mathlib.Core.List.{List, [], _∷_, _++_, map}
 use native.Mathlib.Omega.{arith}
-use borrow.Author.Tests.{eq-eqb, eqb-true, leb-false, leb-true, ltb-false, ne-eqb}
+use borrow.Author.Tests.{eq-eqb, leb-false, leb-true, ltb-false, ne-eqb}
 use lib.Dec.{eqb, leb, ltb}
 use lib.ListN.{drop, drop-of-length-le, length, take}
 use lib.Seq.{take-all}
 use Rattle.hub.specs.declared.moves.Call.{Call}
-use Rattle.hub.specs.declared.opening.Opening.{Opening}
 use Rattle.hub.specs.declared.record.Hub.{Hub}
-use Rattle.hub.specs.declared.record.Outcome.{Outcome}
 use Rattle.hub.specs.Opening.{fresh, opening, sized, withRadios}
-use Rattle.hub.specs.OwnKinds.{WithoutKinds, calledBefore, openingBefore}
+use Rattle.hub.specs.OwnKinds.{WithoutKinds}
 use Rattle.hub.proofs.OwnKinds.{called-before, opened-before, opened-without, still-without}
 use Rattle.encoding.specs.Form.{asText}
 use Rattle.encoding.specs.Frame.{isCall, opOf}
 use Rattle.line.specs.Program.{Reply, Response, after, beforeOpen, closing, isOpen, linesOf, outputOf}
 use Rattle.line.specs.Program.{rendered, replies, reported, respond, unopened, whenOpen}
-use Rattle.line.specs.Requests.{Request, malformed, toOpen, toCall, frameSize, givenKinds, isOpening}
+use Rattle.line.specs.Requests.{Request, malformed, toOpen, toCall, givenKinds, isOpening}
 use Rattle.line.specs.Requests.{openingIn, requested, requestOf, spelledBy}
 use Rattle.outputs.specs.Before.{OldFormat, PrintsAsBefore, afterBefore, beforeOpenBefore, givesKinds}
 use Rattle.outputs.specs.Before.{openingInBefore, outputBefore, repliesBefore, requestBefore, requestedBefore}

@@ -80,6 +80,7 @@ pub fn perform_operations(hub: Hub, operations: &[u8], out: &mut [u8])
         }
         let next = plan.figures;
         figures = next;
+        // the tidying
         let mut resumed = figures.resumed;
         let mut skips = plan.turns;
         let mut retires = skips;

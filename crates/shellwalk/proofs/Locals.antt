@@ -33,7 +33,6 @@ use types.Kit.{
   by,
   move,
   qed,
-  use1,
 }
 use types.Run.{Finds, Opds, Walks, alloc1, alloc0, and-then, forget, free1, free0, from, load, look, no-more, stop}
 

@@ -9,8 +9,8 @@ use Rattle.hub.specs.Record.{emptySeat, withPlace}
 use Rattle.hub.specs.Ring.{PLACES}
 use Rattle.tidystep.specs.declared.TidyStep.{TidyStep}
 
-abbrev pub skipping : PlaceSlot → ℕ → ℕ → ℕ → ℕ → TidyStep
-skipping ahead resumed oldest skips retires =
+abbrev pub skipTurn : PlaceSlot → ℕ → ℕ → ℕ → ℕ → TidyStep
+skipTurn ahead resumed oldest skips retires =
     record {
       ticket = resumed;
       seat = withPlace Place.Done ahead;
@@ -20,8 +20,8 @@ skipping ahead resumed oldest skips retires =
       retires = retires;
     }
 
-abbrev pub retiring : ℕ → ℕ → ℕ → TidyStep
-retiring resumed oldest retires =
+abbrev pub retireTurn : ℕ → ℕ → ℕ → TidyStep
+retireTurn resumed oldest retires =
     record {
       ticket = oldest;
       seat = emptySeat;
@@ -32,8 +32,8 @@ retiring resumed oldest retires =
     }
 
 -- Nothing more is to do: what was there is stored.
-abbrev pub stopping : PlaceSlot → ℕ → ℕ → TidyStep
-stopping behind resumed oldest =
+abbrev pub lastTurn : PlaceSlot → ℕ → ℕ → TidyStep
+lastTurn behind resumed oldest =
     record {
       ticket = oldest;
       seat = behind;
@@ -43,9 +43,14 @@ stopping behind resumed oldest =
       retires = 0;
     }
 
+-- May ticket `resumed`, whose place this is, be skipped, with so many left to skip?
+abbrev pub maySkip : ℕ → PlaceSlot → ℕ → ℕ → Bool
+maySkip skips seat resumed oldest =
+    ltb 0 skips && (ltb resumed (oldest + PLACES) && isCancelled (seat .place))
+
 -- With so many left to skip and to retire.
 unfoldable pub tidyStep : PlaceSlot → PlaceSlot → ℕ → ℕ → ℕ → ℕ → TidyStep
 tidyStep ahead behind resumed oldest skips retires =
-    cond (ltb 0 skips && (ltb resumed (oldest + PLACES) && isCancelled (ahead .place)))
-    (skipping ahead resumed oldest skips retires)
-    (cond (isDone (behind .place)) (retiring resumed oldest retires) (stopping behind resumed oldest))
+    cond (maySkip skips ahead resumed oldest)
+    (skipTurn ahead resumed oldest skips retires)
+    (cond (isDone (behind .place)) (retireTurn resumed oldest retires) (lastTurn behind resumed oldest))

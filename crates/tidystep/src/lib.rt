@@ -9,12 +9,8 @@ use hub::slots::with_place;
 use transition::tidy::can_retire;
 use transition::tidy::can_skip;
 ghost use mathlib.Core.Path.{_≡_};
-ghost use mathlib.Core.Bool.{_&&_};
-ghost use Prim.Native.Nat.{_+_, _<_, _≤_};
-ghost use lib.Dec.{ltb};
-ghost use Rattle.hub.specs.Phases.{isCancelled};
-ghost use Rattle.hub.specs.Ring.{PLACES};
-ghost use Rattle.tidystep.specs.Step.{tidyStep};
+ghost use Prim.Native.Nat.{_<_, _≤_};
+ghost use Rattle.tidystep.specs.Step.{maySkip, tidyStep};
 
 // What a turn stores, and what is left after it.
 pub struct TidyStep {
@@ -26,11 +22,11 @@ pub struct TidyStep {
     pub retires: u32, // and retire; none once there is nothing more to do
 }
 
-// May the tidying pass ticket `resumed`, whose place this is, with so many left to pass? The place is asked first, since
-// mostly it is not cancelled.
+// May the tidying skip ticket `resumed`, whose place this is, with so many left to skip? The place is asked before the
+// turns that are left, since mostly it is not cancelled.
 fn may_skip(skips: u32, seat: PlaceSlot, resumed: u32, oldest: u32) -> bool
     requires { ⌜ oldest ≤ 1000256 ⌝ }
-    ensures { λ r. ⌜ r ≡ (ltb 0 skips && (ltb resumed (oldest + PLACES) && isCancelled (seat .place))) ⌝ }
+    ensures { λ r. ⌜ r ≡ maySkip skips seat resumed oldest ⌝ }
 {
     if !can_skip(seat, resumed, oldest + Hub::PLACES) {
         return false;

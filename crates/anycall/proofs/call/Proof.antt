@@ -1,18 +1,14 @@
 -- `call` meets its contract: refused by 1 or 4, or decided, stored, its radio moved, and tidied.
 use borrow.Author.Needs.{needs}
 use borrow.Author.Tests.{not-true, not-false, lt-ltb, le-ltb}
-use mathlib.Core.Path.{_≡_, refl, sym, ap, ap₂, _∙_}
-use mathlib.Core.Bool.{Bool, true, false}
-use mathlib.Core.List.{List}
+use mathlib.Core.Path.{_≡_, refl, sym, ap, _∙_}
+use mathlib.Core.Bool.{Bool, true}
 use mathlib.Core.Logic.{⊎-elim}
 use native.Mathlib.Omega.{arith}
 use Prim.Native.Nat.{ℕ, _<_, _%_, _≤_}
-use lib.Dec.{ltb}
 use lib.ListN.{length, getD, set}
-use Rattle.hub.specs.declared.moves.Op.{Op}
 use Rattle.hub.specs.declared.moves.Sight.{Sight}
 use Rattle.hub.specs.declared.record.Hub.{Hub}
-use Rattle.hub.specs.declared.record.Outcome.{Outcome}
 use Rattle.hub.specs.declared.record.PartySlot.{PartySlot}
 use Rattle.hub.specs.declared.record.PlaceSlot.{PlaceSlot}
 use Rattle.hub.specs.declared.record.Pool.{Pool}
@@ -27,7 +23,6 @@ use Rattle.hub.specs.Ring.{PLACES, readSeat}
 use Rattle.hub.specs.Table.{decide}
 use Rattle.hub.proofs.Laws.Printed.{with-printed}
 use Rattle.hub.proofs.Laws.Lists.{mapped-size}
-use Rattle.effects.specs.declared.effect.Effect.{Effect}
 use Rattle.effects.specs.Effect.{effectOf}
 use Rattle.transition.specs.Tidied.{tidiedBy}
 use Rattle.transition.proofs.Laws.Called.{asks, radiosAfter, unfit, no-such-party, Counted, counted}

@@ -5,8 +5,8 @@ use mathlib.Core.List.{List, _++_, append-assoc}
 use native.Mathlib.Nat.{add-zero, mul-zero, mul-suc, mul-le-mul-left}
 use native.Mathlib.Omega.{arith}
 use borrow.Rule.Slice.PartMut.{putMid}
-use lib.ListN.{length, getD, take, drop, take-append-drop, length-drop}
-use lib.Seq.{drop-drop, getD-drop, length-take-le}
+use lib.ListN.{length, getD, take, drop, take-append-drop}
+use lib.Seq.{drop-drop, getD-drop}
 use Rattle.hub.specs.declared.record.Hub.{Hub}
 use Rattle.encoding.specs.Form.{Form, asText, asBytes, replySize}
 use Rattle.line.specs.Program.{Reply, Response, respond, after, replies, replyIn, rendered}

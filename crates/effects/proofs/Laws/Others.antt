@@ -1,5 +1,5 @@
 -- What ask, give up and which radio decide, from their tests.
-use mathlib.Core.Path.{_≡_, refl, sym, ap, _∙_}
+use mathlib.Core.Path.{_≡_, sym, ap, _∙_}
 use mathlib.Core.Bool.{Bool, true, false}
 use lib.Dec.{eqb}
 use Rattle.hub.specs.declared.answers.Answer.{Answer}
@@ -7,7 +7,7 @@ use Rattle.hub.specs.declared.answers.Refusal.{Refusal}
 use Rattle.hub.specs.declared.moves.Op.{Op}
 use Rattle.hub.specs.declared.moves.Sight.{Sight}
 use Rattle.hub.specs.declared.record.Phase.{Phase}
-use Rattle.hub.specs.Moves.{Move, Refuse, Tell}
+use Rattle.hub.specs.Moves.{Refuse, Tell}
 use Rattle.hub.specs.Phases.{hasRadio}
 use Rattle.hub.specs.Table.{acquire, canCancel, cancel, decide, givenUp, tellRadio, turn}
 use Rattle.effects.specs.declared.effect.Effect.{Effect}

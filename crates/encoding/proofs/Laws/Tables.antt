@@ -1,6 +1,6 @@
 -- The rule of a table, proved at each entry by one test that is computed over all of them.
 use Prim.Native.Nat.{ℕ, zero, suc, _+_, _*_, _/_, _%_, _≤_, _<_}
-use mathlib.Core.Path.{_≡_, refl, sym, ap, _∙_, subst}
+use mathlib.Core.Path.{_≡_, refl, sym, ap, subst}
 use mathlib.Core.Bool.{Bool, true, false, cond, _&&_}
 use mathlib.Core.List.{List, [], _∷_}
 use native.Mathlib.Omega.{arith}
@@ -10,7 +10,7 @@ use lib.ListN.{length, getD}
 use Rattle.hub.proofs.Laws.Bools.{first, second}
 use Rattle.hub.specs.Answers.{Printed}
 use Rattle.encoding.specs.Frame.{frameOf}
-use Rattle.encoding.specs.Hex.{digitOf, isDigit, spelled, byteOf, charOf, hexOf, textOf}
+use Rattle.encoding.specs.Hex.{digitOf, isDigit, spelled, byteOf, charOf, textOf}
 use Rattle.encoding.specs.Tables.{Pairs, Values, valueOf}
 
 -- The test passes at each entry and its place, counted from i.

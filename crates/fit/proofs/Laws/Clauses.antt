@@ -61,13 +61,13 @@ module _ (x : Opening) (f : Figures) (o : ℕ) (e : figuresFit x f o ≡ true) w
       (second (leb 1 (x .parties)) _ (clause 1 (figuresClauses x f o) e))
 
 -- A party's clauses, with the place at its ticket, whether or not it has one.
-abbrev clauses : Hub → ℕ → Phase → Bool
-clauses h p f =
+abbrev partyClauses : Hub → ℕ → Phase → Bool
+partyClauses h p f =
     (ltb p (h .control .opening .parties) || isFree f) && ticketFits (h .control .figures) (h .control .oldest) f
     && placeListed f (readPlace (h .places) (ticketOf f)) && implies (ofRadios f) (h .control .opening .named)
 
 module _ (h : Hub) (p : ℕ) where
-  by-clauses : clauses h p (readSlot (h .slots) p .phase) ≡ partyFits h p
+  by-clauses : partyClauses h p (readSlot (h .slots) p .phase) ≡ partyFits h p
   unfolding partyFits seenBy
   by-clauses = rw (listed-any (readSeat (h .places)) (readSlot (h .slots) p .phase))
 

@@ -1,19 +1,14 @@
 -- Pieces one after the other are the whole input.
 use Prim.Native.Nat.{ℕ}
 use mathlib.Core.Path.{_≡_, refl, sym, ap, _∙_}
-use mathlib.Core.Bool.{Bool, true, false, cond}
 use mathlib.Core.List.{List, [], _∷_, _++_, map, append-assoc}
 use native.Mathlib.Omega.{arith}
-use lib.Dec.{eqb}
 use lib.ListN.{length-replicate}
-use Rattle.hub.specs.declared.record.Hub.{Hub}
-use Rattle.encoding.specs.Form.{asText}
-use Rattle.line.specs.Program.{respond, replies, after, replyIn, rendered, repliesIn}
+use Rattle.line.specs.Program.{replies, after, rendered}
 use Rattle.line.specs.Program.{closing, linesOf, outputOf}
 use Rattle.line.specs.Requests.{Request, requestOf}
-use Rattle.reader.specs.declared.Reader.{Reader}
 use Rattle.frame.specs.declared.session.Session.{Session}
-use Rattle.reader.specs.Reading.{KEPT, lineIn, next, past, asked}
+use Rattle.reader.specs.Reading.{KEPT, past, asked}
 use Rattle.frame.specs.Session.{atStart, fed, told, rest, finished, toldAll, joined, InPieces}
 use Rattle.beforeopen.proofs.Laws.Appended.{after-append, asked-append, lines, past-append, replies-append}
 use Rattle.frame.proofs.Laws.Lines.{lines-read}

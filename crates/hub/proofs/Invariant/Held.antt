@@ -1,12 +1,11 @@
 -- What the invariant gives of the permits: never more than K hold, and exactly K at rest while
 -- somebody waits.
-use Prim.Native.Nat.{ℕ, zero, suc, _+_, _-_, _*_, _≤_, _<_}
+use Prim.Native.Nat.{ℕ, zero, suc, _+_, _-_, _≤_, _<_}
 use mathlib.Core.Path.{_≡_, refl, ap}
 use mathlib.Core.Bool.{Bool, true, false, cond}
 use mathlib.Core.List.{List, [], _∷_}
 use mathlib.Core.Logic.{_⊎_, inl, inr}
 use native.Mathlib.Decide.{ℕ-discrete, decLe}
-use native.Mathlib.Nat.{le-refl}
 use native.Mathlib.Omega.{arith}
 use lib.IntN.{ℤ, pos, negsuc}
 use Rattle.hub.specs.declared.record.Phase.{Phase}
@@ -26,7 +25,7 @@ use Rattle.hub.proofs.Invariant.Weights.{one, pick, holding, resuming, 
 use Rattle.hub.proofs.Invariant.Weights.{live, handing, cancelling, own, refuse, above}
 use Rattle.hub.proofs.Invariant.Weights.{above-live, permitCell, cancelledCell, refusedCell}
 use Rattle.hub.proofs.Invariant.Weights.{sum, cellSum, TICKETS, handing-resuming}
-use Rattle.hub.proofs.Invariant.Tickets.{one-in, near, resumed-most}
+use Rattle.hub.proofs.Invariant.Tickets.{one-in, near}
 use Rattle.hub.proofs.Invariant.Keep.{Inv, permits}
 use Rattle.hub.proofs.Invariant.Rest.{Settled, idle, no-permits}
 

@@ -1,8 +1,8 @@
 -- The queue keeps its invariant, and the ledger of its answers agrees with it, on every schedule.
-use Prim.Native.Nat.{ℕ, zero, suc, _+_, _≤_, _<_}
+use Prim.Native.Nat.{ℕ, zero, suc, _+_, _≤_}
 use mathlib.Core.Path.{_≡_, refl, sym, ap, ap₂, subst, _∙_}
 use mathlib.Core.Bool.{Bool, true, false, cond}
-use mathlib.Core.List.{List, [], _∷_}
+use mathlib.Core.List.{List}
 use native.Mathlib.Omega.{arith}
 use borrow.Author.Tests.{ltb-true, ltb-false, lt-ltb}
 use lib.Dec.{ltb}
@@ -28,7 +28,7 @@ use Rattle.hub.specs.Ledger.{phasesAfter, counterAfter, servedAfter}
 use Rattle.hub.specs.Look.{seenBy}
 use Rattle.hub.specs.Phases.{isOneOf, isPlaceOf, isCancelled}
 use Rattle.hub.specs.Queue.{Queue, phases, places, canSkip, skipped, skip, tidied}
-use Rattle.hub.specs.Queue.{acted, placed, woken, apply, look, moveOf, withPool, next, fresh}
+use Rattle.hub.specs.Queue.{apply, look, moveOf, withPool, next, fresh}
 use Rattle.hub.specs.Record.{PARTIES, freeSlot, phasesOf}
 use Rattle.hub.specs.Table.{decide}
 use Rattle.hub.proofs.Laws.Bools.{if-true, if-false}

@@ -1,15 +1,14 @@
 -- The one walk of the step table: each row is good. So are the other calls.
-use Prim.Native.Nat.{ℕ, suc, _+_, _*_, _≤_, _<_}
+use Prim.Native.Nat.{ℕ, _+_, _*_, _≤_, _<_}
 use mathlib.Core.Path.{_≡_, refl, sym, ap, subst, _∙_}
 use mathlib.Core.Bool.{Bool, true, false}
 use mathlib.Core.List.{List, [], _∷_}
 use mathlib.Core.Logic.{_≢_}
 use native.Mathlib.Omega.{arith}
 use borrow.Author.Tests.{leb-false}
-use lib.Dec.{leb, eqb}
+use lib.Dec.{leb}
 use lib.ListN.{set}
 use lib.Seq.{set-set, set-comm}
-use Rattle.hub.specs.Moves.{Move}
 use Rattle.hub.specs.declared.moves.Op.{Op}
 use Rattle.hub.specs.declared.moves.Op.the-variants.{Acquire, Step, Cancel, Release, Radio}
 use Rattle.hub.specs.declared.moves.Sight.{Sight}
@@ -33,15 +32,15 @@ use Rattle.hub.specs.Phases.{isWaiting, ticketOf}
 use Rattle.hub.specs.Queue.{Queue, look, phases, places, withParts, write}
 use Rattle.hub.specs.Record.{MAX-BEGUN, emptySeat, freeSlot, readSlot, withPhase, withPlace, writeSlot}
 use Rattle.hub.specs.Table.{aboveZero, belowZero, acquire, canCancel, cancel, givenUp, release, decide}
-use Rattle.hub.specs.Table.{step, stepIn}
+use Rattle.hub.specs.Table.{stepIn}
 use Rattle.hub.specs.Table.{stepAcquiring, stepSuspending, stepTicketed, stepReleasing}
 use Rattle.hub.specs.Table.{stepResuming, resumeWaiter, stepResumingAt, stepAborting}
 use Rattle.hub.specs.Table.{stepCancelling, stepRefusing, stepFetching, stepStoring, tellRadio}
 use Rattle.hub.proofs.Laws.Lists.{weight-scale}
-use Rattle.hub.proofs.Laws.Phases.{every-phase, one-of}
+use Rattle.hub.proofs.Laws.Phases.{one-of}
 use Rattle.hub.proofs.Laws.Slots.{read-phase, write-phase}
 use Rattle.hub.proofs.Laws.Table.{can-cancel}
-use Rattle.hub.proofs.Invariant.Weights.{same, same-self, same-eq, lt, lt-yes, lt-no, lt-le}
+use Rattle.hub.proofs.Invariant.Weights.{same, same-self, same-eq, lt-yes, lt-no, lt-le}
 use Rattle.hub.proofs.Invariant.Weights.{lt-suc, took-above, took-below, gave-above}
 use Rattle.hub.proofs.Invariant.Weights.{gave-below, pick, own, hand, stand, stand-own, stage, stage-waiting}
 use Rattle.hub.proofs.Invariant.Weights.{holding, drawing, permitCell, refusedCell, least}

@@ -1,11 +1,11 @@
 -- Call by call: the hub does what the queue does, but for the asks that it answers 7.
-use Prim.Native.Nat.{ℕ, zero, suc, _+_, _≤_, _<_}
+use Prim.Native.Nat.{ℕ, _+_, _≤_}
 use mathlib.Core.Path.{_≡_, refl, sym, ap, ap₂, subst, _∙_}
 use mathlib.Core.Bool.{Bool, true, false}
 use mathlib.Core.List.{List}
 use native.Mathlib.Omega.{arith}
 use borrow.Author.Tests.{ltb-true, ltb-false, eqb-true}
-use lib.Dec.{ltb, leb, eqb}
+use lib.Dec.{ltb, eqb}
 use lib.ListN.{length}
 use Rattle.hub.specs.declared.answers.Answer.{Answer}
 use Rattle.hub.specs.declared.answers.Refusal.{Refusal}
@@ -29,7 +29,7 @@ use Rattle.hub.specs.Opening.{radiosDiffer}
 use Rattle.hub.specs.Queue.{Queue, phases}
 use Rattle.hub.specs.Queue as queue
 use Rattle.hub.specs.Radios.{moved, poolAfter}
-use Rattle.hub.specs.Record.{readSlot, withPool, writeSlot}
+use Rattle.hub.specs.Record.{withPool, writeSlot}
 use Rattle.hub.specs.Refinement.{Shows, isSeven}
 use Rattle.hub.specs.Ring.{PLACES}
 use Rattle.hub.specs.Table.{decide, acquire}

@@ -12,7 +12,6 @@ use Rattle.hub.proofs.Laws.Bools.{first, second}
 use Rattle.latch.specs.declared.moves.LatchCall.{LatchCall}
 use Rattle.latch.specs.declared.opening.LatchOpening.{LatchOpening}
 use Rattle.latch.specs.declared.opening.Start.{Start}
-use Rattle.latch.specs.declared.record.Latch.{Latch}
 use Rattle.latch.specs.Calls.{called, checked, apply}
 use Rattle.latch.specs.Fits.{figuresFit, fits}
 use Rattle.latch.specs.Opening.{fresh, notOpened, opening, openingIf, startCode, upTo200}

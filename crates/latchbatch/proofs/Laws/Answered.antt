@@ -1,6 +1,6 @@
 -- What a call on a lasting record answers and leaves.
 use Prim.Native.Nat.{ℕ, _≤_, _<_}
-use mathlib.Core.Path.{_≡_, refl, sym, ap, _∙_}
+use mathlib.Core.Path.{_≡_, sym}
 use mathlib.Core.Bool.{true}
 use mathlib.Core.List.{[], _∷_}
 use borrow.Author.Tests.{le-ltb, lt-ltb}
@@ -10,7 +10,6 @@ use Rattle.hub.specs.declared.answers.Refusal.{Refusal}
 use Rattle.latch.specs.declared.moves.LatchCall.{LatchCall}
 use Rattle.latch.specs.declared.moves.LatchOp.{LatchOp}
 use Rattle.latch.specs.declared.record.Latch.{Latch}
-use Rattle.latch.specs.declared.record.LatchOutcome.{LatchOutcome}
 use Rattle.latch.specs.Calls.{answerOf, apply, called, isFull}
 use Rattle.latch.specs.Fits.{fits}
 use Rattle.latch.specs.Look.{look}

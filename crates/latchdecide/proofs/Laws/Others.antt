@@ -1,5 +1,5 @@
 -- What await and give up decide, from their tests.
-use mathlib.Core.Path.{_≡_, refl, sym, ap, _∙_}
+use mathlib.Core.Path.{_≡_, sym, ap, _∙_}
 use mathlib.Core.Bool.{Bool, true, false}
 use lib.Dec.{eqb}
 use Rattle.hub.specs.declared.answers.Answer.{Answer}
@@ -8,7 +8,7 @@ use Rattle.hub.specs.declared.record.Phase.{Phase}
 use Rattle.hub.specs.Table.{canCancel, givenUp}
 use Rattle.latch.specs.declared.moves.LatchOp.{LatchOp}
 use Rattle.latch.specs.declared.moves.LatchSight.{LatchSight}
-use Rattle.latch.specs.Moves.{Move, Refuse}
+use Rattle.latch.specs.Moves.{Refuse}
 use Rattle.latch.specs.Record.{withPhase}
 use Rattle.latch.specs.Table.{await, cancel, decide, turn}
 use Rattle.latcheffect.specs.declared.effect.LatchEffect.{LatchEffect}

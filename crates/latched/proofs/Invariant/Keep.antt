@@ -1,24 +1,19 @@
 -- The invariant of the queue: the hub's part on tickets and cells, and the latch's counters beside it. One law by
 -- which every move keeps it.
-use Prim.Native.Nat.{ℕ, _+_, _-_, _*_, _≤_, _<_}
-use mathlib.Core.Path.{_≡_, refl, sym, ap, subst, _∙_}
+use Prim.Native.Nat.{ℕ, _+_, _*_, _≤_, _<_}
+use mathlib.Core.Path.{_≡_, sym, ap, subst, _∙_}
 use mathlib.Core.Logic.{_≢_}
 use native.Mathlib.Decide.{ℕ-discrete}
 use native.Mathlib.Omega.{arith}
-use lib.ListN.{length, length-map, List·getD-map}
-use Rattle.hub.specs.declared.record.Phase.{Phase}
 use Rattle.hub.specs.declared.record.Place.{Place}
-use Rattle.hub.specs.Basics.{weight}
-use Rattle.hub.specs.Ledger.{phaseIn}
-use Rattle.hub.specs.Phases.{isOneOf}
 use Rattle.hub.specs.Record.{MAX-BEGUN}
-use Rattle.hub.proofs.Laws.Lists.{weight-le, weight-map, weight-one, weight-scale}
-use Rattle.hub.proofs.Invariant.Weights.{same, lt, pick}
+use Rattle.hub.proofs.Laws.Lists.{weight-le, weight-map, weight-scale}
+use Rattle.hub.proofs.Invariant.Weights.{same, lt}
 use Rattle.hub.proofs.Invariant.Weights.{resuming, refusing, drawing, suspending}
 use Rattle.hub.proofs.Invariant.Weights.{live, handing, cancelling, own, hand, stand}
 use Rattle.hub.proofs.Invariant.Weights.{stage, permitCell, cancelledCell, refusedCell}
 use Rattle.hub.proofs.Invariant.Weights.{spent, served, least, most}
-use Rattle.hub.proofs.Invariant.Tickets.{Tickets, Shift, Owes, Names, keep-tickets, one-in}
+use Rattle.hub.proofs.Invariant.Tickets.{Tickets, Shift, Owes, Names, keep-tickets}
 use Rattle.latch.specs.declared.record.LatchFigures.{LatchFigures}
 use Rattle.latch.specs.declared.record.LatchSlot.{LatchSlot}
 use Rattle.latch.specs.Ledger.{slotIn}

@@ -1,10 +1,8 @@
 -- With everyone at rest after the count is 0, nobody waits.
-use Prim.Native.Nat.{ℕ, _+_, _≤_}
+use Prim.Native.Nat.{ℕ}
 use mathlib.Core.Path.{_≡_, refl, sym, ap, _∙_}
-use mathlib.Core.Bool.{true}
 use mathlib.Core.List.{[], _∷_}
 use native.Mathlib.Omega.{arith}
-use Rattle.hub.specs.declared.record.Phase.{Phase}
 use Rattle.hub.specs.declared.record.Phase.the-variants.{Waiting, Resuming, ResumingAt}
 use Rattle.hub.specs.Ledger.{phaseIn}
 use Rattle.hub.specs.Phases.{atRest, isOneOf}

@@ -2,8 +2,7 @@
 use Prim.Native.Nat.{ℕ, _+_, _-_, _≤_, _<_}
 use mathlib.Core.Path.{_≡_, refl, sym, ap, subst, _∙_}
 use mathlib.Core.Bool.{Bool, true, false, not, _&&_}
-use mathlib.Core.List.{List, [], _∷_}
-use mathlib.Core.Logic.{_≢_}
+use mathlib.Core.List.{List}
 use native.Mathlib.Omega.{arith}
 use lib.Dec.{ltb, eqb}
 use lib.ListN.{length, set, length-set, length-map, List·getD-map}
@@ -17,7 +16,7 @@ use Rattle.hub.specs.Basics.{bit, weight}
 use Rattle.hub.specs.Ledger.{phaseIn}
 use Rattle.hub.specs.Phases.{atRest, isOneOf}
 use Rattle.hub.specs.Queue.{write}
-use Rattle.hub.proofs.Laws.Lists.{weight-map, weight-set}
+use Rattle.hub.proofs.Laws.Lists.{weight-set}
 use Rattle.hub.proofs.Laws.Ranges.{sum-set}
 use Rattle.hub.proofs.Invariant.Rows.{write-same, write-other}
 use Rattle.hub.proofs.Invariant.Weights.{drawing, stand, stand-le, TICKETS}
@@ -32,7 +31,7 @@ use Rattle.latch.specs.Moves.{Refuse, Act, Put, Wake}
 use Rattle.latch.specs.Queue.{Queue, phases, places, acted, placed, withParts, woken}
 use Rattle.latch.specs.Record.{freeSlot, phasesOf, writeSlot}
 use Rattle.latch.proofs.Laws.Slots.{write-phase}
-use Rattle.latched.proofs.Invariant.Weights.{cellSum, slotSum, sum}
+use Rattle.latched.proofs.Invariant.Weights.{sum}
 use Rattle.latched.proofs.Invariant.Keep.{Inv, ShiftIn, LocalIn, Beside, keep}
 
 -- Only an await begins something.

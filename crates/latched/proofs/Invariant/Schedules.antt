@@ -1,8 +1,8 @@
 -- The queue keeps its invariant, and the ledger of its answers agrees with it, on every schedule.
-use Prim.Native.Nat.{ℕ, zero, suc, _+_, _-_, _≤_, _<_}
+use Prim.Native.Nat.{ℕ, zero, suc, _-_, _≤_}
 use mathlib.Core.Path.{_≡_, refl, sym, ap, ap₂, subst, _∙_}
 use mathlib.Core.Bool.{Bool, true, false, cond}
-use mathlib.Core.List.{List, [], _∷_}
+use mathlib.Core.List.{List}
 use native.Mathlib.Omega.{arith}
 use borrow.Author.Tests.{ltb-true, ltb-false}
 use lib.Dec.{ltb}
@@ -28,11 +28,10 @@ use Rattle.hub.proofs.Invariant.Weights.{live, handing, cancelling, own, hand, 
 use Rattle.hub.proofs.Invariant.Weights.{permitCell, cancelledCell, refusedCell}
 use Rattle.hub.proofs.Invariant.Skipped.{skipped-shift}
 use Rattle.latch.specs.declared.moves.LatchCall.{LatchCall}
-use Rattle.latch.specs.declared.moves.LatchOp.{LatchOp}
 use Rattle.latch.specs.declared.record.LatchSlot.{LatchSlot}
 use Rattle.latch.specs.Calls.{answerOf, checked}
 use Rattle.latched.specs.Claims.{letsGo}
-use Rattle.latch.specs.Ledger.{Ledger, countIn, enter, isDown, opened, slotIn, slotsAfter, succeeded, waitersAfter}
+use Rattle.latch.specs.Ledger.{Ledger, countIn, enter, opened, slotIn, slotsAfter, succeeded, waitersAfter}
 use Rattle.latch.specs.Look.{seenBy}
 use Rattle.latch.specs.Moves.{Move}
 use Rattle.latch.specs.Moves.{Refuse, Act, Put, Wake}

@@ -2,7 +2,7 @@
 use Prim.Native.Nat.{ℕ, zero, suc, _+_, _-_, _*_, _≤_, _<_}
 use mathlib.Core.Path.{_≡_, refl, sym, ap, subst, _∙_}
 use mathlib.Core.Bool.{Bool, true, false, _&&_}
-use mathlib.Core.List.{List, [], _∷_}
+use mathlib.Core.List.{List}
 use mathlib.Core.Logic.{_≢_}
 use native.Mathlib.Omega.{arith}
 use borrow.Author.Tests.{leb-false, leb-true, eqb-true}
@@ -31,28 +31,25 @@ use Rattle.hub.proofs.Laws.Lists.{weight-add, weight-length, weight-scale}
 use Rattle.hub.proofs.Laws.Phases.{one-of}
 use Rattle.hub.proofs.Laws.Table.{can-cancel}
 use Rattle.hub.proofs.Invariant.Rows.{write-twice}
-use Rattle.hub.proofs.Invariant.Weights.{same, same-self, same-eq, lt, lt-no, lt-le, lt-suc, pick}
+use Rattle.hub.proofs.Invariant.Weights.{same, same-self, same-eq, lt-no, lt-le, lt-suc, pick}
 use Rattle.hub.proofs.Invariant.Weights.{resuming, suspending, live, own, hand, stand, stand-own}
 use Rattle.hub.proofs.Invariant.Weights.{stage, stage-waiting, drawing, permitCell, least, most, TICKETS}
 use Rattle.hub.proofs.Invariant.Weights.{stage-own, least-le}
-use Rattle.hub.proofs.Invariant.Tickets.{AtIn, Names, one-in, exact, hand-below, permit-below}
+use Rattle.hub.proofs.Invariant.Tickets.{AtIn, Names, one-in, exact, hand-below}
 use Rattle.hub.proofs.Invariant.Tickets.{near, party-in, inside, mine, here}
 use Rattle.latch.specs.declared.moves.LatchOp.{LatchOp}
 use Rattle.latch.specs.declared.moves.LatchOp.the-variants.{Await, Step, Cancel, CountDown}
-use Rattle.latch.specs.declared.moves.LatchSight.{LatchSight}
-use Rattle.latch.specs.declared.record.LatchFigures.{LatchFigures}
 use Rattle.latch.specs.declared.record.LatchSlot.{LatchSlot}
 use Rattle.latch.specs.Ledger.{slotAfter, slotIn, slotsAfter, waitersAfter}
 use Rattle.latch.specs.Look.{seenBy}
-use Rattle.latch.specs.Moves.{Move}
 use Rattle.latch.specs.Queue.{Queue, look, phases, places, withParts}
-use Rattle.latch.specs.Record.{carryOn, freeSlot, inPhase, readSlot, withLeft, withPhase, writeSlot}
-use Rattle.latch.specs.Table.{await, bringsToZero, cancel, countDown, decide, done, put, wake, step, stepIn}
+use Rattle.latch.specs.Record.{carryOn, freeSlot, inPhase, readSlot, withPhase, writeSlot}
+use Rattle.latch.specs.Table.{await, bringsToZero, cancel, countDown, decide, done, put, wake, stepIn}
 use Rattle.latch.specs.Table.{stepAcquiring, stepSuspending, stepTicketed, stepReleasing}
 use Rattle.latch.specs.Table.{stepResuming, resumeWaiter, stepResumingAt, stepAborting}
 use Rattle.latch.specs.Table.{stepCancelling, stepRefusing}
 use Rattle.latch.proofs.Laws.Slots.{read-phase}
-use Rattle.latched.proofs.Invariant.Weights.{asked, cellSum, due, due-done, due-open, dueAt, holding}
+use Rattle.latched.proofs.Invariant.Weights.{asked, cellSum, due-done, due-open, dueAt, holding}
 use Rattle.latched.proofs.Invariant.Weights.{left, not-done, one-cell, one-wait, slotSum, sum}
 use Rattle.latched.proofs.Invariant.Keep.{Inv, ShiftIn, keep, no-load, awaiting}
 use Rattle.latched.proofs.Invariant.Rows.{Good, set-in, shift-place, shift-phase}

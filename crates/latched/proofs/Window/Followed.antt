@@ -1,5 +1,5 @@
 -- Call by call: the latch does what the queue does, but for the awaits that it answers 7.
-use Prim.Native.Nat.{ℕ, _+_, _≤_, _<_}
+use Prim.Native.Nat.{ℕ, _+_, _≤_}
 use mathlib.Core.Path.{_≡_, refl, sym, ap, subst, _∙_}
 use mathlib.Core.Bool.{Bool, true, false}
 use mathlib.Core.List.{List}
@@ -23,7 +23,6 @@ use Rattle.latch.specs.declared.moves.LatchSight.{LatchSight}
 use Rattle.latch.specs.declared.record.Latch.{Latch}
 use Rattle.latch.specs.declared.record.LatchSlot.{LatchSlot}
 use Rattle.latch.specs.Calls.{isFull, checked, moveOf, answerOf, apply, tidied}
-use Rattle.latch.specs.Fits.{fits}
 use Rattle.latch.specs.Look.{look, seenBy}
 use Rattle.latch.specs.Moves.{Move}
 use Rattle.latch.specs.Moves.{Refuse, Act, Put, Wake}

@@ -1,7 +1,6 @@
 -- What is left of hand-overs picks the slot.
 use Prim.Native.Nat.{ℕ, zero, suc}
 use mathlib.Core.Path.{_≡_, refl}
-use native.Mathlib.Omega.{arith}
 use Rattle.hub.specs.declared.record.Phase.{Phase}
 use Rattle.latch.specs.declared.record.LatchSlot.{LatchSlot}
 use Rattle.latch.specs.Record.{carryOn, freeSlot, withLeft}

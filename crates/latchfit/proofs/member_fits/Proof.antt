@@ -1,7 +1,7 @@
 -- `member_fits` meets its contract: its tests are the clauses, in the same order.
 use borrow.Author.Needs.{needs}
-use mathlib.Core.Path.{_≡_, ap, _∙_}
-use mathlib.Core.Bool.{Bool, true, _&&_}
+use mathlib.Core.Path.{ap, _∙_}
+use mathlib.Core.Bool.{true, _&&_}
 use Rattle.hub.specs.declared.record.Figures.{Figures}
 use Rattle.hub.specs.Basics.{implies}
 use Rattle.hub.specs.Fits.{placeListed}

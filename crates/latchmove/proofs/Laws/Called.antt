@@ -1,6 +1,6 @@
 -- A whole call: what is refused before the table is asked, and what is decided, stored and tidied.
 use Prim.Native.Nat.{ℕ, _≤_}
-use mathlib.Core.Path.{_≡_, refl, sym, ap, ap₂, _∙_}
+use mathlib.Core.Path.{_≡_, sym, ap, ap₂, _∙_}
 use mathlib.Core.Bool.{Bool, true, false, _&&_}
 use native.Mathlib.Omega.{arith}
 use borrow.Author.Tests.{leb-true}
@@ -21,11 +21,10 @@ use Rattle.latch.specs.declared.record.LatchSlot.{LatchSlot}
 use Rattle.latch.specs.Calls.{answerOf, apply, called, checked, isFull}
 use Rattle.latch.specs.Fits.{fits, figuresClauses, figuresFit, partyFits, placeFits}
 use Rattle.latch.specs.Look.{look}
-use Rattle.latch.specs.Moves.{Move, Refuse}
+use Rattle.latch.specs.Moves.{Move}
 use Rattle.latch.specs.Table.{decide}
 use Rattle.latcheffect.specs.declared.effect.LatchEffect.{LatchEffect}
 use Rattle.latcheffect.specs.Effect.{effectBy, effectOf}
-use Rattle.latcheffect.specs.Small.{Small}
 use Rattle.latchmove.specs.Tidied.{tidiedBy}
 use Rattle.latchmove.proofs.Laws.Sight.{Reads, looked, sightOf}
 use Rattle.latchmove.proofs.Laws.Stored.{applied, stored, told}

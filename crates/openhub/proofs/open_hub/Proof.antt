@@ -1,6 +1,6 @@
 -- `open_hub` meets its contract: what an opening is answered says what it makes.
 use borrow.Author.Needs.{needs}
-use mathlib.Core.Path.{_≡_, sym, ap, _∙_, subst}
+use mathlib.Core.Path.{sym, ap, _∙_, subst}
 use Rattle.hub.specs.declared.answers.Answer.{Answer}
 use Rattle.hub.specs.declared.record.Hub.{Hub}
 use Rattle.hub.specs.declared.record.Outcome.{Outcome}

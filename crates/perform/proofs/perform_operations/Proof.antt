@@ -12,14 +12,12 @@ use lib.ListN.{length, getD, set, length-map}
 use Rattle.hub.specs.declared.answers.Answer.{Answer}
 use Rattle.hub.specs.declared.answers.Refusal.{Refusal}
 use Rattle.hub.specs.declared.moves.Call.{Call}
-use Rattle.hub.specs.declared.opening.Opening.{Opening}
-use Rattle.hub.specs.declared.record.Figures.{Figures}
 use Rattle.hub.specs.declared.record.Hub.{Hub}
 use Rattle.hub.specs.declared.record.PartySlot.{PartySlot}
 use Rattle.hub.specs.declared.record.Phase.{Phase}
 use Rattle.hub.specs.declared.record.PlaceSlot.{PlaceSlot}
 use Rattle.hub.specs.declared.record.Pool.{Pool}
-use Rattle.hub.specs.Calls.{ringOf, withRing}
+use Rattle.hub.specs.Calls.{withRing}
 use Rattle.hub.specs.Fits.{fits}
 use Rattle.hub.specs.Kinds.{kindIn}
 use Rattle.hub.specs.Record.{controlOf, emptySeat, ofFields, readSlot, withPhase, writeSlot}
@@ -32,7 +30,7 @@ use Rattle.transition.specs.Tidied.{tidiedBy}
 use Rattle.transition.proofs.Laws.Called.{Counted, counted}
 use Rattle.transition.proofs.Laws.Radios.{few-stored, with-radios, without-radios}
 use Rattle.transition.proofs.Laws.Stored.{nobody, still}
-use Rattle.tidystep.proofs.Laws.Tidying.{Tidying, ends, tidying, stepAt, steps-on}
+use Rattle.tidystep.proofs.Laws.Tidying.{Tidying, tidying-ends, tidying, stepAt, steps-on}
 use Rattle.plan.specs.declared.Plan.{Plan}
 use Rattle.plan.specs.declared.Seen.{Seen}
 use Rattle.plan.specs.Plan.{planOf}
@@ -500,7 +498,7 @@ unfolding writeSlot
 loop-again-2 c =
     let l = c .before in
     let s = settled l in
-    (one-more s _ (ap (withRing (untidied s)) (ends _ _ _ _ _ (l .loop2 .inv .0) (c .loop2-test .left))), still-32 s)
+    (one-more s _ (ap (withRing (untidied s)) (tidying-ends _ _ _ _ _ (l .loop2 .inv .0) (c .loop2-test .left))), still-32 s)
 
 same-length : At tie.Need-same-length
 same-length c = c .before .loop .inv .0 .length

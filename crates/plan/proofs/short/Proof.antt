@@ -1,5 +1,4 @@
 -- `short` meets its contract, by those of the steps and the slot.
-use mathlib.Core.Path.{_≡_}
 use borrow.Author.Needs.{needs}
 use Rattle.plan.proofs.short.Statement.{statement}
 use Rattle.plan.proofs.short.Tie as tie

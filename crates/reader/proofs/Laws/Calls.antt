@@ -13,7 +13,7 @@ use Rattle.line.specs.declared.request.Header.{Header}
 use Rattle.line.specs.Requests.{requestOf, headerOf}
 use Rattle.line.proofs.Laws.Lines.{NoFeed, call-feeds}
 use Rattle.reader.specs.declared.Reader.{Reader}
-use Rattle.reader.specs.Reading.{KEPT, headerBytes}
+use Rattle.reader.specs.Reading.{headerBytes}
 use Rattle.reader.proofs.Laws.Pieces.{Upto, kept, onward, line-room, line-end}
 
 -- A reader's buffer with the four characters of a line.

@@ -28,11 +28,11 @@ one-less : (k : ℕ) → 0 < k → k ≡ suc (k - 1)
 one-less k l = omega arith
 
 module _ (r : Ring) where
-  -- May it skip, with so many turns left?
-  abbrev pub maySkip : ℕ → Bool
-  maySkip k = ltb 0 k && canSkip r
+  -- Can it be skipped, with so many turns left?
+  abbrev canSkipIn : ℕ → Bool
+  canSkipIn k = ltb 0 k && canSkip r
 
-  skip-off : (k : ℕ) → maySkip k ≡ false → skip k r ≡ r
+  skip-off : (k : ℕ) → canSkipIn k ≡ false → skip k r ≡ r
   skip-off zero e = skip-none r
   skip-off (suc k) e =
       skip-no k r (ap (λ (b : Bool). b && canSkip r) (sym (lt-ltb 0 (suc k) (omega arith))) ∙ e)
@@ -47,12 +47,12 @@ stepAt r skips retires =
     tidyStep (readSeat (r .places) (r .resumed)) (readSeat (r .places) (r .oldest)) (r .resumed) (r .oldest) skips retires
 
 -- The ring that a turn leaves.
-abbrev pub afterStep : Ring → TidyStep → Ring
+abbrev afterStep : Ring → TidyStep → Ring
 afterStep r d =
     record { resumed = d .resumed; oldest = d .oldest; places = writeSeat (r .places) (d .ticket) (d .seat) }
 
 module _ (n : ℕ) (r₀ r : Ring) (skips retires : ℕ) (t : Tidying n r₀ r skips retires) where
-  skips-on : maySkip r skips ≡ true → Tidying n r₀ (skipped r) (skips - 1) retires
+  skips-on : canSkipIn r skips ≡ true → Tidying n r₀ (skipped r) (skips - 1) retires
   skips-on e =
       let some = ltb-true 0 skips (first (ltb 0 skips) (canSkip r) e) in
       record {
@@ -65,7 +65,7 @@ module _ (n : ℕ) (r₀ r : Ring) (skips retires : ℕ) (t : Tidying n r₀ r s
             ∙ t .same;
       }
 
-  module _ (e : maySkip r skips ≡ false) where
+  module _ (e : canSkipIn r skips ≡ false) where
     all-skipped : retire retires r ≡ reclaimedBy n r₀
     all-skipped = ap (retire retires) (sym (skip-off r skips e)) ∙ t .same
 
@@ -89,25 +89,25 @@ module _ (n : ℕ) (r₀ r : Ring) (skips retires : ℕ) (t : Tidying n r₀ r s
         }
 
   -- A turn leads on, and leaves less to do.
-  abbrev Leads : TidyStep → Type 0
-  Leads d = Tidying n r₀ (afterStep r d) (d .skips) (d .retires) × (d .skips + d .retires < skips + retires)
+  abbrev Onward : TidyStep → Type 0
+  Onward d = Tidying n r₀ (afterStep r d) (d .skips) (d .retires) × (d .skips + d .retires < skips + retires)
 
-  leads : 0 < retires → Leads (stepAt r skips retires)
+  is-onward : 0 < retires → Onward (stepAt r skips retires)
   unfolding tidyStep
-  leads l = go (maySkip r skips) refl (canRetire r) refl
+  is-onward l = go (canSkipIn r skips) refl (canRetire r) refl
     where
-      go : (a : Bool) → maySkip r skips ≡ a → (b : Bool) → canRetire r ≡ b → Leads (stepAt r skips retires)
+      go : (a : Bool) → canSkipIn r skips ≡ a → (b : Bool) → canRetire r ≡ b → Onward (stepAt r skips retires)
       go true ea b eb =
           let some = ltb-true 0 skips (first (ltb 0 skips) (canSkip r) ea) in
           rw ea (skips-on ea, omega arith)
       go false ea true eb = rw (ea, eb) (retires-on ea l eb, omega arith)
       go false ea false eb = rw (ea, eb, same-seat (r .places) (r .oldest)) (stops ea eb, omega arith)
 
-  pub steps-on : 0 < retires → (d : TidyStep) → d ≡ stepAt r skips retires → Leads d
-  steps-on l d e = subst Leads (sym e) (leads l)
+  pub steps-on : 0 < retires → (d : TidyStep) → d ≡ stepAt r skips retires → Onward d
+  steps-on l d e = subst Onward (sym e) (is-onward l)
 
-  pub ends : retires ≤ 0 → r ≡ reclaimedBy n r₀
-  ends l =
+  pub tidying-ends : retires ≤ 0 → r ≡ reclaimedBy n r₀
+  tidying-ends l =
       sym (skip-none r)
       ∙ sym (retire-none (skip 0 r))
       ∙ (λ j. retire (none retires l j) (skip (none skips (omega (arith, t .few)) j) r))

@@ -4,20 +4,20 @@ use borrow.Author.Tests.{ltb-true}
 use mathlib.Core.Path.{_≡_, sym, ap, _∙_}
 use mathlib.Core.Bool.{true, false, _&&_}
 use native.Mathlib.Omega.{arith}
-use Prim.Native.Nat.{ℕ, _+_, _<_}
+use Prim.Native.Nat.{_+_, _<_}
 use lib.Dec.{ltb}
 use Rattle.hub.specs.declared.record.PlaceSlot.{PlaceSlot}
 use Rattle.hub.specs.Phases.{isCancelled}
 use Rattle.hub.specs.Ring.{PLACES}
 use Rattle.hub.proofs.Laws.Bools.{first, second, if-true, if-false}
 use Rattle.tidystep.specs.declared.TidyStep.{TidyStep}
-use Rattle.tidystep.specs.Step.{tidyStep, skipping, retiring}
+use Rattle.tidystep.specs.Step.{maySkip, retireTurn, skipTurn, tidyStep}
 use Rattle.tidystep.proofs.tidy_step.Statement.{statement}
 use Rattle.tidystep.proofs.tidy_step.Tie as tie
 
 -- A turn in which another place is stored.
-abbrev storing : TidyStep → PlaceSlot → TidyStep
-storing d seat =
+abbrev with-seat : TidyStep → PlaceSlot → TidyStep
+with-seat d seat =
     record {
       ticket = d .ticket;
       seat = seat;
@@ -29,13 +29,11 @@ storing d seat =
 
 -- It may skip, or not.
 skips : (c : tie.Then1)
-    → let a = c .before .before .args in
-    (ltb 0 (a .skips) && (ltb (a .resumed) (a .oldest + PLACES) && isCancelled (a .ahead .place))) ≡ true
+    → let a = c .before .before .args in maySkip (a .skips) (a .ahead) (a .resumed) (a .oldest) ≡ true
 skips c = sym (c .before .may-skip .ensures) ∙ c .if1 .taken
 
 stays : (c : tie.Else1)
-    → let a = c .before .before .args in
-    (ltb 0 (a .skips) && (ltb (a .resumed) (a .oldest + PLACES) && isCancelled (a .ahead .place))) ≡ false
+    → let a = c .before .before .args in maySkip (a .skips) (a .ahead) (a .resumed) (a .oldest) ≡ false
 stays c = sym (c .before .may-skip .ensures) ∙ c .if1 .left
 
 some : (c : tie.Then1) → 0 < c .before .before .args .skips
@@ -44,10 +42,10 @@ some c =
     ltb-true 0 (a .skips)
     (first (ltb 0 (a .skips)) (ltb (a .resumed) (a .oldest + PLACES) && isCancelled (a .ahead .place)) (skips c))
 
-in-window : (c : tie.Then1)
+has-place : (c : tie.Then1)
     → let a = c .before .before .args in
     a .resumed < a .oldest + PLACES
-in-window c =
+has-place c =
     let a = c .before .before .args in
     let cancelled = isCancelled (a .ahead .place) in
     let window = ltb (a .resumed) (a .oldest + PLACES) in
@@ -58,7 +56,7 @@ may-skip-requires : tie.Need-may-skip-requires
 may-skip-requires c κs = search needs
 
 add-next : tie.Need-add-next
-add-next c = omega (arith, in-window c)
+add-next c = omega (arith, has-place c)
 
 sub-fewer : tie.Need-sub-fewer
 sub-fewer c = omega (arith, some c)
@@ -71,7 +69,7 @@ unfolding tidyStep
 returns c =
     let t = c .before in
     let a = t .before .before .args in
-    ap (storing (skipping (a .ahead) (a .resumed) (a .oldest) (a .skips) (a .retires))) (c .with-place .ensures)
+    ap (with-seat (skipTurn (a .ahead) (a .resumed) (a .oldest) (a .skips) (a .retires))) (c .with-place .ensures)
     ∙ sym (if-true _ _ _ (skips t))
 
 can-retire-requires : tie.Need-can-retire-requires
@@ -91,7 +89,7 @@ unfolding tidyStep
 returns-2 c =
     let t = c .before in
     let a = t .before .before .before .before .args in
-    ap (storing (retiring (a .resumed) (a .oldest) (a .retires))) (c .empty-seat .ensures)
+    ap (with-seat (retireTurn (a .resumed) (a .oldest) (a .retires))) (c .empty-seat .ensures)
     ∙ sym (if-true _ _ _ (sym (t .before .can-retire .ensures) ∙ t .if2 .taken))
     ∙ sym (if-false _ _ _ (stays (t .before .before)))
 

@@ -1,6 +1,6 @@
 -- `operate` meets its contract: the call, and then the walk of its party, if the call is not refused.
 use borrow.Author.Needs.{needs}
-use mathlib.Core.Path.{_≡_, sym, ap, _∙_}
+use mathlib.Core.Path.{sym, ap, _∙_}
 use Prim.Native.Nat.{ℕ}
 use Rattle.torest.proofs.Laws.{firstOf, operated-refused, operated-walked, with-printed}
 use Rattle.torest.proofs.operate.Statement.{statement}

@@ -1,6 +1,6 @@
 -- `rests` meets its contract: a slot that there is says its phase, and one past the 32 is free.
 use borrow.Author.Needs.{needs}
-use mathlib.Core.Path.{_≡_, refl}
+use mathlib.Core.Path.{_≡_}
 use lib.ListN.{length}
 use Rattle.hub.specs.Record.{readSlot}
 use Rattle.hub.proofs.Laws.Lists.{mapped-size}

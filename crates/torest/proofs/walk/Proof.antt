@@ -1,8 +1,8 @@
 -- `walk` meets its contract: its turns are the steps of the definition.
 use borrow.Author.Needs.{needs}
 use native.Mathlib.Omega.{arith}
-use mathlib.Core.Path.{_≡_, sym, ap, _∙_}
-use Prim.Native.Nat.{ℕ, _+_, _-_}
+use mathlib.Core.Path.{sym, ap, _∙_}
+use Prim.Native.Nat.{ℕ, _-_}
 use Rattle.torest.proofs.Laws.{Walking, begin, go-on, at-rest, all-made, firstOf}
 use Rattle.torest.proofs.walk.Statement.{statement}
 use Rattle.torest.proofs.walk.Tie as tie

@@ -1,5 +1,4 @@
 -- `mark_of` meets its contract: its arms are the phases with a mark, and those without.
-use borrow.Author.Needs.{needs}
 use mathlib.Core.Path.{refl}
 use mathlib.Core.List.{[], _∷_}
 use Rattle.hub.specs.Phases.{isOneOf}

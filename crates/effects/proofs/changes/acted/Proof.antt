@@ -1,6 +1,5 @@
 -- `acted` meets its contract, by that of the slot.
 use borrow.Author.Needs.{needs}
-use mathlib.Core.Path.{_≡_}
 use Rattle.effects.proofs.changes.acted.Statement.{statement}
 use Rattle.effects.proofs.changes.acted.Tie as tie
 

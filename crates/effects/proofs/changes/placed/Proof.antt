@@ -1,6 +1,5 @@
 -- `placed` meets its contract, by those of the slot and of the place.
 use borrow.Author.Needs.{needs}
-use mathlib.Core.Path.{_≡_}
 use Rattle.effects.proofs.changes.placed.Statement.{statement}
 use Rattle.effects.proofs.changes.placed.Tie as tie
 

@@ -1,6 +1,5 @@
 -- `placed` meets its contract, by that of the place.
 use borrow.Author.Needs.{needs}
-use mathlib.Core.Path.{_≡_}
 use Rattle.latcheffect.proofs.changes.placed.Statement.{statement}
 use Rattle.latcheffect.proofs.changes.placed.Tie as tie
 

@@ -1,6 +1,6 @@
 -- `by_ticket` meets its contract: its test is whether the phase has a ticket.
 use borrow.Author.Needs.{needs}
-use mathlib.Core.Path.{refl, sym, ap, _∙_}
+use mathlib.Core.Path.{sym, ap, _∙_}
 use mathlib.Core.Bool.{Bool, cond}
 use Rattle.hub.proofs.Laws.Phases.{by-ticket}
 use Rattle.latchmove.proofs.sight.by_ticket.Statement.{statement}

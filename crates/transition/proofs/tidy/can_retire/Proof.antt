@@ -1,6 +1,5 @@
 -- `can_retire` meets its contract: the rank tells the state.
 use borrow.Author.Needs.{needs}
-use mathlib.Core.Path.{_≡_, sym, ap, _∙_}
 use Rattle.hub.specs.Phases.{isPlaceOf}
 use Rattle.transition.proofs.Laws.Tests.{is-one}
 use Rattle.transition.proofs.tidy.can_retire.Statement.{statement}

@@ -1,6 +1,5 @@
 -- `can_skip` meets its contract: its two tests are those of the definition.
 use borrow.Author.Needs.{needs}
-use mathlib.Core.Path.{_≡_, sym, ap, _∙_}
 use Rattle.hub.specs.Phases.{isPlaceOf}
 use Rattle.transition.proofs.Laws.Tests.{is-one}
 use borrow.Author.Tests.{lt-ltb, le-ltb}
