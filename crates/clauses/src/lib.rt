@@ -7,6 +7,7 @@ use hub::record::Phase;
 use hub::record::Place;
 use openhub::kinds_fit;
 use openhub::up_to_32;
+use phases::of_radios;
 use phases::ticket;
 ghost use mathlib.Core.Path.{_≡_};
 ghost use mathlib.Core.Bool.{_&&_};
@@ -115,14 +116,14 @@ fn listed(phase: Phase, place: Place) -> bool
     }
 }
 
-// Two phases are of a hub with radios alone.
+// Some phases are of a hub with radios alone.
 fn phase_fits(phase: Phase, named: bool) -> bool
     ensures { λ r. ⌜ r ≡ implies (ofRadios phase) named ⌝ }
 {
-    match phase {
-        Phase::Fetching | Phase::Storing => named,
-        _ => true,
+    if of_radios(phase) {
+        return named;
     }
+    true
 }
 
 // The clauses of one of the n parties, over its phase and what lies at the place of its ticket.

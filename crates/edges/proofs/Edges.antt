@@ -6,7 +6,7 @@ use Rattle.hub.specs.Record.{readSlot, writeSlot}
 use Rattle.hub.specs.Ring.{readSeat, writeSeat, skip, retire}
 use Rattle.hub.specs.Phases.{isOneOf, isPlaceOf}
 use Rattle.hub.specs.Look.{seenBy}
-use Rattle.hub.specs.Table.{acquire, cancel, givenUp, release, decide, stepIn, stepAcquiring}
+use Rattle.hub.specs.Table.{acquire, cancel, givenUp, release, decide, rowIn, stepAcquiring}
 use Rattle.hub.specs.Table.{stepSuspending, stepTicketed, stepReleasing, stepResuming}
 use Rattle.hub.specs.Table.{resumeWaiter, stepResumingAt, stepAborting, stepCancelling}
 use Rattle.hub.specs.Table.{stepRefusing, stepFetching, stepStoring, tellRadio}
@@ -21,7 +21,7 @@ use Rattle.edges.specs.Edges.{EdgesHold, edges, goes, holdsAt, allHold}
 pub edges-hold : EdgesHold
 unfolding EdgesHold edges goes holdsAt allHold checked apply tidied fresh openingIf
     seenBy counterFits figuresFit inWindow ticketFits placeListed partyFits placeFits kindsFit stateFits fits skip retire
-    acquire cancel givenUp release decide stepIn stepAcquiring stepSuspending stepTicketed stepReleasing
+    acquire cancel givenUp release decide rowIn stepAcquiring stepSuspending stepTicketed stepReleasing
     stepResuming resumeWaiter stepResumingAt stepAborting stepCancelling stepRefusing
     stepFetching stepStoring tellRadio
     differ handOf laidAt moved poolAfter radiosIn radiosOf rearranged ringFrom shown padded radiosDiffer

@@ -26,7 +26,7 @@ use Rattle.hub.specs.Radios.{occurs, radiosOf}
 use Rattle.hub.specs.RadiosKept.{RadiosKept, RadioComes}
 use Rattle.hub.specs.Record.{phasesOf, readSlot}
 use Rattle.hub.specs.Schedule.{run}
-use Rattle.hub.specs.Table.{decide, stepIn, stepFetching}
+use Rattle.hub.specs.Table.{decide, rowIn, stepIn, stepFetching}
 use Rattle.hub.proofs.Laws.Lists.{weight-add, weight-le}
 use Rattle.hub.proofs.Laws.Opening.{run-opening}
 use Rattle.hub.proofs.Laws.Phases.{every-phase}
@@ -118,7 +118,7 @@ module _ (k : ℕ) (h : Hub) (m : Queue) (r : Reached k h m) (p : ℕ)
       )
 
   comes : 1 ≤ k → k ≤ 32 → called h (record { op = Op.Step; party = p }) .answer ≡ Answer.Fetched
-  unfolding checked decide stepIn stepFetching seenBy
+  unfolding checked decide rowIn stepFetching seenBy
   comes a b =
       ap₂ (λ (x y : Bool). answerOf (checked x y (decide Op.Step full (look h p))))
       (reached-fits k h m r a b) (lt-ltb p (h .control .opening .parties) present)

@@ -1,7 +1,7 @@
 -- "Four calls", and call 14: what each does, decided from what it looks at.
 use Prim.Native.Nat.{ℕ, suc, zero, _+_}
 use mathlib.Core.Bool.{Bool, true, false, cond, _&&_}
-use mathlib.Core.List.{[], _∷_}
+use mathlib.Core.List.{List, [], _∷_}
 use lib.Dec.{leb, eqb}
 use lib.IntN.{ℤ, pos, negsuc, sucℤ, predℤ}
 use Rattle.hub.specs.declared.answers.Answer.{Answer}
@@ -134,13 +134,13 @@ resumeWaiter true q t s = wake q t s
 resumeWaiter false q t s = put Permit Free (Delegated t) s
 
 -- handing: the waiter is still to come, 29; the wait was cancelled, 2C; it was refused, 2D
-unfoldable pub stepResumingAt : ℕ → Place → Sight → Move
-stepResumingAt t Empty s = put Permit Free (LeftPermit t) s
-stepResumingAt t (WaitedBy q) s = resumeWaiter (isWaiting (s .waiter .phase)) q t s
-stepResumingAt t Cancelled s = put Done Resuming (Skipped t) s
-stepResumingAt t Refused s = put Done Free (ResumeRefused t) s
-stepResumingAt t Permit s = Refuse Unfit
-stepResumingAt t Done s = Refuse Unfit
+unfoldable pub stepResumingAt : ℕ → Bool → Place → Sight → Move
+stepResumingAt t b Empty s = put Permit Free (LeftPermit t) s
+stepResumingAt t b (WaitedBy q) s = resumeWaiter b q t s
+stepResumingAt t b Cancelled s = put Done Resuming (Skipped t) s
+stepResumingAt t b Refused s = put Done Free (ResumeRefused t) s
+stepResumingAt t b Permit s = Refuse Unfit
+stepResumingAt t b Done s = Refuse Unfit
 
 -- giving up: was the counter below 0? 2E, 2F
 unfoldable pub stepAborting : ℕ → Bool → Sight → Move
@@ -174,25 +174,46 @@ stepFetching false s = Tell NotYet
 unfoldable pub stepStoring : Sight → Move
 stepStoring s = turn Free Stored s
 
+-- What the rows ask of what a call sees, besides the phase.
+pub record Tests : Type 0 where
+  pub above : Bool  -- is the counter above 0?
+  pub below : Bool  -- is it below 0?
+  pub stocked : Bool  -- is a radio stored?
+  pub place : Place  -- what lies at the place of the ticket
+  pub waits : Bool  -- if a party waits there: is its phase waiting?
+
+abbrev pub testsOf : Sight → Tests
+testsOf s =
+    record {
+      above = aboveZero (s .figures .counter);
+      below = belowZero (s .figures .counter);
+      stocked = s .stocked;
+      place = s .seat .place;
+      waits = isWaiting (s .waiter .phase);
+    }
+
 -- at rest: 8
-unfoldable pub stepIn : Phase → Sight → Move
-stepIn Free s = Refuse AtRest
-stepIn Holding s = Refuse AtRest
-stepIn (Waiting t) s = Refuse AtRest
-stepIn Acquiring s = stepAcquiring Suspending (aboveZero (s .figures .counter)) s
-stepIn Suspending s = stepSuspending Ticketed s
-stepIn (Ticketed t) s = stepTicketed (Waiting t) t (s .seat .place) s
-stepIn (Aborting t) s = stepAborting t (belowZero (s .figures .counter)) s
-stepIn (Cancelling t) s = stepCancelling t (s .seat .place) s
-stepIn (Refusing t) s = stepRefusing t (s .seat .place) s
-stepIn Releasing s = stepReleasing (belowZero (s .figures .counter)) s
-stepIn Resuming s = stepResuming s
-stepIn (ResumingAt t) s = stepResumingAt t (s .seat .place) s
-stepIn Fetching s = stepFetching (s .stocked) s
-stepIn Storing s = stepStoring s
-stepIn AcquiringMarked s = stepAcquiring SuspendingMarked (aboveZero (s .figures .counter)) s
-stepIn SuspendingMarked s = stepSuspending TicketedMarked s
-stepIn (TicketedMarked t) s = stepTicketed (Aborting t) t (s .seat .place) s
+unfoldable pub rowIn : Phase → Tests → Sight → Move
+rowIn Free v s = Refuse AtRest
+rowIn Holding v s = Refuse AtRest
+rowIn (Waiting t) v s = Refuse AtRest
+rowIn Acquiring v s = stepAcquiring Suspending (v .above) s
+rowIn Suspending v s = stepSuspending Ticketed s
+rowIn (Ticketed t) v s = stepTicketed (Waiting t) t (v .place) s
+rowIn (Aborting t) v s = stepAborting t (v .below) s
+rowIn (Cancelling t) v s = stepCancelling t (v .place) s
+rowIn (Refusing t) v s = stepRefusing t (v .place) s
+rowIn Releasing v s = stepReleasing (v .below) s
+rowIn Resuming v s = stepResuming s
+rowIn (ResumingAt t) v s = stepResumingAt t (v .waits) (v .place) s
+rowIn Fetching v s = stepFetching (v .stocked) s
+rowIn Storing v s = stepStoring s
+rowIn AcquiringMarked v s = stepAcquiring SuspendingMarked (v .above) s
+rowIn SuspendingMarked v s = stepSuspending TicketedMarked s
+rowIn (TicketedMarked t) v s = stepTicketed (Aborting t) t (v .place) s
+
+abbrev pub stepIn : Phase → Sight → Move
+stepIn f s = rowIn f (testsOf s) s
 
 abbrev pub step : Sight → Move
 step s = stepIn (s .slot .phase) s
@@ -206,8 +227,11 @@ acquire true false false s =
     Act (change Acquiring (withBegun (s .figures .begun + 1) (s .figures)) Accepted s)
 
 -- Can a party of this phase give up: waiting, or on its way there and without a mark?
+abbrev pub CAN-CANCEL : List Phase
+CAN-CANCEL = Waiting 0 ∷ Acquiring ∷ Suspending ∷ Ticketed 0 ∷ []
+
 abbrev pub canCancel : Phase → Bool
-canCancel = isOneOf (Waiting 0 ∷ Acquiring ∷ Suspending ∷ Ticketed 0 ∷ [])
+canCancel = isOneOf CAN-CANCEL
 
 -- The phase that a give-up leads to: a wait is given up, and before it the give-up is remembered by a mark.
 unfoldable pub givenUp : Phase → Phase

@@ -1,6 +1,7 @@
 -- The calls of a latch: what each does, decided from what it looks at.
 use Prim.Native.Nat.{ℕ, _+_, _-_}
-use mathlib.Core.Bool.{Bool, true, false, _&&_}
+use mathlib.Core.Bool.{Bool, true, false, cond, _&&_}
+use mathlib.Core.List.{List, [], _∷_}
 use lib.Dec.{leb, eqb}
 use Rattle.hub.specs.declared.answers.Answer.{Answer}
 use Rattle.hub.specs.declared.answers.Answer.the-variants.{Accepted, Acquired, MustWait}
@@ -13,15 +14,15 @@ use Rattle.hub.specs.declared.answers.Answer.the-variants.{MarkedRefused, Dropp
 use Rattle.hub.specs.declared.answers.Refusal.the-variants.{Unfit, NotFree, Exhausted, Full}
 use Rattle.hub.specs.declared.answers.Refusal.the-variants.{AtRest, NotWaiting, NotCancellable}
 use Rattle.hub.specs.declared.record.Phase.{Phase}
-use Rattle.hub.specs.declared.record.Phase.the-variants.{Free, Holding, Waiting, Acquiring}
+use Rattle.hub.specs.declared.record.Phase.the-variants.{Free, Waiting, Acquiring}
 use Rattle.hub.specs.declared.record.Phase.the-variants.{Suspending, Ticketed, Aborting}
 use Rattle.hub.specs.declared.record.Phase.the-variants.{Cancelling, Refusing, Releasing}
-use Rattle.hub.specs.declared.record.Phase.the-variants.{Resuming, ResumingAt, Fetching, Storing}
+use Rattle.hub.specs.declared.record.Phase.the-variants.{Resuming, ResumingAt}
 use Rattle.hub.specs.declared.record.Phase.the-variants.{AcquiringMarked, SuspendingMarked, TicketedMarked}
 use Rattle.hub.specs.declared.record.Place.{Place}
 use Rattle.hub.specs.declared.record.Place.the-variants.{Empty, Waiting as WaitedBy, Permit}
 use Rattle.hub.specs.declared.record.Place.the-variants.{Cancelled, Refused, Done}
-use Rattle.hub.specs.Phases.{isFree, isWaiting}
+use Rattle.hub.specs.Phases.{isFree, isOneOf, isWaiting, ticketOf}
 use Rattle.hub.specs.Record.{MAX-BEGUN, withPlace}
 use Rattle.hub.specs.Table.{canCancel, givenUp}
 use Rattle.latch.specs.declared.moves.LatchOp.{LatchOp}
@@ -191,26 +192,33 @@ stepRefusing t Cancelled s = Refuse Unfit
 stepRefusing t Refused s = Refuse Unfit
 stepRefusing t Done s = Refuse Unfit
 
--- at rest: 8. The last three phases of the hub do not fit here.
+-- The rows, each told the ticket of its phase. At rest: 8.
+abbrev pub rows : LatchSight → List (Phase × (ℕ → Move))
+rows s =
+    (Free, λ t. Refuse AtRest)
+    ∷ (Waiting 0, λ t. Refuse AtRest)
+    ∷ (Acquiring, λ t. stepAcquiring Acquiring Suspending (done (s .figures)) (s .slot .raising) s)
+    ∷ (Suspending, λ t. stepSuspending Ticketed s)
+    ∷ (Ticketed 0, λ t. stepTicketed (Waiting t) t (s .seat .place) s)
+    ∷ (Aborting 0, λ t. stepAborting t (done (s .figures)) s)
+    ∷ (Cancelling 0, λ t. stepCancelling t (s .seat .place) s)
+    ∷ (Refusing 0, λ t. stepRefusing t (s .seat .place) s)
+    ∷ (Releasing, λ t. stepReleasing (bringsToZero (s .figures)) s)
+    ∷ (Resuming, λ t. stepResuming s)
+    ∷ (ResumingAt 0, λ t. stepResumingAt t (s .seat .place) s)
+    ∷ (AcquiringMarked, λ t. stepAcquiring AcquiringMarked SuspendingMarked (done (s .figures)) (s .slot .raising) s)
+    ∷ (SuspendingMarked, λ t. stepSuspending TicketedMarked s)
+    ∷ (TicketedMarked 0, λ t. stepTicketed (Aborting t) t (s .seat .place) s)
+    ∷ []
+
+-- The row of a phase. The hub's other phases have none: they do not fit here.
+abbrev pub rowFor : Phase → List (Phase × (ℕ → Move)) → Move
+rowFor f [] = Refuse Unfit
+rowFor f (r ∷ l) = cond (isOneOf (r .0 ∷ []) f) (r .1 (ticketOf f)) (rowFor f l)
+
 unfoldable pub stepIn : Phase → LatchSight → Move
-stepIn Free s = Refuse AtRest
-stepIn (Waiting t) s = Refuse AtRest
-stepIn Acquiring s = stepAcquiring Acquiring Suspending (done (s .figures)) (s .slot .raising) s
-stepIn Suspending s = stepSuspending Ticketed s
-stepIn (Ticketed t) s = stepTicketed (Waiting t) t (s .seat .place) s
-stepIn (Aborting t) s = stepAborting t (done (s .figures)) s
-stepIn (Cancelling t) s = stepCancelling t (s .seat .place) s
-stepIn (Refusing t) s = stepRefusing t (s .seat .place) s
-stepIn Releasing s = stepReleasing (bringsToZero (s .figures)) s
-stepIn Resuming s = stepResuming s
-stepIn (ResumingAt t) s = stepResumingAt t (s .seat .place) s
-stepIn AcquiringMarked s =
-    stepAcquiring AcquiringMarked SuspendingMarked (done (s .figures)) (s .slot .raising) s
-stepIn SuspendingMarked s = stepSuspending TicketedMarked s
-stepIn (TicketedMarked t) s = stepTicketed (Aborting t) t (s .seat .place) s
-stepIn Holding s = Refuse Unfit
-stepIn Fetching s = Refuse Unfit
-stepIn Storing s = Refuse Unfit
+unfolding isOneOf
+stepIn f s = rowFor f (rows s)
 
 abbrev pub step : LatchSight → Move
 step s = stepIn (s .slot .phase) s

@@ -11,13 +11,15 @@ use latch::record::Latch;
 use latch::record::LatchFigures;
 use latch::record::LatchSlot;
 use openhub::up_to_32;
+use phases::of_radios;
 use phases::ticket;
 ghost use mathlib.Core.Path.{_≡_};
 ghost use mathlib.Core.Bool.{_&&_};
 ghost use Prim.Native.Nat.{_≤_};
 ghost use Rattle.hub.specs.Basics.{upTo32};
 ghost use Rattle.hub.specs.Fits.{placeListed};
-ghost use Rattle.latch.specs.Fits.{figuresFit, slotFits, ticketFits};
+ghost use Rattle.hub.specs.Phases.{isOneOf};
+ghost use Rattle.latch.specs.Fits.{HUB-ONLY, figuresFit, slotFits, ticketFits};
 ghost use Rattle.latchfit.specs.Tickets.{ticketsOf};
 
 // n, the figures and the oldest ticket that has a place, clause by clause.
@@ -63,13 +65,25 @@ fn left_fits(left: u32) -> bool
     left <= 32
 }
 
-// Nobody holds, or has a radio; whoever carries or hands has 1 to 32 hand-overs left.
+// Is it a phase that no party of a latch has: holding, or one of radios?
+fn hub_only(phase: Phase) -> bool
+    ensures { λ r. ⌜ r ≡ isOneOf HUB-ONLY phase ⌝ }
+{
+    let Phase::Holding = phase else {
+        return of_radios(phase);
+    };
+    true
+}
+
+// Whoever carries or hands has 1 to 32 hand-overs left.
 fn slot_fits(slot: LatchSlot) -> bool
     ensures { λ r. ⌜ r ≡ slotFits slot ⌝ }
 {
     let phase = slot.phase;
+    if hub_only(phase) {
+        return false;
+    }
     match phase {
-        Phase::Holding | Phase::Fetching | Phase::Storing => false,
         Phase::Resuming | Phase::ResumingAt(_) => left_fits(slot.left),
         _ => true,
     }

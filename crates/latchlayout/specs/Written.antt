@@ -23,11 +23,11 @@ figureBytes h =
     ++ fourOf (h .figures .begun)
     ++ fourOf (h .oldest)
 
--- Asked is raising, 14, where more is said beside it. The two phases of radios are written as holding, which fits no
--- more than they do.
+-- The phases of radios are written as holding, which fits no more than they do. Asked is raising, 14, where more is
+-- said beside it.
 abbrev pub nameOf : Phase → Bool → ℕ
 nameOf f raising =
-    cond (isOneOf (Acquiring ∷ AcquiringMarked ∷ []) f) (cond raising 14 3) (cond (ofRadios f) 1 (phaseName f))
+    cond (ofRadios f) 1 (cond (isOneOf (Acquiring ∷ AcquiringMarked ∷ []) f) (cond raising 14 3) (phaseName f))
 
 -- The parties: 32 times a phase and a ticket; apart from them the hand-overs left, which count where a party carries
 -- or hands, and the marks.

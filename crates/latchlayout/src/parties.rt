@@ -10,6 +10,7 @@ use cells::phase::phase_named;
 use hub::record::Phase;
 use latch::opening::free_slot;
 use latch::record::LatchSlot;
+use phases::of_radios;
 use phases::ticket;
 ghost use Prim.Native.Nat.{_<_, _%_};
 ghost use mathlib.Core.Bool.{cond};
@@ -57,13 +58,15 @@ fn asked_name(raising: bool) -> u8
     3
 }
 
-// The two phases of radios are written as holding, which fits no more than they do.
+// The phases of radios are written as holding, which fits no more than they do.
 fn name_of(phase: Phase, raising: bool) -> u8
     ensures { λ r. ⌜ r ≡ nameOf phase raising ⌝ }
 {
+    if of_radios(phase) {
+        return 1;
+    }
     match phase {
         Phase::Acquiring | Phase::AcquiringMarked => asked_name(raising),
-        Phase::Fetching | Phase::Storing => 1,
         _ => phase_name(phase),
     }
 }

@@ -29,7 +29,7 @@ use Rattle.hub.specs.Fits.{fits}
 use Rattle.hub.specs.Ledger.{phaseIn}
 use Rattle.hub.specs.Moves.{Move, Refuse, Tell, Act, Put, Wake}
 use Rattle.hub.specs.Opening.{fresh, opening}
-use Rattle.hub.specs.Phases.{atRest, hasRadio, isCancelled, isDone, isHolding, isOneOf, isPlaceOf, isWaiting, ticketOf}
+use Rattle.hub.specs.Phases.{RESTING, atRest, hasRadio, isCancelled, isDone, isHolding, isOneOf, isPlaceOf, isWaiting, ticketOf}
 use Rattle.hub.specs.Queue.{Queue, phases, places}
 use Rattle.hub.specs.Record.{phasesOf, placesOf, readSlot}
 use Rattle.hub.specs.Ring.{PLACES, readPlace, writeSeat}
@@ -44,7 +44,7 @@ use Rattle.hub.proofs.Invariant.Weights.{own, permitCell, pick, refusedCell, re
 use Rattle.hub.proofs.Invariant.Weights.{same-eq, same-self, served, spent, stage, stage-own, stand-own}
 use Rattle.hub.proofs.Invariant.Weights.{TICKETS, cellSum, sum, suspending, up}
 use Rattle.hub.proofs.Laws.Lists.{weight-le, weight-one, weight-scale}
-use Rattle.hub.proofs.Laws.Phases.{by-ticket, one-or, ticketed, waiterOf}
+use Rattle.hub.proofs.Laws.Phases.{by-ticket, each-of, ticketed, waiterOf}
 use Rattle.hub.proofs.Laws.Seats.{fresh-seat, read-mapped, written-size}
 use Rattle.hub.proofs.Window.Tracked.{has-place, high, low}
 use Rattle.hub.proofs.Window.Shown.{Reached, tracked, read-same}
@@ -113,36 +113,10 @@ module _ {A : Type 0} (f : A → ℕ) (d : A) where
       let w : ⊥ = omega (arith, weight-one f d z l i) in absurd w
   weight-only z (x ∷ l) (suc i) (suc j) s a b = ap suc (weight-only z l i j (omega arith) a b)
 
--- The three phases at rest.
-pub rest-cases : (f : Phase) → atRest f ≡ true
-    → (f ≡ Free) ⊎ ((f ≡ Holding) ⊎ (f ≡ Waiting (ticketOf f)))
-unfolding isOneOf
-rest-cases f e = free (one-or Free (Holding ∷ Waiting 0 ∷ []) f e)
-  where
-    waiting : (f ≡ Waiting (ticketOf f)) ⊎ (isOneOf [] f ≡ true)
-        → (f ≡ Free) ⊎ ((f ≡ Holding) ⊎ (f ≡ Waiting (ticketOf f)))
-    waiting (inl z) = inr (inr z)
-    waiting (inr z) = let y : _≡_ {A = ℕ} 0 1 = cc in let w : ⊥ = omega arith in absurd w
-
-    holds : (f ≡ Holding) ⊎ (isOneOf (Waiting 0 ∷ []) f ≡ true)
-        → (f ≡ Free) ⊎ ((f ≡ Holding) ⊎ (f ≡ Waiting (ticketOf f)))
-    holds (inl z) = inr (inl z)
-    holds (inr z) = waiting (one-or (Waiting 0) [] f z)
-
-    free : (f ≡ Free) ⊎ (isOneOf (Holding ∷ Waiting 0 ∷ []) f ≡ true)
-        → (f ≡ Free) ⊎ ((f ≡ Holding) ⊎ (f ≡ Waiting (ticketOf f)))
-    free (inl z) = inl z
-    free (inr z) = holds (one-or Holding (Waiting 0 ∷ []) f z)
-
--- What holds of each of them.
+-- What holds of each of the three phases at rest.
 pub resting : (P : Phase → Type 0) → P Free → P Holding → ((t : ℕ) → P (Waiting t))
     → (f : Phase) → atRest f ≡ true → P f
-resting P a b c f e = go (rest-cases f e)
-  where
-    go : (f ≡ Free) ⊎ ((f ≡ Holding) ⊎ (f ≡ Waiting (ticketOf f))) → P f
-    go (inl z) = subst P (sym z) a
-    go (inr (inl z)) = subst P (sym z) b
-    go (inr (inr z)) = subst P (sym z) (c (ticketOf f))
+resting P a b c = each-of P RESTING (λ t. (a, (b, (c t, tt))))
 
 -- Whoever owns a ticket and is at rest waits with it.
 owner-waits : (t : ℕ) (f : Phase) → atRest f ≡ true → 1 ≤ own t f → f ≡ Waiting t

@@ -31,7 +31,7 @@ use Rattle.hub.specs.Radios.{handOf, handTo, moved, poolAfter}
 use Rattle.hub.specs.Record.{emptySeat, freeSlot, readSlot, withFigures, withParts, withPhase, withPlace, withPool, writeSlot}
 use Rattle.hub.specs.Ring.{PLACES, Ring, readPlace, readSeat, writeSeat}
 use Rattle.hub.specs.Table.{aboveZero, belowZero, stepAborting, stepAcquiring, stepCancelling, stepFetching}
-use Rattle.hub.specs.Table.{resumeWaiter, stepIn, stepReleasing, stepResuming, stepResumingAt, stepStoring}
+use Rattle.hub.specs.Table.{resumeWaiter, rowIn, stepIn, stepReleasing, stepResuming, stepResumingAt, stepStoring}
 use Rattle.hub.specs.Table.{stepSuspending, stepTicketed, withBegun, withCounter, withIssued, withPermit}
 use Rattle.hub.specs.Table.{withResumed, withoutPermit}
 use Rattle.hub.proofs.Laws.Seats.{written-not, written-size}
@@ -174,7 +174,7 @@ module _ (h : Hub) (a : AtRest h) (p : ℕ) (present : ltb p (h .control .openin
     module _ (e : aboveZero (figures .counter) ≡ true) where
       permit-21 : called (here asked Phase.Acquiring) (stepBy p)
           ≡ record { answer = Answer.Acquired; hub = here told-less (withPermit (h .control .opening .named)) }
-      unfolding stepIn stepAcquiring seenBy moved
+      unfolding rowIn stepAcquiring seenBy moved
       permit-21 =
           step asked Phase.Acquiring told-less (withPermit (h .control .opening .named)) Answer.Acquired
           (onward h _ _ _ (a .fit) ask-call) refl refl
@@ -186,7 +186,7 @@ module _ (h : Hub) (a : AtRest h) (p : ℕ) (present : ltb p (h .control .openin
             answer = Answer.Fetched;
             hub = withPool (radios h p inside present Answer.Fetched) (here told-less Phase.Holding);
           }
-      unfolding stepIn stepFetching seenBy
+      unfolding rowIn stepFetching seenBy
       permit-36 i =
           step-radio told-less Phase.Fetching told-less Phase.Holding Answer.Fetched
           (onward _ _ _ _ (onward h _ _ _ (a .fit) ask-call)
@@ -216,7 +216,7 @@ module _ (h : Hub) (a : AtRest h) (p : ℕ) (present : ltb p (h .control .openin
 
       wait-22 : called (here asked Phase.Acquiring) (stepBy p)
           ≡ record { answer = Answer.MustWait; hub = here told-less Phase.Suspending }
-      unfolding stepIn stepAcquiring seenBy moved
+      unfolding rowIn stepAcquiring seenBy moved
       wait-22 =
           step asked Phase.Acquiring told-less Phase.Suspending Answer.MustWait
           (onward h _ _ _ (a .fit) ask-call) refl refl
@@ -224,7 +224,7 @@ module _ (h : Hub) (a : AtRest h) (p : ℕ) (present : ltb p (h .control .openin
 
       wait-23 : called (here told-less Phase.Suspending) (stepBy p)
           ≡ record { answer = Answer.DrewTicket ticket; hub = here drew (Phase.Ticketed ticket) }
-      unfolding stepIn stepSuspending seenBy moved
+      unfolding rowIn stepSuspending seenBy moved
       wait-23 =
           step told-less Phase.Suspending drew (Phase.Ticketed ticket) (Answer.DrewTicket ticket)
           (onward _ _ _ _ (onward h _ _ _ (a .fit) ask-call) wait-22) refl refl refl
@@ -253,7 +253,7 @@ module _ (h : Hub) (a : AtRest h) (p : ℕ) (present : ltb p (h .control .openin
 
       wait-24 : called (here drew (Phase.Ticketed ticket)) (stepBy p)
           ≡ record { answer = Answer.Parked ticket; hub = parked }
-      unfolding stepIn stepTicketed seenBy moved
+      unfolding rowIn stepTicketed seenBy moved
       wait-24 =
           puts h p inside present drew (Phase.Ticketed ticket)
           (fits-now (here drew (Phase.Ticketed ticket))
@@ -291,7 +291,7 @@ module _ (h : Hub) (a : AtRest h) (p : ℕ) (present : ltb p (h .control .openin
 
     up-2E : called (here figures (Phase.Aborting t)) (stepBy p)
         ≡ record { answer = Answer.MustCancel; hub = here told-more (Phase.Cancelling t) }
-    unfolding stepIn stepAborting seenBy moved
+    unfolding rowIn stepAborting seenBy moved
     up-2E =
         step figures (Phase.Aborting t) told-more (Phase.Cancelling t) Answer.MustCancel
         (onward h _ _ _ (a .fit) up-call) refl refl
@@ -303,7 +303,7 @@ module _ (h : Hub) (a : AtRest h) (p : ℕ) (present : ltb p (h .control .openin
 
     up-30 : called (here told-more (Phase.Cancelling t)) (stepBy p)
         ≡ record { answer = Answer.MarkedCancelled t; hub = gone }
-    unfolding stepIn stepCancelling seenBy moved tidied
+    unfolding rowIn stepCancelling seenBy moved tidied
     up-30 =
         puts h p inside present told-more (Phase.Cancelling t)
         (fits-now (here told-more (Phase.Cancelling t))
@@ -340,7 +340,7 @@ module _ (h : Hub) (a : AtRest h) (p : ℕ) (present : ltb p (h .control .openin
     module _ (e : belowZero (figures .counter) ≡ false) where
       give-26 : called (here figures Phase.Releasing) (stepBy p)
           ≡ record { answer = Answer.Returned; hub = here told-more (withoutPermit (h .control .opening .named)) }
-      unfolding stepIn stepReleasing seenBy moved
+      unfolding rowIn stepReleasing seenBy moved
       give-26 =
           step figures Phase.Releasing told-more (withoutPermit (h .control .opening .named)) Answer.Returned
           (onward h _ _ _ (a .fit) give-call) refl refl
@@ -352,7 +352,7 @@ module _ (h : Hub) (a : AtRest h) (p : ℕ) (present : ltb p (h .control .openin
             answer = Answer.Stored;
             hub = withPool (radios h p inside present Answer.Stored) (here told-more Phase.Free);
           }
-      unfolding stepIn stepStoring seenBy
+      unfolding rowIn stepStoring seenBy
       give-38 i =
           step-radio told-more Phase.Storing told-more Phase.Free Answer.Stored
           (onward _ _ _ _ (onward h _ _ _ (a .fit) give-call)
@@ -376,7 +376,7 @@ module _ (h : Hub) (a : AtRest h) (p : ℕ) (present : ltb p (h .control .openin
 
       hand-27 : called (here figures Phase.Releasing) (stepBy p)
           ≡ record { answer = Answer.MustResume; hub = here told-more Phase.Resuming }
-      unfolding stepIn stepReleasing seenBy moved
+      unfolding rowIn stepReleasing seenBy moved
       hand-27 =
           step figures Phase.Releasing told-more Phase.Resuming Answer.MustResume
           (onward h _ _ _ (a .fit) give-call) refl refl
@@ -388,7 +388,7 @@ module _ (h : Hub) (a : AtRest h) (p : ℕ) (present : ltb p (h .control .openin
 
       hand-28 : called (here told-more Phase.Resuming) (stepBy p)
           ≡ record { answer = Answer.StartedResume due; hub = handing }
-      unfolding stepIn stepResuming seenBy moved tidied
+      unfolding rowIn stepResuming seenBy moved tidied
       hand-28 =
           acts h p inside present told-more Phase.Resuming
           (fits-now (here told-more Phase.Resuming) (onward _ _ _ _ (onward h _ _ _ (a .fit) give-call) hand-27))
@@ -443,9 +443,9 @@ module _ (h : Hub) (a : AtRest h) (p : ℕ) (present : ltb p (h .control .openin
           (to (look handing p .slot) Phase.Free (handing .control .figures) (Answer.Woke q due))
 
       handing-row : stepIn (Phase.ResumingAt due) (look handing p) ≡ wakes
-      unfolding stepIn stepResumingAt resumeWaiter seenBy
+      unfolding rowIn stepResumingAt resumeWaiter seenBy
       handing-row =
-          ap (λ (b : Place). stepResumingAt due b (look handing p)) handing-place
+          ap (λ (b : Place). stepResumingAt due (isWaiting (look handing p .waiter .phase)) b (look handing p)) handing-place
           ∙ ap (λ (b : Bool). resumeWaiter b q due (look handing p)) handing-waiter
 
       -- the record that it leaves

@@ -13,7 +13,7 @@ use Rattle.hub.specs.Record.{readSlot, writeSlot}
 use Rattle.hub.specs.Ring.{readSeat, writeSeat, skip, retire}
 use Rattle.hub.specs.Table.{stepAcquiring, stepSuspending, stepTicketed, stepReleasing, stepResuming}
 use Rattle.hub.specs.Table.{resumeWaiter, stepResumingAt, stepAborting, stepCancelling, stepRefusing}
-use Rattle.hub.specs.Table.{stepIn, acquire, cancel, givenUp, release, decide}
+use Rattle.hub.specs.Table.{rowIn, acquire, cancel, givenUp, release, decide}
 use Rattle.encoding.specs.Hex.{digitOf}
 use Rattle.line.specs.Requests.{allDigits, bytesOf, givenKinds, openingIn, requested, spelledBy, requestOf}
 use Rattle.line.specs.Program.{whenOpen, beforeOpen, respond, replies, after, rendered, linesFrom}
@@ -27,6 +27,6 @@ unfolding RunHolds inDigits inputs outputs digitOf allDigits bytesOf givenKinds 
     checked tidied apply counterFits figuresFit inWindow ticketFits placeListed partyFits placeFits
     radiosFit kindsFit stateFits handOf poolAfter fits skip retire readSeat writeSeat seenBy stepAcquiring stepSuspending stepTicketed
     stepReleasing stepResuming resumeWaiter stepResumingAt stepAborting stepCancelling stepRefusing
-    stepIn acquire cancel givenUp release decide isOneOf isPlaceOf readSlot writeSlot kindIn kindsKnown hasDesk weight
+    rowIn acquire cancel givenUp release decide isOneOf isPlaceOf readSlot writeSlot kindIn kindsKnown hasDesk weight
     allFrom allOf allPass
 run-holds = refl

@@ -4,7 +4,7 @@ use hub::record::Phase;
 use hub::record::Place;
 ghost use mathlib.Core.Path.{_≡_};
 ghost use mathlib.Core.Bool.{true, false};
-ghost use Rattle.hub.specs.Phases.{byTicket, hasRadio, placeRank, rank, ticketOf};
+ghost use Rattle.hub.specs.Phases.{byTicket, hasRadio, ofRadios, placeRank, rank, ticketOf};
 
 // The index of a phase in the list of phases.
 pub fn phase_rank(phase: Phase) -> u8
@@ -72,6 +72,16 @@ pub fn has_radio(phase: Phase) -> bool
         | Phase::Storing
         | Phase::Resuming
         | Phase::ResumingAt(_) => true,
+        _ => false,
+    }
+}
+
+// Is it a phase of a hub with radios alone?
+pub fn of_radios(phase: Phase) -> bool
+    ensures { λ r. ⌜ r ≡ ofRadios phase ⌝ }
+{
+    match phase {
+        Phase::Fetching | Phase::Storing => true,
         _ => false,
     }
 }

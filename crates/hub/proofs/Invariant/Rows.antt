@@ -2,13 +2,13 @@
 use Prim.Native.Nat.{ℕ, _+_, _≤_, _<_}
 use mathlib.Core.Path.{_≡_, refl, sym, ap, subst, fun-ext, _∙_}
 use mathlib.Core.Bool.{true, false, _&&_}
-use mathlib.Core.List.{List}
+use mathlib.Core.List.{List, [], _∷_}
 use mathlib.Core.Logic.{_≢_}
 use native.Mathlib.Decide.{ℕ-discrete}
 use native.Mathlib.Omega.{arith}
 use lib.Dec.{ltb, eqb}
 use lib.IntN.{ℤ}
-use lib.ListN.{length, set, length-set}
+use lib.ListN.{getD, length, set, length-set}
 use lib.Seq.{getD-set-same, getD-set-other, set-getD}
 use borrow.Author.Tests.{eq-eqb, ne-eqb}
 use Rattle.hub.specs.declared.answers.Answer.{Answer}
@@ -32,8 +32,9 @@ use Rattle.hub.proofs.Laws.Lists.{weight-set}
 use Rattle.hub.proofs.Laws.Ranges.{sum-set}
 use Rattle.hub.proofs.Laws.Slots.{write-phase}
 use Rattle.hub.proofs.Laws.Table.{isListed}
-use Rattle.hub.proofs.Invariant.Weights.{holding, drawing, stand, stand-le, permitCell}
-use Rattle.hub.proofs.Invariant.Weights.{refusedCell, sum, cellSum, TICKETS}
+use Rattle.hub.proofs.Invariant.Weights.{holding, resuming, refusing, drawing, suspending, live, handing}
+use Rattle.hub.proofs.Invariant.Weights.{cancelling, radioed, own, hand, stand, stand-le, refuse, stage, above}
+use Rattle.hub.proofs.Invariant.Weights.{permitCell, refusedCell, sum, cellSum, TICKETS}
 use Rattle.hub.proofs.Invariant.Tickets.{Names, inside}
 use Rattle.hub.proofs.Invariant.Keep.{Inv, ShiftIn, LocalIn, BesideIn, keep}
 use Rattle.hub.proofs.Invariant.Potential.{Nearer, toCalm, allowed, restsIf}
@@ -173,6 +174,12 @@ module _ (m : Queue) (p : ℕ) (f : Phase) (s : PartySlot) (t : ℕ) (i : p < le
         cellSums = λ w. refl;
       }
 
+-- What the invariant counts of a phase, and of ticket t.
+abbrev pub counted : ℕ → Phase → List ℕ
+counted t f =
+    holding f ∷ resuming f ∷ refusing f ∷ drawing f ∷ suspending f ∷ live f ∷ handing f ∷ cancelling f
+    ∷ own t f ∷ hand t f ∷ stand t f ∷ refuse t f ∷ stage t f ∷ above t f ∷ []
+
 -- A party's row on the cell of one ticket, and on none.
 module _ (k : ℕ) (m : Queue) (p : ℕ) (l : p < m .opening .parties) (inv : Inv k m) where
   -- What the answer tells of the phases and of the counter.
@@ -301,3 +308,43 @@ module _ (k : ℕ) (m : Queue) (p : ℕ) (l : p < m .opening .parties) (inv : In
       kept Place.Cancelled i = tt
       kept Place.Refused i = tt
       kept Place.Done i = tt
+
+  -- Between phases of which the invariant counts the same; the figures stay.
+  pub still-row : {o : Op} {f : Phase} {r : Answer} (s : PartySlot) → phaseIn (phases m) p ≡ f
+      → ((t : ℕ) → counted t f ≡ counted t (s .phase)) → radioed (s .phase) ≡ 0
+      → Says o f (s .phase) Place.Empty Place.Empty r (m .figures) (m .figures)
+      → Tells o f (s .phase) r (m .figures .counter) → Serves (m .figures .resumed) r
+      → Next k o p r m (set-in m p s (m .cells) (m .figures))
+  still-row {o} {f} {r} s e z v sa te sv =
+      phase-row s t e
+      (record {
+        owing = omega (arith, at t 0, at t 4, at t 5);
+        permits = omega (arith, at t 0, at t 1, at t 2);
+        line = omega (arith, at t 1, at t 4, at t 6, at t 7);
+        drawn = omega (arith, at t 3);
+        begun = λ i. i;
+        owned = omega (arith, at t 8);
+        handed = omega (arith, at t 9);
+        low = omega (arith, at t 12, inv .tickets .at t);
+        high = omega (arith, at t 12, inv .tickets .at t);
+        away = λ u y. (sym (at u 8), sym (at u 9), sym (at u 12), sym (at u 11), omega (arith, at u 10));
+        later = omega arith;
+        refusal = omega (arith, at t 11);
+        radios = omega (arith, v);
+      })
+      (record { numbers = λ u y. (refl, refl); order = λ u y i. omega (arith, at u 4, at u 13) })
+      (names-kept t f (s .phase) e (omega (arith, at t 10)))
+      (record {
+        begins = sa .begins;
+        nearer = sa .nearer;
+        held = sa .held;
+        permits = omega (arith, sa .permits);
+        refusals = omega (arith, sa .refusals);
+      })
+      te sv
+    where
+      t : ℕ
+      t = m .figures .issued
+
+      at : (u i : ℕ) → getD (counted u f) i 0 ≡ getD (counted u (s .phase)) i 0
+      at u i = ap (λ (l : List ℕ). getD l i 0) (z u)

@@ -32,7 +32,7 @@ use Rattle.hub.specs.Phases.{isWaiting, ticketOf}
 use Rattle.hub.specs.Queue.{Queue, look, phases, places, withParts, write}
 use Rattle.hub.specs.Record.{MAX-BEGUN, emptySeat, freeSlot, readSlot, withPhase, withPlace, writeSlot}
 use Rattle.hub.specs.Table.{aboveZero, belowZero, acquire, canCancel, cancel, givenUp, release, decide}
-use Rattle.hub.specs.Table.{stepIn}
+use Rattle.hub.specs.Table.{rowIn, stepIn}
 use Rattle.hub.specs.Table.{stepAcquiring, stepSuspending, stepTicketed, stepReleasing}
 use Rattle.hub.specs.Table.{stepResuming, resumeWaiter, stepResumingAt, stepAborting}
 use Rattle.hub.specs.Table.{stepCancelling, stepRefusing, stepFetching, stepStoring, tellRadio}
@@ -49,7 +49,7 @@ use Rattle.hub.proofs.Invariant.Tickets.{AtIn, Names, one-in, exact, ha
 use Rattle.hub.proofs.Invariant.Tickets.{near, party-in, inside, mine, here}
 use Rattle.hub.proofs.Invariant.Keep.{Inv, ShiftIn, keep}
 use Rattle.hub.proofs.Invariant.Potential.{toCalm}
-use Rattle.hub.proofs.Invariant.Rows.{Good, set-in, write-twice, shift-place, shift-phase}
+use Rattle.hub.proofs.Invariant.Rows.{Good, set-in, write-twice, shift-place, shift-phase, still-row}
 use Rattle.hub.proofs.Invariant.Rows.{place-row, phase-row, tell-row, names-kept}
 
 pub all-more : (d d′ : ℕ) → d ≤ d′ → (xs : List ℕ) → AllBelow d xs → AllBelow d′ xs
@@ -151,17 +151,8 @@ module _ (k : ℕ) (m : Queue) (p : ℕ) (l : p < m .opening .parties) (inv : In
       → Good k Step p m Fetching (stepFetching u (look m p))
   unfolding stepFetching pick isOneOf isPlaceOf seenBy phaseAfter phasesAfter counterAfter servedAfter
   fetching true f =
-      phase-row k m p l inv _ issued f (omega (arith, inv .tickets .at issued)) (omega arith)
-      (names-kept k m p l inv issued _ _ f (omega arith)) (omega arith) (refl, refl, refl, refl)
-      (λ xs a. a)
+      still-row k m p l inv _ f (λ t. refl) refl (omega arith) (refl, refl, refl, refl) (λ xs a. a)
   fetching false f = tell-row k m p l inv f (omega arith) (refl, refl, refl, refl) (λ xs a. a)
-
-  storing : phaseIn (phases m) p ≡ Storing → Good k Step p m Storing (stepStoring (look m p))
-  unfolding stepStoring pick isOneOf isPlaceOf seenBy phaseAfter phasesAfter counterAfter servedAfter
-  storing f =
-      phase-row k m p l inv _ issued f (omega (arith, inv .tickets .at issued)) (omega arith)
-      (names-kept k m p l inv issued _ _ f (omega arith)) (omega arith) (refl, refl, refl, refl)
-      (λ xs a. a)
 
   -- A new ticket: nobody owned it, and its cell is empty or has a permit.
   fresh-cell : (least (places m issued) ≡ 0) × (1 ≤ most (places m issued))
@@ -581,7 +572,7 @@ module _ (k : ℕ) (m : Queue) (p : ℕ) (l : p < m .opening .parties) (inv : In
         w ∙ ap Waiting (same-eq (ticketOf g) t (omega (arith, ap (stand t) w)))
 
     handing : (a : Place) → places m t ≡ a → look m p .seat .place ≡ a
-        → Good k Step p m (ResumingAt t) (stepResumingAt t a (look m p))
+        → Good k Step p m (ResumingAt t) (stepResumingAt t (isWaiting (look m p .waiter .phase)) a (look m p))
     unfolding stepResumingAt pick isOneOf isPlaceOf seenBy phaseAfter phasesAfter counterAfter servedAfter
     handing Empty i j =
         place-row k m p l inv _ _ t e i reach (omega (arith, same-self t, held Empty i))
@@ -619,7 +610,7 @@ module _ (k : ℕ) (m : Queue) (p : ℕ) (l : p < m .opening .parties) (inv : In
       ap (λ (g : Phase). byTicket emptySeat (m .cells) g .place) (read-phase (m .slots) p ∙ e)
 
   step-good : (f : Phase) → phaseIn (phases m) p ≡ f → Good k Step p m f (stepIn f (look m p))
-  unfolding stepIn seenBy isOneOf
+  unfolding rowIn stepStoring pick isOneOf isPlaceOf seenBy phaseAfter phasesAfter counterAfter servedAfter
   step-good Free e = refl
   step-good Holding e = refl
   step-good (Waiting t) e = refl
@@ -633,7 +624,7 @@ module _ (k : ℕ) (m : Queue) (p : ℕ) (l : p < m .opening .parties) (inv : In
   step-good Resuming e = carrying e
   step-good (ResumingAt t) e = handing t e _ (sym (seen (ResumingAt t) e)) refl
   step-good Fetching e = fetching _ e
-  step-good Storing e = storing e
+  step-good Storing e = still-row k m p l inv _ e (λ t. refl) refl (omega arith) (refl, refl, refl, refl) (λ xs a. a)
   step-good AcquiringMarked e = asked-marked _ _ refl refl e
   step-good SuspendingMarked e = unnumbered-marked e
   step-good (TicketedMarked t) e = numbered-marked t _ (sym (seen (TicketedMarked t) e)) e
@@ -669,12 +660,8 @@ module _ (k : ℕ) (m : Queue) (p : ℕ) (l : p < m .opening .parties) (inv : In
       (omega (arith, same-self t, known t _ f (owns t) _ refl, least-le (places m t)))
       (omega arith) (names-kept k m p l inv t _ _ f (omega arith)) (omega arith)
       (refl, refl, refl, refl) (λ xs a. a))
-      (λ f. phase-row k m p l inv _ issued f (omega (arith, inv .tickets .at issued)) (omega arith)
-      (names-kept k m p l inv issued _ _ f (omega arith)) (omega arith) (refl, refl, refl, refl)
-      (λ xs a. a))
-      (λ f. phase-row k m p l inv _ issued f (omega (arith, inv .tickets .at issued)) (omega arith)
-      (names-kept k m p l inv issued _ _ f (omega arith)) (omega arith) (refl, refl, refl, refl)
-      (λ xs a. a))
+      (λ f. still-row k m p l inv _ f (λ t. refl) refl (omega arith) (refl, refl, refl, refl) (λ xs a. a))
+      (λ f. still-row k m p l inv _ f (λ t. refl) refl (omega arith) (refl, refl, refl, refl) (λ xs a. a))
       (λ t f. phase-row k m p l inv _ t f (omega (arith, same-self t, known t _ f (owns t) _ refl))
       (omega arith) (names-kept k m p l inv t _ _ f (omega arith)) (omega arith)
       (refl, refl, refl, refl) (λ xs a. a))
@@ -692,9 +679,7 @@ module _ (k : ℕ) (m : Queue) (p : ℕ) (l : p < m .opening .parties) (inv : In
   release-good false e = refl
   release-good true e =
       let f = is-of Holding (one-of Holding phase e) in
-      phase-row k m p l inv _ issued f (omega (arith, inv .tickets .at issued))
-      (omega arith) (names-kept k m p l inv issued _ _ f (omega arith)) (omega arith)
-      (refl, refl, refl, refl) (λ xs a. a)
+      still-row k m p l inv _ f (λ t. refl) refl (omega arith) (refl, refl, refl, refl) (λ xs a. a)
 
   radio-good : (a : Bool) → Good k Radio p m phase (tellRadio a (look m p))
   unfolding tellRadio isPlaceOf phaseAfter phasesAfter counterAfter servedAfter

@@ -1,10 +1,10 @@
--- The one case analysis over phases, and the one over places: a value is made of its tag and its
--- number. Every fact about all of them is taken from here.
+-- The one case analysis over phases, and the one over places: every fact about all of them is taken from here. Neither
+-- is named in it, so that a phase more is no line here.
 use Prim.Native.Nat.{ℕ, zero, suc}
 use mathlib.Core.Path.{_≡_, refl, sym, ap, subst, _∙_}
 use mathlib.Core.Bool.{Bool, true, false, cond, _||_}
 use mathlib.Core.List.{List, [], _∷_, map}
-use mathlib.Core.Logic.{_⊎_, inl, inr}
+use native.Mathlib.Omega.{arith}
 use borrow.Author.Tests.{eqb-true}
 use lib.Dec.{eqb}
 use lib.ListN.{length, replicate, getD}
@@ -13,77 +13,27 @@ use denote.Enum.Declared.{tagOf}
 use Rattle.hub.proofs.record.Phase as phase
 use Rattle.hub.proofs.record.Place as place
 use Rattle.hub.specs.declared.record.Phase.{Phase}
-use Rattle.hub.specs.declared.record.Phase.the-variants.{Free, Holding, Waiting, Acquiring}
-use Rattle.hub.specs.declared.record.Phase.the-variants.{Suspending, Ticketed, Aborting}
-use Rattle.hub.specs.declared.record.Phase.the-variants.{Cancelling, Refusing, Releasing}
-use Rattle.hub.specs.declared.record.Phase.the-variants.{Resuming, ResumingAt, Fetching, Storing}
-use Rattle.hub.specs.declared.record.Phase.the-variants.{AcquiringMarked, SuspendingMarked, TicketedMarked}
 use Rattle.hub.specs.declared.record.Place.{Place}
-use Rattle.hub.specs.declared.record.Place.the-variants.{Empty, Waiting as WaitedBy, Permit}
-use Rattle.hub.specs.declared.record.Place.the-variants.{Cancelled, Refused, Done}
 use Rattle.hub.specs.Basics.{among}
 use Rattle.hub.specs.Phases.{byTicket, byWaiter, isOneOf, isPlaceOf, placeRank, rank, ticketOf}
-
--- P of every element of a list.
-abbrev pub Each : {X : Type 0} → (X → Type 0) → List X → Type 0
-Each P [] = Unit {0}
-Each P (x ∷ xs) = P x × Each P xs
-
--- An enum whose variants hold a number or nothing: a value is made of its tag and its number.
-module _ {X : Type 0} (all : ℕ → List X) (none : X) (tag number : X → ℕ)
-    (back : (x : X) → getD (all (number x)) (tag x) none ≡ x) where
-  -- Where f is a at each of the keys, it is a at a value whose tag is one of them.
-  arm : {A : Type 0} (ks : List ℕ) (f : X → A) {a : A} (x : X)
-      → map (λ k. f (getD (all (number x)) k none)) ks ≡ replicate (length ks) a
-      → OneOf ks (tag x) → a ≡ f x
-  arm [] f x e h = absurd h
-  arm (k ∷ []) f x e h = cc (back x)
-  arm (k ∷ k′ ∷ ks) f x e (inl h) = cc (back x)
-  arm (k ∷ k′ ∷ ks) f x e (inr h) = arm (k′ ∷ ks) f x (cc) h
-
-  -- What holds of each variant holds of every value.
-  every : (P : X → Type 0) → P none → ((t : ℕ) → Each P (all t)) → (x : X) → P x
-  every P z e x = subst P (back x) (at (all (number x)) (tag x) (e (number x)))
-    where
-      at : (l : List X) (k : ℕ) → Each P l → P (getD l k none)
-      at [] k a = z
-      at (y ∷ l) zero a = a .0
-      at (y ∷ l) (suc k) a = at l k (a .1)
-
-  -- Two functions that agree at each variant agree.
-  alike : {A : Type 0} (f h : X → A) → f none ≡ h none
-      → ((t : ℕ) → map f (all t) ≡ map h (all t)) → (x : X) → f x ≡ h x
-  alike f h z e = every (λ x. f x ≡ h x) z (λ t. parts (all t) (e t))
-    where
-      parts : (l : List X) → map f l ≡ map h l → Each (λ x. f x ≡ h x) l
-      parts [] i = tt
-      parts (y ∷ l) i = (cc, parts l (cc))
+use Rattle.hub.specs.declared.record.Phase.the-variants.{Free}
+use Rattle.hub.specs.declared.record.Place.the-variants.{Empty}
+use mir.Syntax.{w8, w32}
+use Rattle.hub.proofs.Laws.Enums.{Each, variantsOf, alike, arm, back, every, hold, numberIn}
 
 -- The phases, each with ticket t if it has one.
 abbrev pub phasesWith : ℕ → List Phase
-phasesWith t =
-    Free ∷ Holding ∷ Waiting t ∷ Acquiring ∷ Suspending ∷ Ticketed t ∷ Aborting t ∷ Cancelling t
-    ∷ Refusing t ∷ Releasing ∷ Resuming ∷ ResumingAt t ∷ Fetching ∷ Storing ∷ AcquiringMarked
-    ∷ SuspendingMarked ∷ TicketedMarked t ∷ []
+phasesWith = variantsOf w32 (hold phase.parts) phase.make
+
+ticket-is : (x : Phase) → numberIn w32 (hold phase.parts) (phase.as-values x) ≡ ticketOf x
+ticket-is =
+    alike phasesWith Free (tagOf phase.the-type) (λ x. numberIn w32 (hold phase.parts) (phase.as-values x))
+    (back w32 (hold phase.parts) phase.make phase.as-values phase.eta Free) _ ticketOf refl (λ t. refl)
 
 phase-back : (x : Phase) → getD (phasesWith (ticketOf x)) (tagOf phase.the-type x) Free ≡ x
-phase-back Free = refl
-phase-back Holding = refl
-phase-back (Waiting t) = refl
-phase-back Acquiring = refl
-phase-back Suspending = refl
-phase-back (Ticketed t) = refl
-phase-back (Aborting t) = refl
-phase-back (Cancelling t) = refl
-phase-back (Refusing t) = refl
-phase-back Releasing = refl
-phase-back Resuming = refl
-phase-back (ResumingAt t) = refl
-phase-back Fetching = refl
-phase-back Storing = refl
-phase-back AcquiringMarked = refl
-phase-back SuspendingMarked = refl
-phase-back (TicketedMarked t) = refl
+phase-back x =
+    ap (λ (t : ℕ). getD (phasesWith t) (tagOf phase.the-type x) Free) (sym (ticket-is x))
+    ∙ back w32 (hold phase.parts) phase.make phase.as-values phase.eta Free x
 
 pub phase-arm : {A : Type 0} (ks : List ℕ) (f : Phase → A) {a : A} (x : Phase)
     → map (λ k. f (getD (phasesWith (ticketOf x)) k Free)) ks ≡ replicate (length ks) a
@@ -114,18 +64,24 @@ one-of f x e =
     alone true i = i
     alone false i = i
 
--- A phase of a list is its first one or one of the others.
-pub one-or : (f : Phase) (l : List Phase) (x : Phase) → isOneOf (f ∷ l) x ≡ true
-    → (x ≡ getD (phasesWith (ticketOf x)) (rank f) Free) ⊎ (isOneOf l x ≡ true)
+-- What holds of each phase of a list, whatever its ticket, holds of every phase that is one of them.
+pub each-of : (P : Phase → Type 0) (l : List Phase)
+    → ((t : ℕ) → Each (λ y. P (getD (phasesWith t) (rank y) Free)) l) → (x : Phase) → isOneOf l x ≡ true → P x
 unfolding isOneOf
-one-or f l x e = go (eqb (rank x) (rank f)) refl e
+each-of P l e x = at l (e (ticketOf x))
   where
-    go : (b : Bool) → eqb (rank x) (rank f) ≡ b → b || among (map rank l) (rank x) ≡ true
-        → (x ≡ getD (phasesWith (ticketOf x)) (rank f) Free) ⊎ (isOneOf l x ≡ true)
-    go true z i =
-        inl (sym (of-rank x)
-        ∙ ap (λ (k : ℕ). getD (phasesWith (ticketOf x)) k Free) (eqb-true (rank x) (rank f) z))
-    go false z i = inr i
+    at : (l : List Phase) → Each (λ y. P (getD (phasesWith (ticketOf x)) (rank y) Free)) l
+        → among (map rank l) (rank x) ≡ true → P x
+    at [] a z = let y : _≡_ {A = ℕ} 0 1 = cc in let w : ⊥ = omega arith in absurd w
+    at (y ∷ l) a z = go (eqb (rank x) (rank y)) refl z (at l (a .1))
+      where
+        go : (b : Bool) → eqb (rank x) (rank y) ≡ b → b || among (map rank l) (rank x) ≡ true
+            → (among (map rank l) (rank x) ≡ true → P x) → P x
+        go true i w further =
+            subst P
+            (ap (λ (k : ℕ). getD (phasesWith (ticketOf x)) k Free) (sym (eqb-true (rank x) (rank y) i)) ∙ of-rank x)
+            (a .0)
+        go false i w further = further w
 
 -- What is made of a ticket depends on whether there is one, and on the ticket.
 abbrev pub ticketed : Phase → Bool
@@ -144,20 +100,26 @@ without ks (x ∷ l) = cond (among ks x) (without ks l) (x ∷ without ks l)
 abbrev pub allBut : List ℕ → List ℕ
 allBut ks = without ks (map rank (phasesWith 0))
 
+-- The phases that a list has not.
+abbrev pub allOthers : List Phase → List Phase
+allOthers l = map (λ k. getD (phasesWith 0) k Free) (allBut (map rank l))
+
 -- The places, with party q where somebody waits; that party.
 abbrev pub placesWith : ℕ → List Place
-placesWith q = Empty ∷ WaitedBy q ∷ Permit ∷ Cancelled ∷ Refused ∷ Done ∷ []
+placesWith = variantsOf w8 (hold place.parts) place.make
 
 abbrev pub waiterOf : Place → ℕ
 waiterOf = byWaiter 0 (λ q. q)
 
+waiter-is : (a : Place) → numberIn w8 (hold place.parts) (place.as-values a) ≡ waiterOf a
+waiter-is =
+    alike placesWith Empty (tagOf place.the-type) (λ a. numberIn w8 (hold place.parts) (place.as-values a))
+    (back w8 (hold place.parts) place.make place.as-values place.eta Empty) _ waiterOf refl (λ q. refl)
+
 place-back : (a : Place) → getD (placesWith (waiterOf a)) (tagOf place.the-type a) Empty ≡ a
-place-back Empty = refl
-place-back (WaitedBy q) = refl
-place-back Permit = refl
-place-back Cancelled = refl
-place-back Refused = refl
-place-back Done = refl
+place-back a =
+    ap (λ (q : ℕ). getD (placesWith q) (tagOf place.the-type a) Empty) (sym (waiter-is a))
+    ∙ back w8 (hold place.parts) place.make place.as-values place.eta Empty a
 
 pub place-arm : {A : Type 0} (ks : List ℕ) (f : Place → A) {a : A} (x : Place)
     → map (λ k. f (getD (placesWith (waiterOf x)) k Empty)) ks ≡ replicate (length ks) a

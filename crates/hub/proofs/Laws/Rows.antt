@@ -1,103 +1,78 @@
 -- The one case analysis over the rows of the step table, and over the other calls. Once a row is told what its
 -- tests say it computes, so that what can be computed of a row is proved of all of them at once.
 use Prim.Native.Nat.{ℕ}
-use mathlib.Core.Bool.{Bool, true, false, cond}
+use mathlib.Core.Bool.{Bool, true, false}
 use mathlib.Core.List.{List, [], _∷_, map}
 use mathlib.Core.Path.{_≡_, refl, ap, _∙_}
-use Rattle.hub.specs.declared.answers.Refusal.{Refusal}
 use Rattle.hub.specs.declared.moves.Op.{Op}
 use Rattle.hub.specs.declared.moves.Sight.{Sight}
 use Rattle.hub.specs.declared.record.Phase.{Phase}
-use Rattle.hub.specs.declared.record.Phase.the-variants.{Free, Holding, Waiting, Acquiring}
-use Rattle.hub.specs.declared.record.Phase.the-variants.{Suspending, Ticketed, Aborting}
-use Rattle.hub.specs.declared.record.Phase.the-variants.{Cancelling, Refusing, Releasing}
-use Rattle.hub.specs.declared.record.Phase.the-variants.{Resuming, ResumingAt, Fetching, Storing}
-use Rattle.hub.specs.declared.record.Phase.the-variants.{AcquiringMarked, SuspendingMarked, TicketedMarked}
+use Rattle.hub.specs.declared.record.Phase.the-variants.{Free}
 use Rattle.hub.specs.declared.record.Place.{Place}
-use Rattle.hub.specs.Moves.{Move, Refuse}
-use Rattle.hub.specs.Phases.{byWaiter, isOneOf, isWaiting}
-use Rattle.hub.specs.Table.{aboveZero, acquire, belowZero, cancel, decide, release, resumeWaiter}
+use Rattle.hub.specs.Moves.{Move}
+use Rattle.hub.specs.Table.{Tests, acquire, cancel, decide, release, resumeWaiter, rowIn, tellRadio, testsOf}
 use Rattle.hub.specs.Table.{stepAborting, stepAcquiring, stepCancelling, stepFetching, stepIn, stepRefusing}
 use Rattle.hub.specs.Table.{stepReleasing, stepResuming, stepResumingAt, stepStoring, stepSuspending}
-use Rattle.hub.specs.Table.{stepTicketed, tellRadio}
-use Rattle.hub.proofs.Laws.Phases.{Each, phases-alike, phasesWith, places-alike, placesWith}
+use Rattle.hub.specs.Table.{stepTicketed}
+use Rattle.hub.proofs.Laws.Enums.{Each}
+use Rattle.hub.proofs.Laws.Phases.{phases-alike, phasesWith, places-alike, placesWith}
 
--- The row of a phase: b is what its test says, a the place, and w says whether the waiter there waits. Who unfolds
--- it unfolds the table.
-unfoldable pub rowIn : Phase → Bool → Bool → Place → Sight → Move
-unfolding stepAcquiring stepSuspending stepTicketed stepReleasing stepResuming resumeWaiter stepResumingAt stepAborting
+-- The row of a phase. Who unfolds it unfolds the table.
+unfoldable pub rowOf : Phase → Tests → Sight → Move
+unfolding rowIn stepAcquiring stepSuspending stepTicketed stepReleasing stepResuming resumeWaiter stepResumingAt stepAborting
     stepCancelling stepRefusing stepFetching stepStoring
-rowIn f b w a s =
-    elim f [
-      | Free ↦ Refuse Refusal.AtRest
-      | Holding ↦ Refuse Refusal.AtRest
-      | Waiting t ↦ Refuse Refusal.AtRest
-      | Acquiring ↦ stepAcquiring Suspending b s
-      | Suspending ↦ stepSuspending Ticketed s
-      | Ticketed t ↦ stepTicketed (Waiting t) t a s
-      | Aborting t ↦ stepAborting t b s
-      | Cancelling t ↦ stepCancelling t a s
-      | Refusing t ↦ stepRefusing t a s
-      | Releasing ↦ stepReleasing b s
-      | Resuming ↦ stepResuming s
-      | ResumingAt t ↦ byWaiter (stepResumingAt t a s) (λ q. resumeWaiter w q t s) a
-      | Fetching ↦ stepFetching b s
-      | Storing ↦ stepStoring s
-      | AcquiringMarked ↦ stepAcquiring SuspendingMarked b s
-      | SuspendingMarked ↦ stepSuspending TicketedMarked s
-      | TicketedMarked t ↦ stepTicketed (Aborting t) t a s
-    ]
+rowOf f v s = rowIn f v s
 
--- The test of a phase: is the counter above 0, is a radio stored, is the counter below 0?
-abbrev pub testIn : Sight → Phase → Bool
-testIn s f =
-    cond (isOneOf (Acquiring ∷ AcquiringMarked ∷ []) f) (aboveZero (s .figures .counter))
-    (cond (isOneOf (Fetching ∷ []) f) (s .stocked) (belowZero (s .figures .counter)))
+pub row-of : (f : Phase) (v : Tests) (s : Sight) → rowIn f v s ≡ rowOf f v s
+unfolding rowOf
+row-of f v s = refl
 
-handing : (s : Sight) (t : ℕ) (a : Place) → stepResumingAt t a s
-    ≡ byWaiter (stepResumingAt t a s) (λ q. resumeWaiter (isWaiting (s .waiter .phase)) q t s) a
-unfolding stepResumingAt
-handing s t =
-    places-alike (λ a. stepResumingAt t a s)
-    (λ a. byWaiter (stepResumingAt t a s) (λ q. resumeWaiter (isWaiting (s .waiter .phase)) q t s) a) (λ q. refl)
-
-pub step-row : (s : Sight) (f : Phase)
-    → stepIn f s ≡ rowIn f (testIn s f) (isWaiting (s .waiter .phase)) (s .seat .place) s
-unfolding stepIn isOneOf rowIn
-step-row s =
-    phases-alike (λ f. stepIn f s) (λ f. rowIn f (testIn s f) (isWaiting (s .waiter .phase)) (s .seat .place) s)
-    (λ t. cc (handing s t (s .seat .place)))
-
--- What g makes of either answer of a test; of a place and two tests; of every row, with ticket t and a place
+-- What g makes of either answer of a test; of all answers of four; of every row, with ticket t and a place
 -- where q waits if anybody does.
 abbrev pub eitherWay : {A : Type 0} → (Bool → A) → List A
 eitherWay g = g true ∷ g false ∷ []
 
-abbrev overTests : {A : Type 0} → (Bool → Bool → Place → A) → Place → List (List A)
-overTests g a = eitherWay (λ b. eitherWay (λ w. g b w a))
+abbrev allWays : {A : Type 0} → (Bool → Bool → Bool → Bool → A) → List (List (List (List A)))
+allWays g = eitherWay (λ a. eitherWay (λ b. eitherWay (λ c. eitherWay (g a b c))))
 
-abbrev pub overRows : {A : Type 0} → ℕ → ℕ → (Phase → Bool → Bool → Place → A) → List (List (List (List A)))
+abbrev tested : {A : Type 0} → (Tests → A) → Place → Bool → Bool → Bool → Bool → A
+tested g p a b c d = g (record { above = a; below = b; stocked = c; place = p; waits = d })
+
+abbrev overTests : {A : Type 0} → (Tests → A) → Place → List (List (List (List A)))
+overTests g p = allWays (tested g p)
+
+abbrev pub overRows : {A : Type 0} → ℕ → ℕ → (Phase → Tests → A) → List (List (List (List (List (List A)))))
 overRows t q g = map (λ f. map (overTests (g f)) (placesWith q)) (phasesWith t)
 
 told : {A : Type 0} (g h : Bool → A) → eitherWay g ≡ eitherWay h → (b : Bool) → g b ≡ h b
 told g h e true = cc
 told g h e false = cc
 
-pub rows-alike : {A : Type 0} (g h : Phase → Bool → Bool → Place → A) → ((t q : ℕ) → overRows t q g ≡ overRows t q h)
-    → (f : Phase) (b w : Bool) (a : Place) → g f b w a ≡ h f b w a
-rows-alike g h e f b w a =
-    told (λ w. g f b w a) (λ w. h f b w a)
-    (told (λ b. eitherWay (λ w. g f b w a)) (λ b. eitherWay (λ w. h f b w a))
+told-all : {A : Type 0} (g h : Bool → Bool → Bool → Bool → A) → allWays g ≡ allWays h → (a b c d : Bool)
+    → g a b c d ≡ h a b c d
+told-all g h e a b c =
+    told (g a b c) (h a b c)
+    (told (λ c. eitherWay (g a b c)) (λ c. eitherWay (h a b c))
+    (told (λ b. eitherWay (λ c. eitherWay (g a b c))) (λ b. eitherWay (λ c. eitherWay (h a b c)))
+    (told (λ a. eitherWay (λ b. eitherWay (λ c. eitherWay (g a b c))))
+    (λ a. eitherWay (λ b. eitherWay (λ c. eitherWay (h a b c)))) e a) b) c)
+
+pub rows-alike : {A : Type 0} (g h : Phase → Tests → A) → ((t q : ℕ) → overRows t q g ≡ overRows t q h)
+    → (f : Phase) (v : Tests) → g f v ≡ h f v
+rows-alike g h e f v =
+    told-all (tested (g f) (v .place)) (tested (h f) (v .place))
     (places-alike (overTests (g f)) (overTests (h f))
     (λ q. phases-alike (λ f. map (overTests (g f)) (placesWith q)) (λ f. map (overTests (h f)) (placesWith q))
-    (λ t. e t q) f) a) b) w
+    (λ t. e t q) f) (v .place))
+    (v .above) (v .below) (v .stocked) (v .waits)
 
 -- What g makes of a step is what h makes of its phase and place.
 pub steps-alike : {A : Type 0} (s : Sight) (g : Move → A) (h : Phase → Place → A)
-    → ((t q : ℕ) → overRows t q (λ f b w a. g (rowIn f b w a s)) ≡ overRows t q (λ f b w. h f))
+    → ((t q : ℕ) → overRows t q (λ f v. g (rowOf f v s)) ≡ overRows t q (λ f v. h f (v .place)))
     → (f : Phase) → g (stepIn f s) ≡ h f (s .seat .place)
 steps-alike s g h e f =
-    ap g (step-row s f) ∙ rows-alike (λ f b w a. g (rowIn f b w a s)) (λ f b w. h f) e f _ _ _
+    ap g (row-of f (testsOf s) s)
+    ∙ rows-alike (λ f v. g (rowOf f v s)) (λ f v. h f (v .place)) e f (testsOf s)
 
 -- The other calls, their tests told; x is what a give-up leads to.
 abbrev pub otherRows : Phase → Bool → Bool → Bool → List (Sight → Move)
@@ -118,7 +93,7 @@ others-alike g h e x a b c =
 
 -- Where g makes z of every row it makes z of every call.
 pub calls-alike : {A : Type 0} (s : Sight) (g : Move → A) (z : A)
-    → ((t q : ℕ) → overRows t q (λ f b w a. g (rowIn f b w a s)) ≡ overRows t q (λ f b w a. z))
+    → ((t q : ℕ) → overRows t q (λ f v. g (rowOf f v s)) ≡ overRows t q (λ f v. z))
     → ((x : Phase) → overOthers (λ r. g (r s)) x ≡ overOthers (λ r. z) x)
     → (o : Op) (full : Bool) → g (decide o full s) ≡ z
 unfolding decide

@@ -32,7 +32,7 @@ use Rattle.hub.specs.Phases.{isPlaceOf, isWaiting}
 use Rattle.hub.specs.Radios.{moved}
 use Rattle.hub.specs.Record.{PARTIES, emptySeat, freeSlot, readSlot}
 use Rattle.hub.specs.Ring.{PLACES, readPlace, readSeat}
-use Rattle.hub.specs.Table.{acquire, canCancel, cancel, decide, givenUp, release, stepIn, tellRadio}
+use Rattle.hub.specs.Table.{acquire, canCancel, cancel, decide, givenUp, release, rowIn, stepIn, tellRadio}
 use Rattle.hub.specs.Table.{stepAcquiring, stepSuspending, stepTicketed, stepReleasing}
 use Rattle.hub.specs.Table.{stepResuming, resumeWaiter, stepResumingAt, stepAborting}
 use Rattle.hub.specs.Table.{stepCancelling, stepRefusing, stepFetching, stepStoring}
@@ -176,7 +176,7 @@ module _ (h : Hub) (p : ℕ) (named : h .control .opening .named ≡ true)
   handing-to t q false i w e = left bs cs (h .control .pool) s p (radio-of p e) t (there t i)
 
   handing : (t : ℕ) (a : Place) → readPlace (h .places) t ≡ a → look h p .seat .place ≡ a
-      → phase ≡ ResumingAt t → Goes (ResumingAt t) (stepResumingAt t a (look h p))
+      → phase ≡ ResumingAt t → Goes (ResumingAt t) (stepResumingAt t (isWaiting (look h p .waiter .phase)) a (look h p))
   unfolding stepResumingAt isOneOf isPlaceOf moved seenBy
   handing t Empty i j e = left bs cs (h .control .pool) s p (radio-of p e) t (there t i)
   handing t (WaitedBy q) i j e =
@@ -195,7 +195,7 @@ module _ (h : Hub) (p : ℕ) (named : h .control .opening .named ≡ true)
   seen e = ap (λ (f : Phase). byTicket emptySeat (readSeat (h .places)) f .place) (sym e)
 
   step-goes : (f : Phase) → phase ≡ f → Goes f (stepIn f (look h p))
-  unfolding stepIn stepSuspending stepResuming stepStoring isOneOf moved seenBy
+  unfolding rowIn stepSuspending stepResuming stepStoring isOneOf moved seenBy
   step-goes Free e = unmoved
   step-goes Holding e = unmoved
   step-goes (Waiting t) e = unmoved

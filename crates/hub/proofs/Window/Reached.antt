@@ -26,7 +26,7 @@ use Rattle.hub.specs.Queue as queue
 use Rattle.hub.specs.Radios.{rearranged}
 use Rattle.hub.specs.Record.{PARTIES, readSlot}
 use Rattle.hub.specs.Ring.{PLACES}
-use Rattle.hub.specs.Table.{decide, step, stepIn}
+use Rattle.hub.specs.Table.{decide, step, rowIn, stepIn}
 use Rattle.hub.proofs.Laws.Bools.{both, first, passed}
 use Rattle.hub.proofs.Laws.Lists.{weight-length, weight-add}
 use Rattle.hub.proofs.Laws.Phases.{every-phase}
@@ -94,7 +94,7 @@ module _ (k : ℕ) (h : Hub) (m : Queue) (r : Tracks k h m) where
   -- The table lists the step of every party; those from n up are at rest.
   listed : (p : ℕ) (b : Bool) → ltb p (m .opening .parties) ≡ b
       → isListed (step (queue.look m p)) ≡ true
-  unfolding decide stepIn seenBy
+  unfolding decide rowIn seenBy
   listed p true e =
       good-listed k Op.Step p m (queue.look m p .slot .phase) (step (queue.look m p))
       (decide-good k m p (ltb-true p (m .opening .parties) e) (r .inv) Op.Step)

@@ -1,7 +1,7 @@
 -- The one walk of the step table: each row is good. So are the other calls.
 use Prim.Native.Nat.{ℕ, zero, suc, _+_, _-_, _*_, _≤_, _<_}
 use mathlib.Core.Path.{_≡_, refl, sym, ap, subst, _∙_}
-use mathlib.Core.Bool.{Bool, true, false, _&&_}
+use mathlib.Core.Bool.{Bool, true, false, cond, not, _&&_}
 use mathlib.Core.List.{List}
 use mathlib.Core.Logic.{_≢_}
 use native.Mathlib.Omega.{arith}
@@ -11,10 +11,10 @@ use lib.ListN.{set}
 use lib.Seq.{set-set, set-comm}
 use Rattle.hub.specs.declared.answers.Answer.{Answer}
 use Rattle.hub.specs.declared.record.Phase.{Phase}
-use Rattle.hub.specs.declared.record.Phase.the-variants.{Free, Holding, Waiting, Acquiring}
+use Rattle.hub.specs.declared.record.Phase.the-variants.{Free, Waiting, Acquiring}
 use Rattle.hub.specs.declared.record.Phase.the-variants.{Suspending, Ticketed, Aborting}
 use Rattle.hub.specs.declared.record.Phase.the-variants.{Cancelling, Refusing, Releasing}
-use Rattle.hub.specs.declared.record.Phase.the-variants.{Resuming, ResumingAt, Fetching, Storing}
+use Rattle.hub.specs.declared.record.Phase.the-variants.{Resuming, ResumingAt}
 use Rattle.hub.specs.declared.record.Phase.the-variants.{AcquiringMarked, SuspendingMarked, TicketedMarked}
 use Rattle.hub.specs.declared.record.Place.{Place}
 use Rattle.hub.specs.declared.record.Place.the-variants.{Empty, Waiting as WaitedBy, Permit}
@@ -28,7 +28,7 @@ use Rattle.hub.specs.Record.{MAX-BEGUN, emptySeat, withPlace}
 use Rattle.hub.specs.Table.{canCancel, givenUp}
 use Rattle.hub.proofs.Laws.Bools.{first, second}
 use Rattle.hub.proofs.Laws.Lists.{weight-add, weight-length, weight-scale}
-use Rattle.hub.proofs.Laws.Phases.{one-of}
+use Rattle.hub.proofs.Laws.Phases.{allOthers, each-of, one-of, phases-alike}
 use Rattle.hub.proofs.Laws.Table.{can-cancel}
 use Rattle.hub.proofs.Invariant.Rows.{write-twice}
 use Rattle.hub.proofs.Invariant.Weights.{same, same-self, same-eq, lt-no, lt-le, lt-suc, pick}
@@ -41,6 +41,7 @@ use Rattle.latch.specs.declared.moves.LatchOp.{LatchOp}
 use Rattle.latch.specs.declared.moves.LatchOp.the-variants.{Await, Step, Cancel, CountDown}
 use Rattle.latch.specs.declared.record.LatchSlot.{LatchSlot}
 use Rattle.latch.specs.Ledger.{slotAfter, slotIn, slotsAfter, waitersAfter}
+use Rattle.latch.specs.Fits.{HUB-ONLY}
 use Rattle.latch.specs.Look.{seenBy}
 use Rattle.latch.specs.Queue.{Queue, look, phases, places, withParts}
 use Rattle.latch.specs.Record.{carryOn, freeSlot, inPhase, readSlot, withPhase, writeSlot}
@@ -729,25 +730,62 @@ module _ (m : Queue) (p : ℕ) (l : p < m .parties) (inv : Inv m) where
   unfolding seenBy
   seen f e = ap (λ (g : Phase). byTicket emptySeat (m .cells) g .place) e
 
-  step-good : (f : Phase) → own-slot .phase ≡ f → Good Step p m f (stepIn f (look m p))
+  abbrev StepGood : Phase → Type 0
+  StepGood f = own-slot .phase ≡ f → Good Step p m f (stepIn f (look m p))
+
+  step-good : (f : Phase) → StepGood f
   unfolding stepIn seenBy isOneOf pick
-  step-good Free e = refl
-  step-good Holding e = absurd (none-holds Holding e refl)
-  step-good (Waiting t) e = refl
-  step-good Acquiring e = asks _ _ refl refl e
-  step-good Suspending e = unnumbered e
-  step-good (Ticketed t) e = numbered t _ (sym (seen (Ticketed t) e)) e
-  step-good (Aborting t) e = giving-up t _ refl e
-  step-good (Cancelling t) e = cancelling t _ (sym (seen (Cancelling t) e)) e
-  step-good (Refusing t) e = refusing t _ (sym (seen (Refusing t) e)) e
-  step-good Releasing e = giving-back _ refl e
-  step-good Resuming e = carrying e
-  step-good (ResumingAt t) e = handing t e _ (sym (seen (ResumingAt t) e)) refl
-  step-good Fetching e = absurd (none-holds Fetching e refl)
-  step-good Storing e = absurd (none-holds Storing e refl)
-  step-good AcquiringMarked e = asks-marked _ _ refl refl e
-  step-good SuspendingMarked e = unnumbered-marked e
-  step-good (TicketedMarked t) e = numbered-marked t _ (sym (seen (TicketedMarked t) e)) e
+  step-good f = go (isOneOf HUB-ONLY f) refl
+    where
+      others : (f : Phase) → isOneOf (allOthers HUB-ONLY) f ≡ not (isOneOf HUB-ONLY f)
+      others =
+          phases-alike (isOneOf (allOthers HUB-ONLY)) (λ f. not (isOneOf HUB-ONLY f)) (λ t. refl)
+
+      go : (b : Bool) → isOneOf HUB-ONLY f ≡ b → StepGood f
+      go true i = λ e. absurd (none-holds f e (ap (λ (b : Bool). cond b 1 0) i))
+      go false i =
+          each-of StepGood (allOthers HUB-ONLY)
+          (λ t. (
+            λ e. refl,
+            (
+              λ e. refl,
+              (
+                asks _ _ refl refl,
+                (
+                  unnumbered,
+                  (
+                    λ e. numbered t _ (sym (seen (Ticketed t) e)) e,
+                    (
+                      giving-up t _ refl,
+                      (
+                        λ e. cancelling t _ (sym (seen (Cancelling t) e)) e,
+                        (
+                          λ e. refusing t _ (sym (seen (Refusing t) e)) e,
+                          (
+                            giving-back _ refl,
+                            (
+                              carrying,
+                              (
+                                λ e. handing t e _ (sym (seen (ResumingAt t) e)) refl,
+                                (
+                                  asks-marked _ _ refl refl,
+                                  (
+                                    unnumbered-marked,
+                                    (λ e. numbered-marked t _ (sym (seen (TicketedMarked t) e)) e, tt),
+                                  ),
+                                ),
+                              ),
+                            ),
+                          ),
+                        ),
+                      ),
+                    ),
+                  ),
+                ),
+              ),
+            ),
+          ))
+          f (others f ∙ ap not i)
 
   -- The other calls.
   abbrev phase : Phase

@@ -2,11 +2,12 @@
 use Prim.Native.Nat.{ℕ, _+_, _≤_, _<_}
 use mathlib.Core.Path.{_≡_, refl, sym, ap, ap₂, subst, _∙_}
 use mathlib.Core.Bool.{Bool, true, false, cond, not, _||_}
+use mathlib.Core.List.{List, [], _∷_, map}
 use native.Mathlib.Omega.{arith}
 use borrow.Author.Tests.{le-leb, ltb-true, ltb-false}
 use lib.Dec.{ltb}
 use Rattle.hub.specs.declared.record.Phase.{Phase}
-use Rattle.hub.specs.declared.record.Phase.the-variants.{Holding, Suspending, Resuming, ResumingAt, Fetching, Storing}
+use Rattle.hub.specs.declared.record.Phase.the-variants.{ResumingAt}
 use Rattle.hub.specs.declared.record.Place.{Place}
 use Rattle.hub.specs.declared.record.Place.the-variants.{Empty, Waiting as WaitedBy, Permit}
 use Rattle.hub.specs.declared.record.Place.the-variants.{Cancelled, Refused, Done}
@@ -17,7 +18,7 @@ use Rattle.hub.specs.Record.{PARTIES}
 use Rattle.hub.specs.Ring.{PLACES}
 use Rattle.hub.proofs.Laws.Bools.{both, first, passed}
 use Rattle.hub.proofs.Laws.Lists.{weight-one}
-use Rattle.hub.proofs.Laws.Phases.{places-alike}
+use Rattle.hub.proofs.Laws.Phases.{each-of, phases-alike, places-alike, placesWith}
 use Rattle.hub.proofs.Laws.Ranges.{all-true}
 use Rattle.hub.proofs.Invariant.Weights.{pick, one, resuming}
 use Rattle.hub.proofs.Window.Fitting.{absent-free, numbers-fit, ticket-fits, up-to-32, waiter-stands, where-true}
@@ -65,34 +66,45 @@ module _ (s : LatchSight) where
   handed t Refused = refl
   handed t Done = refl
 
-  listed-tabled : (f : Phase) → isListed (stepIn f s) ≡ true → placeListed f (s .seat .place) ≡ true
-  unfolding stepIn stepSuspending stepTicketed stepResuming stepCancelling stepRefusing placeListed allOf isOneOf
-      isPlaceOf
-  listed-tabled Phase.Free e = refl
-  listed-tabled Holding e = refl
-  listed-tabled (Phase.Waiting t) e = refl
-  listed-tabled Phase.Acquiring e = refl
-  listed-tabled Suspending e = refl
-  listed-tabled (Phase.Ticketed t) e =
-      sym (places-alike (λ a. isListed (stepTicketed (Phase.Waiting t) t a s)) (placeListed (Phase.Ticketed t)) (λ q. refl)
-      (s .seat .place)) ∙ e
-  listed-tabled (Phase.Aborting t) e = refl
-  listed-tabled (Phase.Cancelling t) e =
-      sym (places-alike (λ a. isListed (stepCancelling t a s)) (placeListed (Phase.Cancelling t)) (λ q. refl)
-      (s .seat .place)) ∙ e
-  listed-tabled (Phase.Refusing t) e =
-      sym (places-alike (λ a. isListed (stepRefusing t a s)) (placeListed (Phase.Refusing t)) (λ q. refl)
-      (s .seat .place)) ∙ e
-  listed-tabled Phase.Releasing e = refl
-  listed-tabled Resuming e = refl
-  listed-tabled (ResumingAt t) e = sym (handed t (s .seat .place)) ∙ e
-  listed-tabled Fetching e = refl
-  listed-tabled Storing e = refl
-  listed-tabled Phase.AcquiringMarked e = refl
-  listed-tabled Phase.SuspendingMarked e = refl
-  listed-tabled (Phase.TicketedMarked t) e =
-      sym (places-alike (λ a. isListed (stepTicketed (Phase.Aborting t) t a s)) (placeListed (Phase.TicketedMarked t)) (λ q. refl)
-      (s .seat .place)) ∙ e
+  -- The phases that act on a place; to the others every place is listed.
+  abbrev ON-PLACE : List Phase
+  ON-PLACE = Phase.Ticketed 0 ∷ Phase.TicketedMarked 0 ∷ Phase.Cancelling 0 ∷ Phase.Refusing 0 ∷ ResumingAt 0 ∷ []
+
+  off-place : (a : Place) (f : Phase) → cond (isOneOf ON-PLACE f) true (placeListed f a) ≡ true
+  unfolding placeListed allOf isOneOf
+  off-place a = phases-alike (λ f. cond (isOneOf ON-PLACE f) true (placeListed f a)) (λ f. true) (λ t. refl)
+
+  abbrev Tabled : Phase → Type 0
+  Tabled f = isListed (stepIn f s) ≡ true → placeListed f (s .seat .place) ≡ true
+
+  tabled : (f : Phase) (row : Place → Move)
+      → ((q : ℕ) → map (λ a. isListed (row a)) (placesWith q) ≡ map (placeListed f) (placesWith q))
+      → isListed (row (s .seat .place)) ≡ true → placeListed f (s .seat .place) ≡ true
+  tabled f row z e = sym (places-alike (λ a. isListed (row a)) (placeListed f) z (s .seat .place)) ∙ e
+
+  listed-tabled : (f : Phase) → Tabled f
+  unfolding stepIn stepTicketed stepCancelling stepRefusing placeListed allOf isOneOf isPlaceOf
+  listed-tabled f = go (isOneOf ON-PLACE f) refl
+    where
+      go : (b : Bool) → isOneOf ON-PLACE f ≡ b → Tabled f
+      go true i =
+          each-of Tabled ON-PLACE
+          (λ t. (
+            tabled (Phase.Ticketed t) (λ a. stepTicketed (Phase.Waiting t) t a s) (λ q. refl),
+            (
+              tabled (Phase.TicketedMarked t) (λ a. stepTicketed (Phase.Aborting t) t a s) (λ q. refl),
+              (
+                tabled (Phase.Cancelling t) (λ a. stepCancelling t a s) (λ q. refl),
+                (
+                  tabled (Phase.Refusing t) (λ a. stepRefusing t a s) (λ q. refl),
+                  (λ e. sym (handed t (s .seat .place)) ∙ e, tt),
+                ),
+              ),
+            ),
+          ))
+          f i
+      go false i =
+          λ e. ap (λ (b : Bool). cond b true (placeListed f (s .seat .place))) (sym i) ∙ off-place (s .seat .place) f
 
 -- Who does not hold in the count does not in the test.
 not-held : (f : Phase) → holding f ≡ 0 → not (isOneOf HUB-ONLY f) ≡ true

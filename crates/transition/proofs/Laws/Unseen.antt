@@ -9,9 +9,10 @@ use Rattle.hub.specs.declared.record.PlaceSlot.{PlaceSlot}
 use Rattle.hub.specs.Look.{withView}
 use Rattle.hub.specs.Moves.{Move, Refuse, Tell, Act, Put, Wake}
 use Rattle.hub.specs.Phases.{isWaiting}
-use Rattle.hub.specs.Table.{acquire, cancel, decide, release, stepIn, tellRadio}
-use Rattle.hub.proofs.Laws.Phases.{Each, ticketed}
-use Rattle.hub.proofs.Laws.Rows.{otherRows, others-alike, rowIn, rows-alike, step-row, testIn}
+use Rattle.hub.specs.Table.{Tests, acquire, cancel, decide, release, stepIn, tellRadio, testsOf}
+use Rattle.hub.proofs.Laws.Enums.{Each}
+use Rattle.hub.proofs.Laws.Phases.{ticketed}
+use Rattle.hub.proofs.Laws.Rows.{otherRows, others-alike, row-of, rowOf, rows-alike}
 
 -- Does a move change a place?
 abbrev pub touches : Move → Bool
@@ -41,17 +42,26 @@ module _ (a : PlaceSlot) (w : PartySlot) where
     blind : {x y : Move} {b : Bool} → _≡_ {A = Move × Bool} (x, b) (y, false) → (x ≡ y) × (b ≡ false)
     blind e = (ap (λ z. z .0) e, ap (λ z. z .1) e)
 
+    -- What the tests say there.
+    abbrev told : Tests → Tests
+    told v =
+        record {
+          above = v .above;
+          below = v .below;
+          stocked = v .stocked;
+          place = a .place;
+          waits = isWaiting (w .phase);
+        }
+
     stepping : (f : Phase) → ticketed f ≡ false → Blind (stepIn f) s
-    unfolding rowIn
+    unfolding rowOf
     stepping f e =
         let z =
         rows-alike {A = Move × Bool}
-        (λ f b v c. cond (ticketed f) (here (rowIn f b v c))
-        (rowIn f b (isWaiting (w .phase)) (a .place) (shown s), touches (rowIn f b v c s)))
-        (λ f b v c. here (rowIn f b v c)) (λ t q. refl)
-        f (testIn s f) (isWaiting (s .waiter .phase)) (s .seat .place) in
+        (λ f v. cond (ticketed f) (here (rowOf f v)) (rowOf f (told v) (shown s), touches (rowOf f v s)))
+        (λ f v. here (rowOf f v)) (λ t q. refl) f (testsOf s) in
         let y = blind (rw e at z) in
-        (step-row (shown s) f ∙ y .0 ∙ sym (step-row s f), ap touches (step-row s f) ∙ y .1)
+        (row-of f (testsOf (shown s)) (shown s) ∙ y .0 ∙ sym (row-of f (testsOf s) s), ap touches (row-of f (testsOf s) s) ∙ y .1)
 
     others : (x : Phase) (b c d : Bool) → Each (λ r. there r ≡ here r) (otherRows x b c d)
     unfolding acquire cancel release tellRadio

@@ -1,7 +1,7 @@
 -- `step_aborting` meets its contract: the test of the counter picks the row.
 use borrow.Author.Needs.{needs}
 use mathlib.Core.Path.{_∙_}
-use Rattle.hub.specs.Table.{belowZero, stepIn, stepAborting}
+use Rattle.hub.specs.Table.{belowZero, rowIn, stepAborting}
 use Rattle.effects.proofs.Laws.Counter.{sign}
 use Rattle.table.proofs.rows.step_aborting.Statement.{statement}
 use Rattle.table.proofs.rows.step_aborting.Tie as tie
@@ -13,7 +13,7 @@ given-requires : tie.Need-given-requires
 given-requires c κs = search needs
 
 returns : tie.Need-returns
-unfolding stepIn stepAborting
+unfolding rowIn stepAborting
 returns c =
     let b = c .before .before in
     let e = sign belowZero _ (b .before .before .pre) (b .below-zero .ensures) in
@@ -23,7 +23,7 @@ given-requires-2 : tie.Need-given-requires-2
 given-requires-2 c κs = search needs
 
 returns-2 : tie.Need-returns-2
-unfolding stepIn stepAborting
+unfolding rowIn stepAborting
 returns-2 c =
     let b = c .before .before in
     let e = sign belowZero _ (b .before .before .pre) (b .below-zero .ensures) in

@@ -3,7 +3,7 @@ use borrow.Author.Needs.{needs}
 use mathlib.Core.Path.{ap, _∙_}
 use Rattle.hub.specs.declared.answers.Answer.{Answer}
 use Rattle.hub.specs.declared.record.Phase.{Phase}
-use Rattle.hub.specs.Table.{belowZero, give, stepIn, stepReleasing}
+use Rattle.hub.specs.Table.{belowZero, give, rowIn, stepReleasing}
 use Rattle.effects.specs.Effect.{effectOf}
 use Rattle.effects.proofs.Laws.Counter.{sign}
 use Rattle.table.proofs.rows.step_releasing.Statement.{statement}
@@ -16,7 +16,7 @@ given-requires : tie.Need-given-requires
 given-requires c κs = search needs
 
 returns : tie.Need-returns
-unfolding stepIn stepReleasing
+unfolding rowIn stepReleasing
 returns c =
     let b = c .before .before in
     let e = sign belowZero _ (b .before .before .pre) (b .below-zero .ensures) in
@@ -29,7 +29,7 @@ given-requires-2 : tie.Need-given-requires-2
 given-requires-2 c κs = search needs
 
 returns-2 : tie.Need-returns-2
-unfolding stepIn stepReleasing
+unfolding rowIn stepReleasing
 returns-2 c =
     let b = c .before .before .before in
     let s = b .before .before .args .s in

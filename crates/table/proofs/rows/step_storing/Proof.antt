@@ -1,6 +1,6 @@
 -- `step_storing` meets its contract: the row has one case.
 use borrow.Author.Needs.{needs}
-use Rattle.hub.specs.Table.{stepIn, stepStoring}
+use Rattle.hub.specs.Table.{rowIn, stepStoring}
 use Rattle.table.proofs.rows.step_storing.Statement.{statement}
 use Rattle.table.proofs.rows.step_storing.Tie as tie
 
@@ -8,7 +8,7 @@ turned-requires : tie.Need-turned-requires
 turned-requires c κs = search needs
 
 returns : tie.Need-returns
-unfolding stepIn stepStoring
+unfolding rowIn stepStoring
 returns c = c .turned .ensures
 
 pub step-storing-spec : {M : Type 1} → statement M
