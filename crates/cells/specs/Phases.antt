@@ -1,5 +1,5 @@
 -- A phase as bytes: its name and its ticket; whether it has a mark stands elsewhere.
-use Prim.Native.Nat.{ℕ, _-_, _%_}
+use Prim.Native.Nat.{ℕ, _%_}
 use mathlib.Core.Bool.{cond}
 use mathlib.Core.List.{List, [], _∷_}
 use lib.Dec.{eqb, leb}
@@ -11,7 +11,7 @@ use Rattle.hub.specs.declared.record.Phase.the-variants.{Cancelling, Refusing, 
 use Rattle.hub.specs.declared.record.Phase.the-variants.{Resuming, ResumingAt, Fetching, Storing}
 use Rattle.hub.specs.declared.record.Phase.the-variants.{AcquiringMarked, SuspendingMarked, TicketedMarked}
 use Rattle.hub.specs.Basics.{bit}
-use Rattle.hub.specs.Phases.{isMarked, rank, ticketOf}
+use Rattle.hub.specs.Phases.{isMarked, isOneOf, rank, ticketOf}
 
 -- The phases in the order of their names, with their ticket t.
 abbrev pub namedPhases : ℕ → List Phase
@@ -36,6 +36,8 @@ marked f mark = cond (eqb (mark % 2) 0) f (withMark f)
 abbrev pub markOf : Phase → ℕ
 markOf f = bit (isMarked f)
 
--- The name of a phase. The last three are 3, 4 and 5 with a mark.
+-- The name of a phase. One with a mark has that of the phase without; what has none is written as asked.
 abbrev pub phaseName : Phase → ℕ
-phaseName f = cond (leb (rank f) 13) (rank f) (rank f - 11)
+phaseName f =
+    cond (isOneOf (SuspendingMarked ∷ []) f) 4
+    (cond (isOneOf (TicketedMarked 0 ∷ []) f) 5 (cond (leb (rank f) 13) (rank f) 3))

@@ -1,8 +1,6 @@
 // A phase by its name, its ticket and its mark.
 
 use hub::record::Phase;
-use phases::phase_rank;
-use phases::ticket;
 ghost use mathlib.Core.Path.{_≡_};
 ghost use Rattle.cells.specs.Phases.{markOf, marked, phaseName, phaseNamed};
 
@@ -29,15 +27,26 @@ pub fn phase_named(name: u8, t: u32) -> Phase
     }
 }
 
-// A mark stands elsewhere: with it the phases are the last three, without it 3, 4 and 5.
+// A mark stands elsewhere, and a phase with one has the name of the phase without. What has no name is written as asked.
 pub fn phase_name(phase: Phase) -> u8
     ensures { λ r. ⌜ r ≡ phaseName phase ⌝ }
 {
-    let rank = phase_rank(phase);
-    if rank <= 13 {
-        return rank;
+    match phase {
+        Phase::Free => 0,
+        Phase::Holding => 1,
+        Phase::Waiting(_) => 2,
+        Phase::Suspending | Phase::SuspendingMarked => 4,
+        Phase::Ticketed(_) | Phase::TicketedMarked(_) => 5,
+        Phase::Aborting(_) => 6,
+        Phase::Cancelling(_) => 7,
+        Phase::Refusing(_) => 8,
+        Phase::Releasing => 9,
+        Phase::Resuming => 10,
+        Phase::ResumingAt(_) => 11,
+        Phase::Fetching => 12,
+        Phase::Storing => 13,
+        _ => 3,
     }
-    rank - 11
 }
 
 // A phase with its mark. A mark counts in three phases, and there is none in the others.
@@ -47,17 +56,12 @@ pub fn marked(phase: Phase, mark: u8) -> Phase
     if mark % 2 == 0 {
         return phase;
     }
-    let rank = phase_rank(phase);
-    if rank == 3 {
-        return Phase::AcquiringMarked;
+    match phase {
+        Phase::Acquiring => Phase::AcquiringMarked,
+        Phase::Suspending => Phase::SuspendingMarked,
+        Phase::Ticketed(t) => Phase::TicketedMarked(t),
+        _ => phase,
     }
-    if rank == 4 {
-        return Phase::SuspendingMarked;
-    }
-    if rank == 5 {
-        return Phase::TicketedMarked(ticket(phase));
-    }
-    phase
 }
 
 pub fn mark_of(phase: Phase) -> u8

@@ -8,50 +8,63 @@ use hub::record::PartySlot;
 use hub::record::Phase;
 use hub::record::Place;
 use hub::record::PlaceSlot;
-use phases::phase_rank;
 use phases::place_rank;
 ghost use mathlib.Core.Path.{_≡_};
-ghost use mathlib.Core.List.{[], _∷_};
+ghost use lib.Dec.{eqb};
 ghost use Prim.Native.Nat.{_≤_};
-ghost use Rattle.hub.specs.Basics.{among, bit, count};
+ghost use Rattle.hub.specs.Basics.{bit, count};
 ghost use Rattle.hub.specs.Counts.{countsOf};
 ghost use Rattle.hub.specs.Ledger.{atCounter};
-ghost use Rattle.hub.specs.Phases.{drawsTicket, isOneOf, isPlaceOf};
+ghost use Rattle.hub.specs.Phases.{drawsTicket, placeRank};
 ghost use Rattle.hub.specs.Record.{phasesOf, placesOf};
+ghost use Rattle.counts.specs.Tallies.{tallyOf};
 
-// 1 if x is a, b, c or d.
-fn one_if(x: u8, a: u8, b: u8, c: u8, d: u8) -> u32
-    ensures { λ r. ⌜ r ≡ bit (among (a ∷ b ∷ c ∷ d ∷ []) x) ⌝ }
+// The tallies of parties: no phase is in two of them.
+const HELD: u8 = 1;
+
+const BRINGING: u8 = 2;
+
+const REFUSING: u8 = 3;
+
+const WAITING: u8 = 4;
+
+const DRAWING: u8 = 5;
+
+// The tally that counts a phase; 0 where none does.
+fn tally_of(phase: Phase) -> u8
+    ensures { λ r. ⌜ r ≡ tallyOf phase ⌝ }
+{
+    match phase {
+        Phase::Holding | Phase::Releasing | Phase::Fetching => HELD,
+        Phase::Resuming | Phase::ResumingAt(_) => BRINGING,
+        Phase::Refusing(_) => REFUSING,
+        Phase::Waiting(_) => WAITING,
+        Phase::Acquiring | Phase::Suspending | Phase::AcquiringMarked | Phase::SuspendingMarked =>
+            DRAWING,
+        _ => 0,
+    }
+}
+
+// 1 if x is a.
+fn one_if(x: u8, a: u8) -> u32
+    ensures { λ r. ⌜ r ≡ bit (eqb x a) ⌝ }
 {
     if x == a {
-        return 1;
-    }
-    if x == b {
-        return 1;
-    }
-    if x == c {
-        return 1;
-    }
-    if x == d {
         return 1;
     }
     0
 }
 
-// The parties in one of four phases, whatever their tickets.
-pub fn count_phases(slots: [PartySlot; 32], a: Phase, b: Phase, c: Phase, d: Phase) -> u32
-    ensures { λ r. ⌜ (r ≡ count (isOneOf (a ∷ b ∷ c ∷ d ∷ [])) (phasesOf slots)) × (r ≤ 32) ⌝ }
+// The parties of a tally.
+fn count_parties(slots: [PartySlot; 32], tally: u8) -> u32
+    ensures { λ r. ⌜ (r ≡ count (λ f. eqb (tallyOf f) tally) (phasesOf slots)) × (r ≤ 32) ⌝ }
 {
-    let first = phase_rank(a);
-    let second = phase_rank(b);
-    let third = phase_rank(c);
-    let fourth = phase_rank(d);
     let mut n: u32 = 0;
     let mut p: usize = 0;
     while p < 32 {
         let slot = slots[p];
         let phase = slot.phase;
-        n += one_if(phase_rank(phase), first, second, third, fourth);
+        n += one_if(tally_of(phase), tally);
         p += 1;
     }
     n
@@ -61,18 +74,12 @@ pub fn count_phases(slots: [PartySlot; 32], a: Phase, b: Phase, c: Phase, d: Pha
 pub fn count_drawing(slots: [PartySlot; 32]) -> u32
     ensures { λ r. ⌜ (r ≡ count drawsTicket (phasesOf slots)) × (r ≤ 32) ⌝ }
 {
-    count_phases(
-        slots,
-        Phase::Acquiring,
-        Phase::Suspending,
-        Phase::AcquiringMarked,
-        Phase::SuspendingMarked,
-    )
+    count_parties(slots, DRAWING)
 }
 
 // The places in one state, whoever waits there.
 fn count_places(places: [PlaceSlot; 256], a: Place) -> u32
-    ensures { λ r. ⌜ (r ≡ count (isPlaceOf (a ∷ a ∷ a ∷ a ∷ [])) (placesOf places)) × (r ≤ 256) ⌝ }
+    ensures { λ r. ⌜ (r ≡ count (λ x. eqb (placeRank x) (placeRank a)) (placesOf places)) × (r ≤ 256) ⌝ }
 {
     let state = place_rank(a);
     let mut n: u32 = 0;
@@ -80,7 +87,7 @@ fn count_places(places: [PlaceSlot; 256], a: Place) -> u32
     while i < 256 {
         let slot = places[i];
         let place = slot.place;
-        n += one_if(place_rank(place), state, state, state, state);
+        n += one_if(place_rank(place), state);
         i += 1;
     }
     n
@@ -101,36 +108,10 @@ pub fn counts(hub: Hub) -> Counts
 {
     let slots = hub.slots;
     let places = hub.places;
-    let bringing = count_phases(
-        slots,
-        Phase::Resuming,
-        Phase::ResumingAt(0),
-        Phase::ResumingAt(0),
-        Phase::ResumingAt(0),
-    );
-    let coming = bringing + count_places(places, Place::Permit);
-    let refusing = count_phases(
-        slots,
-        Phase::Refusing(0),
-        Phase::Refusing(0),
-        Phase::Refusing(0),
-        Phase::Refusing(0),
-    );
-    let declined = refusing + count_places(places, Place::Refused);
-    let held = count_phases(
-        slots,
-        Phase::Holding,
-        Phase::Releasing,
-        Phase::Fetching,
-        Phase::Fetching,
-    );
-    let waiting = count_phases(
-        slots,
-        Phase::Waiting(0),
-        Phase::Waiting(0),
-        Phase::Waiting(0),
-        Phase::Waiting(0),
-    );
+    let coming = count_parties(slots, BRINGING) + count_places(places, Place::Permit);
+    let declined = count_parties(slots, REFUSING) + count_places(places, Place::Refused);
+    let held = count_parties(slots, HELD);
+    let waiting = count_parties(slots, WAITING);
     let available = at_counter(hub.control.figures.counter);
     if declined <= coming {
         return Counts {

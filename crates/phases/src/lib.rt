@@ -4,30 +4,15 @@ use hub::record::Phase;
 use hub::record::Place;
 ghost use mathlib.Core.Path.{_≡_};
 ghost use mathlib.Core.Bool.{true, false};
-ghost use Rattle.hub.specs.Phases.{byTicket, hasRadio, ofRadios, placeRank, rank, ticketOf};
+ghost use Rattle.hub.specs.Phases.{atRest, byTicket, hasRadio, ofRadios, placeRank, ticketOf};
 
-// The index of a phase in the list of phases.
-pub fn phase_rank(phase: Phase) -> u8
-    ensures { λ r. ⌜ r ≡ rank phase ⌝ }
+// Free, holding or waiting.
+pub fn at_rest(phase: Phase) -> bool
+    ensures { λ r. ⌜ r ≡ atRest phase ⌝ }
 {
     match phase {
-        Phase::Free => 0,
-        Phase::Holding => 1,
-        Phase::Waiting(_) => 2,
-        Phase::Acquiring => 3,
-        Phase::Suspending => 4,
-        Phase::Ticketed(_) => 5,
-        Phase::Aborting(_) => 6,
-        Phase::Cancelling(_) => 7,
-        Phase::Refusing(_) => 8,
-        Phase::Releasing => 9,
-        Phase::Resuming => 10,
-        Phase::ResumingAt(_) => 11,
-        Phase::Fetching => 12,
-        Phase::Storing => 13,
-        Phase::AcquiringMarked => 14,
-        Phase::SuspendingMarked => 15,
-        Phase::TicketedMarked(_) => 16,
+        Phase::Free | Phase::Holding | Phase::Waiting(_) => true,
+        _ => false,
     }
 }
 

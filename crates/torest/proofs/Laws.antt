@@ -5,7 +5,7 @@ use mathlib.Core.Bool.{Bool, true, false, cond}
 use mathlib.Core.List.{List, [], _∷_}
 use native.Mathlib.Omega.{arith}
 use borrow.Author.Tests.{eqb-true}
-use lib.Dec.{eqb, ltb}
+use lib.Dec.{eqb}
 use lib.ListN.{length}
 use Rattle.hub.specs.declared.moves.Call.{Call}
 use Rattle.hub.specs.declared.record.Hub.{Hub}
@@ -14,27 +14,20 @@ use Rattle.hub.specs.declared.record.PartySlot.{PartySlot}
 use Rattle.hub.specs.Answers.{printed}
 use Rattle.hub.specs.Calls.{called}
 use Rattle.hub.specs.Calm.{rests, stepBy}
-use Rattle.hub.specs.Phases.{atRest, isOneOf, rank}
-use Rattle.hub.specs.Record.{PARTIES, readSlot}
+use Rattle.hub.specs.Phases.{atRest, isOneOf}
+use Rattle.hub.specs.Record.{PARTIES}
 use Rattle.hub.specs.Schedule.{entries, run}
 use Rattle.hub.proofs.Laws.Bools.{if-false, if-true}
-use Rattle.hub.proofs.Laws.Phases.{phases-alike}
 use Rattle.hub.proofs.Laws.Slots.{past-slots}
 use Rattle.operations.specs.declared.Operated.{Operated}
 use Rattle.operations.specs.Operation.{MOST-STEPS, operated, stepsFrom, stepsOf, turnsDown, wokenIn}
 use Rattle.torest.specs.declared.Walked.{Walked}
 use Rattle.torest.specs.Walked.{walked}
 
--- A party past the slots is at rest, and so is one whose phase is one of the first three.
+-- A party past the slots is at rest.
 pub past : (h : Hub) (p : ℕ) → length (h .slots) ≡ PARTIES → PARTIES ≤ p → true ≡ rests h p
 unfolding isOneOf
 past h p n i = sym (ap (λ (s : PartySlot). atRest (s .phase)) (past-slots (h .slots) n p i))
-
-pub by-rank : (h : Hub) (p r : ℕ) → r ≡ rank (readSlot (h .slots) p .phase) → ltb r 3 ≡ rests h p
-unfolding isOneOf
-by-rank h p r e =
-    ap (λ (n : ℕ). ltb n 3) e
-    ∙ phases-alike (λ f. ltb (rank f) 3) atRest (λ u. refl) (readSlot (h .slots) p .phase)
 
 -- The first of two that is not FF.
 abbrev pub firstOf : ℕ → ℕ → ℕ

@@ -5,7 +5,7 @@ use hub::answers::Answer;
 use hub::moves::Op;
 use hub::record::Hub;
 use operations::Operated;
-use phases::phase_rank;
+use phases::at_rest;
 use step::calls::call;
 use step::calls::step;
 ghost use mathlib.Core.Path.{_≡_};
@@ -32,7 +32,7 @@ fn rests(hub: Hub, party: u8) -> bool
     }
     let slot = hub.slots[party as usize];
     let phase = slot.phase;
-    phase_rank(phase) < 3
+    at_rest(phase)
 }
 
 // Whom an answer shows as woken; FF if nobody.

@@ -1,43 +1,54 @@
 -- The figures of a record, from the counts that the code makes.
 use Prim.Native.Nat.{ℕ, _+_, _-_}
 use mathlib.Core.Path.{_≡_, refl, ap, ap₂, _∙_}
-use mathlib.Core.Bool.{Bool, true, false, _||_}
-use mathlib.Core.List.{List, [], _∷_, _++_, map}
+use mathlib.Core.Bool.{Bool}
+use mathlib.Core.List.{List}
 use lib.Dec.{eqb}
 use Rattle.hub.specs.declared.record.Hub.{Hub}
 use Rattle.hub.specs.declared.record.Phase.{Phase}
-use Rattle.hub.specs.declared.record.Phase.the-variants.{Holding, Waiting, Refusing, Releasing}
-use Rattle.hub.specs.declared.record.Phase.the-variants.{Resuming, ResumingAt, Fetching}
 use Rattle.hub.specs.declared.record.Place.{Place}
 use Rattle.hub.specs.declared.record.Place.the-variants.{Permit, Refused}
-use Rattle.hub.specs.Basics.{among, bit, count}
+use Rattle.hub.specs.Basics.{bit, count}
 use Rattle.hub.specs.Counts.{countsOf}
 use Rattle.hub.specs.Ledger.{atCounter}
-use Rattle.hub.specs.Phases.{isOneOf, isPlaceOf, rank, placeRank}
+use Rattle.hub.specs.Phases.{drawsTicket, holds, isOneOf, isPermit, isPlaceOf, isRefused, isWaiting, placeRank}
+use Rattle.hub.specs.Phases.{refuses, resumes}
 use Rattle.hub.specs.Record.{phasesOf, placesOf}
 use Rattle.hub.proofs.Laws.Lists.{weight-same}
+use Rattle.hub.proofs.Laws.Phases.{phases-alike, places-alike}
+use Rattle.counts.specs.Tallies.{tallyOf}
 
--- A key named again changes no count, be it of phases or of places.
-module _ {X : Type 0} (key : X → ℕ) where
-  abbrev counted : List X → List X → ℕ
-  counted ks = count (λ x. among (map key ks) (key x))
+-- The parties of a tally are those that the definition counts, and so with the places.
+module _ (l : List Phase) where
+  abbrev Tallied : ℕ → (Phase → Bool) → Type 0
+  Tallied k g = count (λ f. eqb (tallyOf f) k) l ≡ count g l
 
-  tested : (ks : List X) (k x : X)
-      → among (map key (ks ++ (k ∷ k ∷ []))) (key x) ≡ among (map key (ks ++ (k ∷ []))) (key x)
-  tested [] k x = twice (eqb (key x) (key k))
-    where
-      twice : (b : Bool) → b || (b || false) ≡ b || false
-      twice true = refl
-      twice false = refl
-  tested (j ∷ ks) k x = ap (λ (b : Bool). eqb (key x) (key j) || b) (tested ks k x)
+  tallied : (k : ℕ) (g : Phase → Bool) → ((f : Phase) → eqb (tallyOf f) k ≡ g f) → Tallied k g
+  tallied k g e = weight-same (λ f. bit (eqb (tallyOf f) k)) (λ f. bit (g f)) (λ f. ap bit (e f)) l
 
-  again : (ks : List X) (k : X) (l : List X) → counted (ks ++ (k ∷ k ∷ [])) l ≡ counted (ks ++ (k ∷ [])) l
-  again ks k l =
-      weight-same (λ x. bit (among (map key (ks ++ (k ∷ k ∷ []))) (key x)))
-      (λ x. bit (among (map key (ks ++ (k ∷ []))) (key x))) (λ x. ap bit (tested ks k x)) l
+  holding : Tallied 1 holds
+  unfolding isOneOf
+  holding = tallied 1 holds (phases-alike (λ f. eqb (tallyOf f) 1) holds (λ t. refl))
 
-  once : (k : X) (l : List X) → counted (k ∷ k ∷ k ∷ k ∷ []) l ≡ counted (k ∷ []) l
-  once k l = again (k ∷ k ∷ []) k l ∙ again (k ∷ []) k l ∙ again [] k l
+  bringing : Tallied 2 resumes
+  unfolding isOneOf
+  bringing = tallied 2 resumes (phases-alike (λ f. eqb (tallyOf f) 2) resumes (λ t. refl))
+
+  refusing : Tallied 3 refuses
+  unfolding isOneOf
+  refusing = tallied 3 refuses (phases-alike (λ f. eqb (tallyOf f) 3) refuses (λ t. refl))
+
+  waiting : Tallied 4 isWaiting
+  unfolding isOneOf
+  waiting = tallied 4 isWaiting (phases-alike (λ f. eqb (tallyOf f) 4) isWaiting (λ t. refl))
+
+  pub drawing : Tallied 5 drawsTicket
+  unfolding isOneOf
+  drawing = tallied 5 drawsTicket (phases-alike (λ f. eqb (tallyOf f) 5) drawsTicket (λ t. refl))
+
+in-state : (a : Place) (g : Place → Bool) → ((x : Place) → eqb (placeRank x) (placeRank a) ≡ g x)
+    → (l : List Place) → count (λ x. eqb (placeRank x) (placeRank a)) l ≡ count g l
+in-state a g e = weight-same (λ x. bit (eqb (placeRank x) (placeRank a))) (λ x. bit (g x)) (λ x. ap bit (e x))
 
 module _ (h : Hub) (c₁ c₂ d₁ d₂ g v w x : ℕ) where
   abbrev phases : List Phase
@@ -46,36 +57,34 @@ module _ (h : Hub) (c₁ c₂ d₁ d₂ g v w x : ℕ) where
   abbrev places : List Place
   places = placesOf (h .places)
 
-  pub shown : c₁ ≡ count (isOneOf (Resuming ∷ ResumingAt 0 ∷ ResumingAt 0 ∷ ResumingAt 0 ∷ [])) phases
-      → c₂ ≡ count (isPlaceOf (Permit ∷ Permit ∷ Permit ∷ Permit ∷ [])) places
-      → d₁ ≡ count (isOneOf (Refusing 0 ∷ Refusing 0 ∷ Refusing 0 ∷ Refusing 0 ∷ [])) phases
-      → d₂ ≡ count (isPlaceOf (Refused ∷ Refused ∷ Refused ∷ Refused ∷ [])) places
-      → g ≡ count (isOneOf (Holding ∷ Releasing ∷ Fetching ∷ Fetching ∷ [])) phases
+  pub shown : c₁ ≡ count (λ f. eqb (tallyOf f) 2) phases
+      → c₂ ≡ count (λ x. eqb (placeRank x) (placeRank Permit)) places
+      → d₁ ≡ count (λ f. eqb (tallyOf f) 3) phases
+      → d₂ ≡ count (λ x. eqb (placeRank x) (placeRank Refused)) places
+      → g ≡ count (λ f. eqb (tallyOf f) 1) phases
       → v ≡ atCounter (h .control .figures .counter)
-      → w ≡ count (isOneOf (Waiting 0 ∷ Waiting 0 ∷ Waiting 0 ∷ Waiting 0 ∷ [])) phases
+      → w ≡ count (λ f. eqb (tallyOf f) 4) phases
       → x ≡ (c₁ + c₂) - (d₁ + d₂)
       → record
       { held = g; available = v; coming = c₁ + c₂; declined = d₁ + d₂; onway = x; waiting = w }
       ≡ countsOf h
-  unfolding countsOf isOneOf isPlaceOf
+  unfolding countsOf isPlaceOf
   shown ec₁ ec₂ ed₁ ed₂ eg ev ew ex = λ i.
       record {
-        held = (eg ∙ again rank (Holding ∷ Releasing ∷ []) Fetching phases) i;
+        held = (eg ∙ holding phases) i;
         available = ev i;
         coming = coming i;
         declined = declined i;
         onway = (ex ∙ ap₂ _-_ coming declined) i;
-        waiting = (ew ∙ once rank (Waiting 0) phases) i;
+        waiting = (ew ∙ waiting phases) i;
       }
     where
-      coming : c₁ + c₂
-          ≡ count (isOneOf (Resuming ∷ ResumingAt 0 ∷ [])) phases + count (isPlaceOf (Permit ∷ [])) places
+      coming : c₁ + c₂ ≡ count resumes phases + count isPermit places
       coming =
-          ap₂ _+_
-          (ec₁ ∙ again rank (Resuming ∷ ResumingAt 0 ∷ []) (ResumingAt 0) phases
-          ∙ again rank (Resuming ∷ []) (ResumingAt 0) phases)
-          (ec₂ ∙ once placeRank Permit places)
+          ap₂ _+_ (ec₁ ∙ bringing phases)
+          (ec₂ ∙ in-state Permit isPermit (places-alike (λ x. eqb (placeRank x) (placeRank Permit)) isPermit (λ q. refl)) places)
 
-      declined : d₁ + d₂
-          ≡ count (isOneOf (Refusing 0 ∷ [])) phases + count (isPlaceOf (Refused ∷ [])) places
-      declined = ap₂ _+_ (ed₁ ∙ once rank (Refusing 0) phases) (ed₂ ∙ once placeRank Refused places)
+      declined : d₁ + d₂ ≡ count refuses phases + count isRefused places
+      declined =
+          ap₂ _+_ (ed₁ ∙ refusing phases)
+          (ed₂ ∙ in-state Refused isRefused (places-alike (λ x. eqb (placeRank x) (placeRank Refused)) isRefused (λ q. refl)) places)

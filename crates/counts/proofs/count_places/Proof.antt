@@ -1,13 +1,13 @@
 -- `count_places` meets its contract: what is counted and what is left come to the whole.
 use borrow.Author.Needs.{needs}
 use mathlib.Core.Path.{sym, ap, _∙_}
-use mathlib.Core.List.{[], _∷_}
 use native.Mathlib.Omega.{arith}
+use lib.Dec.{eqb}
 use Prim.Native.Nat.{ℕ, _-_}
 use Rattle.hub.specs.declared.record.PlaceSlot.{PlaceSlot}
 use Rattle.hub.specs.declared.record.Place.{Place}
-use Rattle.hub.specs.Basics.{among, bit, weight}
-use Rattle.hub.specs.Phases.{isPlaceOf, placeRank}
+use Rattle.hub.specs.Basics.{bit, weight}
+use Rattle.hub.specs.Phases.{placeRank}
 use Rattle.hub.specs.Record.{emptySeat, placesOf}
 use Rattle.hub.proofs.Laws.Lists.{weight-map}
 use Rattle.counts.proofs.Laws.Counting.{Counting, bit-most, counting-on, counting-all}
@@ -16,7 +16,7 @@ use Rattle.counts.proofs.count_places.Tie as tie
 
 abbrev Inv-loop : tie.InvT-loop
 Inv-loop places state n₀ i₀ n i =
-    Counting (λ (s : PlaceSlot). among (state ∷ state ∷ state ∷ state ∷ []) (placeRank (s .place))) places 256 i n
+    Counting (λ (s : PlaceSlot). eqb (placeRank (s .place)) state) places 256 i n
 
 abbrev μ-loop : tie.MeasureT-loop
 μ-loop places state n₀ i₀ n i = 256 - i
@@ -49,7 +49,7 @@ add-n c =
       c .one-if .ensures,
       l .loop .inv .few,
       l .loop .inv .within,
-      bit-most (among (s ∷ s ∷ s ∷ s ∷ []) (c .before .place-rank2 .result)),
+      bit-most (eqb (c .before .place-rank2 .result) s),
     )
 
 add-i : tie.Need-add-i Inv-loop μ-loop
@@ -63,16 +63,14 @@ loop-again c =
     let l = c .before .before .before .before in
     let s = l .before .place-rank .result in
     counting-on _ _ _ _ _ (l .loop .inv) emptySeat _ (c .before .before .before .loop-test .taken)
-    (c .one-if .ensures
-    ∙ ap (λ (x : ℕ). bit (among (s ∷ s ∷ s ∷ s ∷ []) x)) (c .before .place-rank2 .ensures))
+    (c .one-if .ensures ∙ ap (λ (x : ℕ). bit (eqb x s)) (c .before .place-rank2 .ensures))
 
 returns : tie.Need-returns Inv-loop μ-loop
-unfolding isPlaceOf
 returns c =
     let i = c .before .loop .inv in
     let b = c .before .before in
     let a = b .before .args in
-    let passing : ℕ → Place → ℕ = λ x f. bit (among (x ∷ x ∷ x ∷ x ∷ []) (placeRank f)) in (
+    let passing : ℕ → Place → ℕ = λ x f. bit (eqb (placeRank f) x) in (
       counting-all _ _ _ _ _ i (c .loop-test .left)
           ∙ sym (weight-map (passing (b .place-rank .result)) (λ (s : PlaceSlot). s .place) (a .t1))
           ∙ ap (λ (x : ℕ). weight (passing x) (placesOf (a .t1))) (b .place-rank .ensures),

@@ -4,7 +4,7 @@ use mathlib.Core.Path.{_≡_}
 use lib.ListN.{length}
 use Rattle.hub.specs.Record.{readSlot}
 use Rattle.hub.proofs.Laws.Lists.{mapped-size}
-use Rattle.torest.proofs.Laws.{past, by-rank}
+use Rattle.torest.proofs.Laws.{past}
 use Rattle.torest.proofs.rests.Statement.{statement}
 use Rattle.torest.proofs.rests.Tie as tie
 
@@ -20,13 +20,13 @@ mul-slot c = search needs
 element-copy-out-slot : tie.Need-element-copy-out-slot
 element-copy-out-slot c = search needs
 
-phase-rank-requires : tie.Need-phase-rank-requires
-phase-rank-requires c κs = search needs
+at-rest-requires : tie.Need-at-rest-requires
+at-rest-requires c κs = search needs
 
 returns-2 : tie.Need-returns-2
 unfolding readSlot
-returns-2 c = by-rank (c .before .before .before .args .t1) _ _ (c .phase-rank .ensures)
+returns-2 c = c .at-rest .ensures
 
 pub rests-spec : {M : Type 1} → statement M
 rests-spec =
-    tie.close (tie.spec returns mul-slot element-copy-out-slot phase-rank-requires returns-2)
+    tie.close (tie.spec returns mul-slot element-copy-out-slot at-rest-requires returns-2)
