@@ -11,7 +11,7 @@ use Rattle.hub.specs.Record.{PARTIES}
 use Rattle.screen.specs.declared.record.Line.{Line}
 use Rattle.screen.specs.Moves.{noLine}
 use Rattle.deskfeed.specs.declared.session.Session.{Session}
-use Rattle.deskline.specs.Replies.{askedBy, replyTo}
+use Rattle.deskreply.specs.Replies.{askedBy, replyTo}
 use Rattle.deskline.specs.Text.{lineText}
 
 -- What is printed for requests from a line on, and the line that they leave.

@@ -1,7 +1,7 @@
 // A run over an input that comes in pieces.
 
-use deskline::reply::reply_to;
 use deskline::text::put_line_text;
+use deskreply::reply_to;
 use openhub::sized;
 use reader::KEPT;
 use reader::Reader;

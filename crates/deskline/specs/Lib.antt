@@ -1,3 +1,2 @@
--- M-110, the desk program: a line of output for a line of input.
-pub mod Replies  -- what a line is answered
-pub mod Text  -- how that is printed
+-- M-110, the desk program: how an answer is printed.
+pub mod Text

@@ -7,7 +7,7 @@ use lib.ListN.{length, take, drop}
 use Rattle.encoding.specs.Hex.{hexOf}
 use Rattle.screen.specs.declared.record.Line.{Line}
 use Rattle.screen.specs.Line.{holders, waiters}
-use Rattle.deskline.specs.declared.reply.DeskReply.{DeskReply}
+use Rattle.deskreply.specs.declared.DeskReply.{DeskReply}
 
 abbrev pub SPACE : ℕ
 SPACE = 0x20

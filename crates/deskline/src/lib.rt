@@ -1,5 +1,4 @@
-// The desk program's lines: what each line of its input is answered, and how that is printed.
+// How the desk program's answers are printed, a line each.
 
-pub mod reply; // what a line is answered
 mod digits; // words and numbers as characters
 pub mod text; // an answer as a line

@@ -4,7 +4,7 @@ use crate::digits::put_char;
 use crate::digits::put_decimal;
 use crate::digits::put_hex;
 use crate::digits::put_word;
-use crate::reply::DeskReply;
+use deskreply::DeskReply;
 use screen::Line;
 ghost use mathlib.Core.Path.{_≡_};
 ghost use mathlib.Core.List.{[], _∷_};

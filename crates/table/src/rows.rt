@@ -194,6 +194,7 @@ pub fn decide_step(s: Sight) -> Effect
     let slot = s.slot;
     let phase = slot.phase;
     match phase {
+        Phase::Free | Phase::Holding | Phase::Waiting(_) => refused(Refusal::AtRest, s),
         Phase::Acquiring => step_acquiring(Phase::Suspending, s),
         Phase::Suspending => step_suspending(s),
         Phase::Ticketed(t) => step_ticketed(Phase::Waiting(t), t, s),
@@ -208,6 +209,5 @@ pub fn decide_step(s: Sight) -> Effect
         Phase::AcquiringMarked => step_acquiring(Phase::SuspendingMarked, s),
         Phase::SuspendingMarked => step_suspending_marked(s),
         Phase::TicketedMarked(t) => step_ticketed(Phase::Aborting(t), t, s),
-        _ => refused(Refusal::AtRest, s),
     }
 }

@@ -22,11 +22,11 @@ use Rattle.screen.specs.Moves.{lineMove, lineOpening, noLine}
 use Rattle.screen.proofs.Laws.Answers.{unfit}
 use Rattle.screen.proofs.Laws.Fit.{fit}
 use Rattle.screen.proofs.Reached.Moved.{move-sound}
-use Rattle.deskline.specs.declared.reply.DeskReply.{DeskReply}
+use Rattle.deskreply.specs.declared.DeskReply.{DeskReply}
 use Rattle.deskfeed.specs.declared.session.Fed.{Fed}
 use Rattle.deskfeed.specs.declared.session.Session.{Session}
-use Rattle.deskline.specs.Replies.{Asked, anOpening, anOperation, askedBy, isOpenLine, nothing, openingReply}
-use Rattle.deskline.specs.Replies.{operationReply, replyTo}
+use Rattle.deskreply.specs.Replies.{Asked, anOpening, anOperation, askedBy, isOpenLine, nothing, openingReply}
+use Rattle.deskreply.specs.Replies.{operationReply, replyTo}
 use Rattle.deskfeed.specs.Session.{Printable, Sound, fed, left, said, told}
 use Rattle.deskline.specs.Text.{LONGEST-TEXT, lineText, putAt}
 use Rattle.deskline.proofs.Laws.PutAt.{Written, from-start, next as then, none, put-at-length}

@@ -16,7 +16,7 @@ use Rattle.screen.specs.declared.record.Line.{Line}
 use Rattle.screen.specs.Moves.{noLine}
 use Rattle.deskfeed.specs.declared.session.Fed.{Fed}
 use Rattle.deskfeed.specs.declared.session.Session.{Session}
-use Rattle.deskline.specs.Replies.{askedBy, replyTo}
+use Rattle.deskreply.specs.Replies.{askedBy, replyTo}
 use Rattle.deskfeed.specs.Session.{InPieces, Printable, Sound, atStart, fed, finished, left, outputOf, said}
 use Rattle.deskfeed.specs.Session.{told, toldAll}
 use Rattle.deskline.specs.Text.{LONGEST-TEXT, lineText}

@@ -7,7 +7,7 @@ use Prim.Native.Nat.{ℕ, _-_}
 use lib.ListN.{length}
 use Rattle.reader.proofs.Laws.Pieces.{whole}
 use Rattle.line.specs.Requests.{requestOf}
-use Rattle.deskline.specs.Replies.{askedBy, replyTo}
+use Rattle.deskreply.specs.Replies.{askedBy, replyTo}
 use Rattle.deskfeed.proofs.Laws.Feeding.{Upto, char-kept, char-lost, finished, line-end, line-room}
 use Rattle.deskfeed.proofs.Laws.Feeding.{reply-printable, start}
 use Rattle.deskfeed.proofs.session.feed.Statement.{statement}

@@ -21,8 +21,7 @@ unfolding rowIn
 decide-step-spec =
     tie.close
     (tie.spec
-    -- each arm is told its phase, and calls its row
-    (λ c. search needs)
+    -- each arm calls its row; but for the first it is told its phase
     (λ c κs. search needs)
     (λ c. search needs)
     (λ c κs. search needs)
@@ -50,8 +49,14 @@ decide-step-spec =
     (λ c κs. search needs)
     (λ c. search needs)
     (λ c κs. search needs)
+    (λ c. search needs)
     (λ c κs. search needs)
     -- what the arms return, in the code's order
+    (λ c.
+    let s = c .before .before .before .args .s in
+    c .refused .ensures
+    ∙ ap (λ (m : Move). effectOf m s)
+    (phase-arm (0 ∷ 1 ∷ 2 ∷ []) (λ f. stepIn f s) (s .slot .phase) refl (c .before .match .keys1)))
     (λ c. in-phase (c .before .before .before .before .args .s) (c .before .enum-told .given .1) (c .step-acquiring .ensures))
     (λ c. in-phase (c .before .before .before .before .args .s) (c .before .enum-told2 .given .1) (c .step-suspending .ensures))
     (λ c. in-phase (c .before .before .before .before .before .args .s) (c .before .before .phase .given .1) (c .step-ticketed .ensures))
@@ -65,9 +70,4 @@ decide-step-spec =
     (λ c. in-phase (c .before .before .before .before .args .s) (c .before .enum-told6 .given .1) (c .step-storing .ensures))
     (λ c. in-phase (c .before .before .before .before .args .s) (c .before .enum-told7 .given .1) (c .step-acquiring2 .ensures))
     (λ c. in-phase (c .before .before .before .before .args .s) (c .before .enum-told8 .given .1) (c .step-suspending-marked .ensures))
-    (λ c. in-phase (c .before .before .before .before .before .args .s) (c .before .before .phase6 .given .1) (c .step-ticketed2 .ensures))
-    (λ c.
-    let s = c .before .before .before .args .s in
-    c .refused .ensures
-    ∙ ap (λ (m : Move). effectOf m s)
-    (phase-arm (0 ∷ 1 ∷ 2 ∷ []) (λ f. stepIn f s) (s .slot .phase) refl (c .before .match .keys15))))
+    (λ c. in-phase (c .before .before .before .before .before .args .s) (c .before .before .phase6 .given .1) (c .step-ticketed2 .ensures)))

@@ -14,8 +14,8 @@ use Rattle.screen.specs.declared.record.Moved.{Moved}
 use Rattle.screen.specs.declared.record.Operation.{Operation}
 use Rattle.screen.specs.Moves.{lineMove, lineOpening}
 use Rattle.screen.specs.Steps.{stepsToRest}
-use Rattle.deskline.specs.declared.reply.DeskReply.{DeskReply}
-use Rattle.deskline.specs.Replies.{askedBy, codeReply, isOpenLine, openingReply, operationReply, replyTo}
+use Rattle.deskreply.specs.declared.DeskReply.{DeskReply}
+use Rattle.deskreply.specs.Replies.{askedBy, codeReply, isOpenLine, openingReply, operationReply, replyTo}
 
 -- An opening.
 pub is-opening : (q : Request) → headerOf q .code ≡ 0x01 → isOpening q ≡ true

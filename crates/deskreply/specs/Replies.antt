@@ -10,7 +10,7 @@ use Rattle.screen.specs.declared.record.Line.{Line}
 use Rattle.screen.specs.declared.record.Operation.{Operation}
 use Rattle.screen.specs.Moves.{lineMove, lineOpening}
 use Rattle.screen.specs.Steps.{stepsToRest}
-use Rattle.deskline.specs.declared.reply.DeskReply.{DeskReply}
+use Rattle.deskreply.specs.declared.DeskReply.{DeskReply}
 
 -- What a line asks of the screen: nothing, which is refused by 12, an opening, or an operation.
 pub data Asked : Type 0 where

@@ -2,9 +2,9 @@
 use borrow.Author.Needs.{needs}
 use borrow.Author.Tests.{not-false, not-true}
 use mathlib.Core.Path.{sym, _∙_}
-use Rattle.deskline.proofs.Laws.Replies.{does, not-yet}
-use Rattle.deskline.proofs.reply.operation_reply.Statement.{statement}
-use Rattle.deskline.proofs.reply.operation_reply.Tie as tie
+use Rattle.deskreply.proofs.Laws.Replies.{does, not-yet}
+use Rattle.deskreply.proofs.operation_reply.Statement.{statement}
+use Rattle.deskreply.proofs.operation_reply.Tie as tie
 
 is-open-line-requires : tie.Need-is-open-line-requires
 is-open-line-requires c κs = search needs

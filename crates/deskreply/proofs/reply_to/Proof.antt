@@ -4,11 +4,11 @@ use mathlib.Core.Path.{sym, ap, _∙_}
 use Rattle.line.specs.declared.request.Header.{Header}
 use Rattle.line.specs.Requests.{requestOf}
 use Rattle.screen.specs.declared.record.Operation.{Operation}
-use Rattle.deskline.specs.Replies.{operationReply}
-use Rattle.deskline.proofs.Laws.Replies.{asks, asks-nothing, first-opening}
-use Rattle.deskline.proofs.Laws.Replies.{gives-back, gives-up, is-opening, second-opening}
-use Rattle.deskline.proofs.reply.reply_to.Statement.{statement}
-use Rattle.deskline.proofs.reply.reply_to.Tie as tie
+use Rattle.deskreply.specs.Replies.{operationReply}
+use Rattle.deskreply.proofs.Laws.Replies.{asks, asks-nothing, first-opening}
+use Rattle.deskreply.proofs.Laws.Replies.{gives-back, gives-up, is-opening, second-opening}
+use Rattle.deskreply.proofs.reply_to.Statement.{statement}
+use Rattle.deskreply.proofs.reply_to.Tie as tie
 
 read-header-requires : tie.Need-read-header-requires
 read-header-requires c κs = search needs

@@ -1,9 +1,9 @@
 -- `opening_reply` meets its contract: the code of the answer, and the line.
 use borrow.Author.Needs.{needs}
 use mathlib.Core.Path.{_∙_}
-use Rattle.deskline.proofs.Laws.Replies.{opens}
-use Rattle.deskline.proofs.reply.opening_reply.Statement.{statement}
-use Rattle.deskline.proofs.reply.opening_reply.Tie as tie
+use Rattle.deskreply.proofs.Laws.Replies.{opens}
+use Rattle.deskreply.proofs.opening_reply.Statement.{statement}
+use Rattle.deskreply.proofs.opening_reply.Tie as tie
 
 open-line-requires : tie.Need-open-line-requires
 open-line-requires c κs = search needs

@@ -1,4 +1,4 @@
-// What a line is answered: 12, then 13, then the operation's own.
+// What a line of the desk program is answered: 12, then 13, then the operation's own.
 
 use encoding::answer::print_of;
 use hub::opening::Opening;
@@ -12,7 +12,7 @@ use screenmove::open_line;
 use screensteps::steps_to_rest;
 ghost use mathlib.Core.Path.{_≡_};
 ghost use Rattle.line.specs.Requests.{requestOf};
-ghost use Rattle.deskline.specs.Replies.{askedBy, codeReply, isOpenLine, openingReply, operationReply, replyTo};
+ghost use Rattle.deskreply.specs.Replies.{askedBy, codeReply, isOpenLine, openingReply, operationReply, replyTo};
 
 pub struct DeskReply {
     pub code: u8,

@@ -1,0 +1,2 @@
+-- Working forms of the definitions.
+pub mod Replies
