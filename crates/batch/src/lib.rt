@@ -34,7 +34,7 @@ pub struct Parts {
     pub pool: Pool,
 }
 
-// Answers the first `count` requests, of two bytes each, in a form whose replies have this width. A record's parts are its
+// Answers the first `count` requests, of two bytes each, in a form. A record's parts are its
 // parameters, so that nothing but the loop is in the function, which is dear to prove.
 pub fn answer_in_turn(
     opening: Opening,
@@ -46,13 +46,11 @@ pub fn answer_in_turn(
     requests: &[u8],
     count: usize,
     form: bool,
-    width: usize,
     out: &mut [u8],
 ) -> Parts
     requires { ⌜ Reachable (ofParts opening figures ring slots pool) ⌝ }
     requires { ⌜ Pairs (now pairs) ⌝ }
     requires { ⌜ 2 * count ≤ length (now requests) ⌝ }
-    requires { ⌜ width ≡ replySize (formOf form) ⌝ }
     requires { ⌜ replySize (formOf form) * count ≤ length (now out) ⌝ }
     ensures { λ r. ⌜ (ofParts opening (r .figures) (r .ring) (r .slots) (r .pool)
         ≡ after (ofParts opening figures ring slots pool) (requestsIn count (now (requests .entry))))
@@ -65,7 +63,7 @@ pub fn answer_in_turn(
     while i < count {
         let a = admit_at(requests, i, opening.parties);
         if !a.admitted {
-            put_refusal(pairs, out, width * i, form, a);
+            put_refusal(pairs, out, i, form, a);
             i += 1;
             continue;
         }
@@ -99,7 +97,7 @@ pub fn answer_in_turn(
         figures = e.figures;
         let put = e.seat;
         ring.places[t] = put;
-        put_answer(pairs, out, width * i, form, party, e);
+        put_answer(pairs, out, i, form, party, e);
         i += 1;
         if opening.named {
             pool = radios_after(e, party, pool);

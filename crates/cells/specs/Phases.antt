@@ -36,7 +36,7 @@ marked f mark = cond (eqb (mark % 2) 0) f (withMark f)
 abbrev pub markOf : Phase → ℕ
 markOf f = bit (isMarked f)
 
--- The name of a phase. One with a mark has that of the phase without; what has none is written as asked.
+-- The name of a phase. One with a mark has that of the phase without; a phase that has no name is written as asked.
 abbrev pub phaseName : Phase → ℕ
 phaseName f =
     cond (isOneOf (SuspendingMarked ∷ []) f) 4

@@ -27,7 +27,7 @@ pub fn phase_named(name: u8, t: u32) -> Phase
     }
 }
 
-// A mark stands elsewhere, and a phase with one has the name of the phase without. What has no name is written as asked.
+// A mark stands elsewhere, and a phase with one has the name of the phase without. A phase that has no name is written as asked.
 pub fn phase_name(phase: Phase) -> u8
     ensures { λ r. ⌜ r ≡ phaseName phase ⌝ }
 {

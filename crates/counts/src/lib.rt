@@ -20,27 +20,27 @@ ghost use Rattle.hub.specs.Record.{phasesOf, placesOf};
 ghost use Rattle.counts.specs.Tallies.{tallyOf};
 
 // The tallies of parties: no phase is in two of them.
-const HELD: u8 = 1;
+const TALLY_HELD: u8 = 1;
 
-const BRINGING: u8 = 2;
+const TALLY_BRINGING: u8 = 2;
 
-const REFUSING: u8 = 3;
+const TALLY_REFUSING: u8 = 3;
 
-const WAITING: u8 = 4;
+const TALLY_WAITING: u8 = 4;
 
-const DRAWING: u8 = 5;
+const TALLY_DRAWING: u8 = 5;
 
 // The tally that counts a phase; 0 where none does.
 fn tally_of(phase: Phase) -> u8
     ensures { λ r. ⌜ r ≡ tallyOf phase ⌝ }
 {
     match phase {
-        Phase::Holding | Phase::Releasing | Phase::Fetching => HELD,
-        Phase::Resuming | Phase::ResumingAt(_) => BRINGING,
-        Phase::Refusing(_) => REFUSING,
-        Phase::Waiting(_) => WAITING,
+        Phase::Holding | Phase::Releasing | Phase::Fetching => TALLY_HELD,
+        Phase::Resuming | Phase::ResumingAt(_) => TALLY_BRINGING,
+        Phase::Refusing(_) => TALLY_REFUSING,
+        Phase::Waiting(_) => TALLY_WAITING,
         Phase::Acquiring | Phase::Suspending | Phase::AcquiringMarked | Phase::SuspendingMarked =>
-            DRAWING,
+            TALLY_DRAWING,
         _ => 0,
     }
 }
@@ -74,7 +74,7 @@ fn count_parties(slots: [PartySlot; 32], tally: u8) -> u32
 pub fn count_drawing(slots: [PartySlot; 32]) -> u32
     ensures { λ r. ⌜ (r ≡ count drawsTicket (phasesOf slots)) × (r ≤ 32) ⌝ }
 {
-    count_parties(slots, DRAWING)
+    count_parties(slots, TALLY_DRAWING)
 }
 
 // The places in one state, whoever waits there.
@@ -108,10 +108,10 @@ pub fn counts(hub: Hub) -> Counts
 {
     let slots = hub.slots;
     let places = hub.places;
-    let coming = count_parties(slots, BRINGING) + count_places(places, Place::Permit);
-    let declined = count_parties(slots, REFUSING) + count_places(places, Place::Refused);
-    let held = count_parties(slots, HELD);
-    let waiting = count_parties(slots, WAITING);
+    let coming = count_parties(slots, TALLY_BRINGING) + count_places(places, Place::Permit);
+    let declined = count_parties(slots, TALLY_REFUSING) + count_places(places, Place::Refused);
+    let held = count_parties(slots, TALLY_HELD);
+    let waiting = count_parties(slots, TALLY_WAITING);
     let available = at_counter(hub.control.figures.counter);
     if declined <= coming {
         return Counts {

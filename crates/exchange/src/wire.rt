@@ -43,33 +43,38 @@ pub fn admit_at(requests: &[u8], i: usize, parties: u8) -> Admission
     admit(code_at(requests, i), party_at(requests, i), parties)
 }
 
-// A reply, from a place of the buffer on.
-fn put_reply_at(pairs: &[u16; 256], out: &mut [u8], at: usize, form: bool, party: u8, print: Print)
+// The reply to request i, behind those before it.
+fn put_reply_at(pairs: &[u16; 256], out: &mut [u8], i: usize, form: bool, party: u8, print: Print)
     requires { ⌜ Pairs (now pairs) ⌝ }
-    requires { ⌜ at + replySize (formOf form) ≤ length (now out) ⌝ }
-    ensures { λ r. ⌜ now (out .exit) ≡ withReply (formOf form) at (frameOf party (paper print)) (now (out .entry)) ⌝ }
+    requires { ⌜ replySize (formOf form) * i + replySize (formOf form) ≤ length (now out) ⌝ }
+    ensures { λ r. ⌜ now (out .exit)
+        ≡ withReply (formOf form) (replySize (formOf form) * i) (frameOf party (paper print)) (now (out .entry)) ⌝ }
 {
-    let end = at + reply_size(form);
+    let width = reply_size(form);
+    let at = width * i;
+    let end = at + width;
     put_reply(pairs, &mut out[at..end], form, party, print);
 }
 
 // What a request is answered that was not admitted.
-pub fn put_refusal(pairs: &[u16; 256], out: &mut [u8], at: usize, form: bool, a: Admission)
+pub fn put_refusal(pairs: &[u16; 256], out: &mut [u8], i: usize, form: bool, a: Admission)
     requires { ⌜ Pairs (now pairs) ⌝ }
-    requires { ⌜ at + replySize (formOf form) ≤ length (now out) ⌝ }
+    requires { ⌜ replySize (formOf form) * i + replySize (formOf form) ≤ length (now out) ⌝ }
     ensures { λ r. ⌜ now (out .exit)
-        ≡ withReply (formOf form) at (frameOf (a .party) (plain (a .code))) (now (out .entry)) ⌝ }
+        ≡ withReply (formOf form) (replySize (formOf form) * i) (frameOf (a .party) (plain (a .code)))
+        (now (out .entry)) ⌝ }
 {
-    put_reply_at(pairs, out, at, form, a.party, plain(a.code));
+    put_reply_at(pairs, out, i, form, a.party, plain(a.code));
 }
 
 // What a call is answered.
-pub fn put_answer(pairs: &[u16; 256], out: &mut [u8], at: usize, form: bool, party: u8, e: Effect)
+pub fn put_answer(pairs: &[u16; 256], out: &mut [u8], i: usize, form: bool, party: u8, e: Effect)
     requires { ⌜ Pairs (now pairs) ⌝ }
-    requires { ⌜ at + replySize (formOf form) ≤ length (now out) ⌝ }
+    requires { ⌜ replySize (formOf form) * i + replySize (formOf form) ≤ length (now out) ⌝ }
     ensures { λ r. ⌜ now (out .exit)
-        ≡ withReply (formOf form) at (frameOf party (printed (e .answer))) (now (out .entry)) ⌝ }
+        ≡ withReply (formOf form) (replySize (formOf form) * i) (frameOf party (printed (e .answer)))
+        (now (out .entry)) ⌝ }
 {
     let answer = e.answer;
-    put_reply_at(pairs, out, at, form, party, print_of(answer));
+    put_reply_at(pairs, out, i, form, party, print_of(answer));
 }

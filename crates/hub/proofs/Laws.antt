@@ -1,6 +1,6 @@
 -- Laws of the definitions, by which callers know them.
 pub mod Bools
-pub mod Enums  -- of numbers
+pub mod Enums  -- whose variants hold a number or nothing
 pub mod Phases
 pub mod Lists
 pub mod Ranges

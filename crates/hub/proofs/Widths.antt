@@ -27,7 +27,7 @@ use Rattle.hub.specs.Table.{acquire, cancel, decide, release, tellRadio}
 use Rattle.hub.specs.Widths.{BYTE, NoLarger, SameCalls, UpTo, WORD, calledIn, keptIn, writtenIn}
 use Rattle.hub.proofs.Laws.Bools.{clause, first, second}
 use Rattle.hub.proofs.Laws.Phases.{by-ticket, every-place, ticketed}
-use Rattle.hub.proofs.Laws.Rows.{calls-alike, rowOf}
+use Rattle.hub.proofs.Laws.Rows.{calls-alike, openRow}
 use Rattle.hub.proofs.Laws.Seats.{written-each}
 
 -- A place with a party up to 255; all places of a list.
@@ -116,7 +116,7 @@ applied-small h s (Wake q x a c) u w = tidied-small _ (put-small (h .places) (s 
 
 -- The table writes no party but the caller's.
 decided : (s : Sight) → s .party ≤ 255 → (o : Op) (full : Bool) → writesSmall (decide o full s) ≡ true
-unfolding rowOf acquire cancel release tellRadio
+unfolding openRow acquire cancel release tellRadio
 decided s few = calls-alike s writesSmall true (λ t q. rw (le-leb (s .party) 255 few)) (λ x. refl)
 
 -- A caller that is not refused is below n, and n is at most 32.

@@ -133,7 +133,8 @@ unfoldable pub resumeWaiter : Bool → ℕ → ℕ → Sight → Move
 resumeWaiter true q t s = wake q t s
 resumeWaiter false q t s = put Permit Free (Delegated t) s
 
--- handing: the waiter is still to come, 29; the wait was cancelled, 2C; it was refused, 2D
+-- handing: the waiter is still to come, 29; the wait was cancelled, 2C; it was refused, 2D; where a party waits, is its
+-- phase waiting?
 unfoldable pub stepResumingAt : ℕ → Bool → Place → Sight → Move
 stepResumingAt t b Empty s = put Permit Free (LeftPermit t) s
 stepResumingAt t b (WaitedBy q) s = resumeWaiter b q t s
@@ -175,15 +176,15 @@ unfoldable pub stepStoring : Sight → Move
 stepStoring s = turn Free Stored s
 
 -- What the rows ask of what a call sees, besides the phase.
-pub record Tests : Type 0 where
+pub record RowTests : Type 0 where
   pub above : Bool  -- is the counter above 0?
   pub below : Bool  -- is it below 0?
   pub stocked : Bool  -- is a radio stored?
   pub place : Place  -- what lies at the place of the ticket
   pub waits : Bool  -- if a party waits there: is its phase waiting?
 
-abbrev pub testsOf : Sight → Tests
-testsOf s =
+abbrev pub rowTestsOf : Sight → RowTests
+rowTestsOf s =
     record {
       above = aboveZero (s .figures .counter);
       below = belowZero (s .figures .counter);
@@ -192,8 +193,8 @@ testsOf s =
       waits = isWaiting (s .waiter .phase);
     }
 
--- at rest: 8
-unfoldable pub rowIn : Phase → Tests → Sight → Move
+-- The row of a phase, told what its tests say. At rest: 8
+unfoldable pub rowIn : Phase → RowTests → Sight → Move
 rowIn Free v s = Refuse AtRest
 rowIn Holding v s = Refuse AtRest
 rowIn (Waiting t) v s = Refuse AtRest
@@ -213,7 +214,7 @@ rowIn SuspendingMarked v s = stepSuspending TicketedMarked s
 rowIn (TicketedMarked t) v s = stepTicketed (Aborting t) t (v .place) s
 
 abbrev pub stepIn : Phase → Sight → Move
-stepIn f s = rowIn f (testsOf s) s
+stepIn f s = rowIn f (rowTestsOf s) s
 
 abbrev pub step : Sight → Move
 step s = stepIn (s .slot .phase) s

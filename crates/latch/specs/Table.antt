@@ -192,9 +192,9 @@ stepRefusing t Cancelled s = Refuse Unfit
 stepRefusing t Refused s = Refuse Unfit
 stepRefusing t Done s = Refuse Unfit
 
--- The rows, each told the ticket of its phase. At rest: 8.
-abbrev pub rows : LatchSight → List (Phase × (ℕ → Move))
-rows s =
+-- The stepRows, each told the ticket of its phase. At rest: 8.
+abbrev pub stepRows : LatchSight → List (Phase × (ℕ → Move))
+stepRows s =
     (Free, λ t. Refuse AtRest)
     ∷ (Waiting 0, λ t. Refuse AtRest)
     ∷ (Acquiring, λ t. stepAcquiring Acquiring Suspending (done (s .figures)) (s .slot .raising) s)
@@ -218,7 +218,7 @@ rowFor f (r ∷ l) = cond (isOneOf (r .0 ∷ []) f) (r .1 (ticketOf f)) (rowFor 
 
 unfoldable pub stepIn : Phase → LatchSight → Move
 unfolding isOneOf
-stepIn f s = rowFor f (rows s)
+stepIn f s = rowFor f (stepRows s)
 
 abbrev pub step : LatchSight → Move
 step s = stepIn (s .slot .phase) s

@@ -75,7 +75,7 @@ fn hub_only(phase: Phase) -> bool
     true
 }
 
-// Whoever carries or hands has 1 to 32 hand-overs left.
+// No phase is the hub's alone; whoever carries or hands has 1 to 32 hand-overs left.
 fn slot_fits(slot: LatchSlot) -> bool
     ensures { λ r. ⌜ r ≡ slotFits slot ⌝ }
 {

@@ -11,7 +11,7 @@ use lib.ListN.{drop, drop-of-length-le, length, take}
 use lib.Seq.{take-all}
 use Rattle.hub.specs.declared.moves.Call.{Call}
 use Rattle.hub.specs.declared.record.Hub.{Hub}
-use Rattle.hub.specs.Opening.{fresh, opening, sized, withRadios}
+use Rattle.hub.specs.Opening.{fresh, sized, withRadios}
 use Rattle.hub.specs.OwnKinds.{WithoutKinds}
 use Rattle.hub.proofs.OwnKinds.{called-before, opened-before, opened-without, still-without}
 use Rattle.encoding.specs.Form.{asText}

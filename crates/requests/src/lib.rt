@@ -6,7 +6,6 @@ use encoding::pairs;
 use hub::record::Control;
 use hub::record::Hub;
 use ring::PlaceRing;
-use writer::form::reply_size;
 ghost use mathlib.Core.Path.{_≡_};
 ghost use Prim.Native.Nat.{_*_, _≤_};
 ghost use lib.ListN.{length};
@@ -44,7 +43,6 @@ pub fn answer_requests(hub: Hub, requests: &[u8], count: usize, form: bool, out:
         requests,
         count,
         form,
-        reply_size(form),
         out,
     );
     let figures = left.figures;

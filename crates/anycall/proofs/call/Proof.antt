@@ -82,17 +82,17 @@ within-slots : (c : tie.Else2) → party (c .before .before .before) < 32
 within-slots c = omega (arith, c .if2 .left, counts (c .before) .parties)
 
 -- What the code has read is what the party sees.
-abbrev ticketAt : tie.After-kinds → ℕ
-ticketAt c = seen c .before .before .before .before .seat-index .result
+abbrev placeIndex : tie.After-kinds → ℕ
+placeIndex c = seen c .before .before .before .before .seat-index .result
 
 abbrev seat : tie.After-kinds → PlaceSlot
-seat c = getD (hub (start c) .places) (ticketAt c) emptySeat
+seat c = getD (hub (start c) .places) (placeIndex c) emptySeat
 
 abbrev waiter : tie.After-kinds → PartySlot
 waiter c = seen c .slot-within .result
 
 index : (c : tie.After-kinds)
-    → ticketAt c ≡ ticketOf (readSlot (hub (start c) .slots) (party (start c)) .phase) % PLACES
+    → placeIndex c ≡ ticketOf (readSlot (hub (start c) .slots) (party (start c)) .phase) % PLACES
 unfolding readSlot
 index c = seen c .before .before .before .before .seat-index .ensures
 
@@ -143,7 +143,7 @@ abbrev after : tie.After-put → Hub
 after c =
     let g = c .before .before .if3 .hub in
     let e = decided c .decide .result in
-    made g (e .figures) (set (g .places) (ticketAt (kinded (decided c))) (e .seat))
+    made g (e .figures) (set (g .places) (placeIndex (kinded (decided c))) (e .seat))
     (writeSlot (g .slots) (party (begin (decided c))) (e .slot))
 
 is-stored : (c : tie.After-put)
@@ -153,7 +153,7 @@ is-stored c =
     let d = decided c in
     let h = hub (begin d) in
     let e = d .decide .result in
-    ap (λ (g : Hub). made g (e .figures) (set (g .places) (ticketAt (kinded d)) (e .seat))
+    ap (λ (g : Hub). made g (e .figures) (set (g .places) (placeIndex (kinded d)) (e .seat))
     (writeSlot (g .slots) (party (begin d)) (e .slot))) (slots-set (c .before .before))
     ∙ stores h (party (begin d)) _ (index (kinded d)) e _ refl
 

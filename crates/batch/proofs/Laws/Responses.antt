@@ -60,10 +60,11 @@ module _ (form : Form) where
       count : (k n : ℕ) → k * suc n ≡ k + k * n
       count k n = omega (arith, mul-suc k n)
 
-  -- After i of the n requests, from the record h₀ and the buffer out₀.
-  pub record Upto (width : ℕ) (h₀ : Hub) (n : ℕ) (l out₀ : List ℕ) (h : Hub) (out : List ℕ)
-      (i : ℕ) : Type 0 where
-    pub width-is : width ≡ replySize form
+  -- A reply's width. After i of the n requests, from the record h₀ and the buffer out₀.
+  abbrev width : ℕ
+  width = replySize form
+
+  pub record Upto (h₀ : Hub) (n : ℕ) (l out₀ : List ℕ) (h : Hub) (out : List ℕ) (i : ℕ) : Type 0 where
     pub within : i ≤ n
     pub asked : 2 * n ≤ length l
     pub room : width * n ≤ length out
@@ -73,15 +74,13 @@ module _ (form : Form) where
     pub same : take (width * i) out ++ replied form h (n - i) (drop (2 * i) l) (drop (width * i) out)
         ≡ replied form h₀ n l out₀
 
-  pub start : (width : ℕ) (h : Hub) (n : ℕ) (l out : List ℕ) → width ≡ replySize form
-      → Reachable h → 2 * n ≤ length l → replySize form * n ≤ length out
-      → Upto width h n l out h out 0
-  start width h n l out f r a b =
+  pub start : (h : Hub) (n : ℕ) (l out : List ℕ) → Reachable h → 2 * n ≤ length l → width * n ≤ length out
+      → Upto h n l out h out 0
+  start h n l out r a b =
       record {
-        width-is = f;
         within = omega arith;
         asked = a;
-        room = omega (arith, ap (λ (k : ℕ). k * n) f, b);
+        room = b;
         length = refl;
         reachable = r;
         left = (λ i. after h (requestsIn (all n i) l));
@@ -93,8 +92,8 @@ module _ (form : Form) where
       all : (n : ℕ) → n - 0 ≡ n
       all n = omega arith
 
-  module _ (width : ℕ) (h₀ : Hub) (n : ℕ) (l out₀ : List ℕ) (h : Hub) (out : List ℕ) (i : ℕ)
-      (u : Upto width h₀ n l out₀ h out i) where
+  module _ (h₀ : Hub) (n : ℕ) (l out₀ : List ℕ) (h : Hub) (out : List ℕ) (i : ℕ)
+      (u : Upto h₀ n l out₀ h out i) where
     module _ (more : i < n) where
       pub whole-request : 2 * i + 2 ≤ length l
       whole-request = omega (arith, u .asked)
@@ -120,19 +119,15 @@ module _ (form : Form) where
       -- One more response t, whose reply was put into the buffer and whose record is h′.
       put-in : (text : List ℕ) (h′ : Hub) (t : Response)
           → respond h (requestAt l (2 * i)) ≡ t → text ≡ replyIn form (t .reply) → h′ ≡ t .hub
-          → Upto width h₀ n l out₀ h′ (putMid at (at + width - at) out text) (i + 1)
+          → Upto h₀ n l out₀ h′ (putMid at (at + width - at) out text) (i + 1)
       put-in text h′ t e f g =
-          let fits : length text ≡ width =
-          ap length f ∙ reply-size form (t .reply) ∙ sym (u .width-is) in
+          let fits : length text ≡ width = ap length f ∙ reply-size form (t .reply) in
           let long = put-length out text at width whole-reply fits in
           let m = n - (i + 1) in
           let is : t ≡ respond h (requestAt here 0) = sym e ∙ ap (respond h) in-front in
           let later : drop (2 * (i + 1)) l ≡ drop 2 here =
           ap (λ (k : ℕ). drop k l) (next 2 i) ∙ sym (drop-drop 2 (2 * i) l) in
-          let rest : drop width (drop at out) ≡ drop (replySize form) (drop at out) =
-          ap (λ (k : ℕ). drop k (drop at out)) (u .width-is) in
           record {
-            width-is = u .width-is;
             within = omega arith;
             asked = u .asked;
             room = omega (arith, u .room, long);
@@ -153,7 +148,7 @@ module _ (form : Form) where
                 ++ replied form h′ m (later j) (put-drop out text at width whole-reply fits j))
                 ∙ append-assoc (take at out) text _
                 ∙ ap (λ (r : List ℕ). take at out ++ r)
-                ((λ j. f j ++ replied form (g j) m (drop 2 here) (rest j))
+                ((λ j. f j ++ replied form (g j) m (drop 2 here) (drop width (drop at out)))
                 ∙ (λ j. replyIn form (is j .reply)
                 ++ replied form (is j .hub) m (drop 2 here) (drop (replySize form) (drop at out)))
                 ∙ sym (one-reply h m here (drop at out))
@@ -164,15 +159,12 @@ module _ (form : Form) where
       -- The same of a buffer out′ that has the reply.
       pub responded : (out′ : List ℕ) (h′ : Hub) (t : Response) → respond h (requestAt l (2 * i)) ≡ t
           → out′ ≡ withReply form at (frameOf (t .reply .party) (t .reply .answer)) out → h′ ≡ t .hub
-          → Upto width h₀ n l out₀ h′ out′ (i + 1)
+          → Upto h₀ n l out₀ h′ out′ (i + 1)
       responded out′ h′ t e f g =
           let text = replyIn form (t .reply) in
-          let wide : (take at out ++ text) ++ drop (at + replySize form) out
-          ≡ (take at out ++ text) ++ drop (at + width) out =
-          ap (λ (k : ℕ). (take at out ++ text) ++ drop (at + k) out) (sym (u .width-is)) in
-          let size = reply-size form (t .reply) ∙ sym (u .width-is) in
-          subst (λ (o : List ℕ). Upto width h₀ n l out₀ h′ o (i + 1))
-          (sym (f ∙ wide ∙ sym (parts out text at width whole-reply size)))
+          let size = reply-size form (t .reply) in
+          subst (λ (o : List ℕ). Upto h₀ n l out₀ h′ o (i + 1))
+          (sym (f ∙ sym (parts out text at width whole-reply size)))
           (put-in text h′ t e refl g)
 
     pub ended : n ≤ i → (h ≡ after h₀ (requestsIn n l)) × (out ≡ replied form h₀ n l out₀)

@@ -50,13 +50,13 @@ use Rattle.batch.proofs.answer_in_turn.Statement.{statement}
 use Rattle.batch.proofs.answer_in_turn.Tie as tie
 
 abbrev Inv-loop : tie.InvT-loop
-Inv-loop opening f₀ _ requests count form width out₀ ring₀ slots₀ pool₀ _ _ f out ring slots pool i =
-    Upto (formOf form) width (ofParts opening f₀ ring₀ slots₀ pool₀) count requests out₀
+Inv-loop opening f₀ _ requests count form out₀ ring₀ slots₀ pool₀ _ _ f out ring slots pool i =
+    Upto (formOf form) (ofParts opening f₀ ring₀ slots₀ pool₀) count requests out₀
     (ofParts opening f ring slots pool) out i
     × (length slots ≡ 32)
 
 abbrev μ-loop : tie.MeasureT-loop
-μ-loop _ _ _ _ count _ _ _ _ _ _ _ _ _ _ _ _ _ i = count - i
+μ-loop _ _ _ _ count _ _ _ _ _ _ _ _ _ _ _ _ i = count - i
 
 -- A state or a need of the function, with this invariant and this measure.
 abbrev At : (tie.InvT-loop → tie.MeasureT-loop → Type 0) → Type 0
@@ -123,7 +123,7 @@ abbrev bytes : At tie.At-loop → List ℕ
 bytes c = begun c .args .requests .now
 
 abbrev width : At tie.At-loop → ℕ
-width c = begun c .args .width
+width c = replySize (formOf (begun c .args .form))
 
 abbrev code : At tie.After-admit-at → ℕ
 code c = c .admit-at .result .code
@@ -133,24 +133,16 @@ party c = c .admit-at .result .party
 
 -- There is still a request to read, and room for its reply.
 asks : (c : At tie.In-loop) → 2 * c .before .loop .i + 2 ≤ length (bytes (c .before))
-asks c = whole-request _ _ _ _ _ _ _ _ _ (c .before .loop .inv .0) (c .loop-test .taken)
+asks c = whole-request _ _ _ _ _ _ _ _ (c .before .loop .inv .0) (c .loop-test .taken)
 
 room : (c : At tie.In-loop)
     → width (c .before) * c .before .loop .i + width (c .before) ≤ length (c .before .loop .out)
-room c = whole-reply _ _ _ _ _ _ _ _ _ (c .before .loop .inv .0) (c .loop-test .taken)
-
--- What the kit knows of the arguments ends with the buffer's own bound.
-room-fits : (c : At tie.In-loop) → width (c .before) * c .before .loop .i + width (c .before) < 2 ^ 64
-room-fits c =
-    let h = c .before in
-    omega (arith, room c, h .loop .inv .0 .length, begun h .good .1 .1 .1 .1 .1 .1 .1 .1 .1 .1)
+room c = whole-reply _ _ _ _ _ _ _ _ (c .before .loop .inv .0) (c .loop-test .taken)
 
 reply-fits : (c : At tie.In-loop)
     → let h = c .before in
-    Pairs (begun h .args .pairs .now)
-    × (width h * h .loop .i + replySize (formOf (begun h .args .form)) ≤ length (h .loop .out))
-reply-fits c =
-    let h = c .before in (begun h .pre .1 .0, omega (arith, room c, h .loop .inv .0 .width-is))
+    Pairs (begun h .args .pairs .now) × (width h * h .loop .i + width h ≤ length (h .loop .out))
+reply-fits c = (begun (c .before) .pre .1 .0, room c)
 
 -- The call is admitted.
 pass : (c : At tie.Else1)
@@ -163,11 +155,11 @@ admitted : (c : At tie.Else1) → LetIn (hub (head c)) (party (asked c))
 admitted c = let-in _ _ _ (head c .loop .inv .0 .reachable) (pass c .0)
 
 -- What the code read for it.
-abbrev ticketAt : At tie.After-waiter-at → ℕ
-ticketAt c = c .before .before .seat-index .result
+abbrev placeIndex : At tie.After-waiter-at → ℕ
+placeIndex c = c .before .before .seat-index .result
 
 abbrev seat : At tie.After-waiter-at → PlaceSlot
-seat c = getD (hub (head (entered c)) .places) (ticketAt c) emptySeat
+seat c = getD (hub (head (entered c)) .places) (placeIndex c) emptySeat
 
 abbrev near : At tie.After-waiter-at → PartySlot
 near c = getD (head (entered c) .loop .slots) (c .waiter-at .result % PARTIES) freeSlot
@@ -177,7 +169,7 @@ waiter c = waiterBy (seat c) (near c)
 
 index : (c : At tie.After-waiter-at)
     → let e = entered c in
-    ticketAt c ≡ ticketOf (readSlot (hub (head e) .slots) (party (asked e)) .phase) % PLACES
+    placeIndex c ≡ ticketOf (readSlot (hub (head e) .slots) (party (asked e)) .phase) % PLACES
 unfolding readSlot
 index c = c .before .before .seat-index .ensures
 
@@ -253,7 +245,7 @@ turns-most c =
 abbrev untidied : At tie.After-is-untidy → Hub
 untidied s =
     let h = head (within s) in
-    ofFields (set (h .loop .ring .places) (ticketAt (seen (effected s))) (effect s .seat))
+    ofFields (set (h .loop .ring .places) (placeIndex (seen (effected s))) (effect s .seat))
     (writeSlot (woken (placed s) .if2 .slots) (party (asked (within s))) (effect s .slot))
     (controlOf (hub h .control .opening) (effect s .figures) (h .loop .ring .oldest) (moving s .if3 .pool))
 
@@ -317,24 +309,21 @@ replied-with s =
 one-more : (s : At tie.After-is-untidy) (u : Hub) → u ≡ tidiedBy (effect s .turns) (untidied s)
     → let h = head (within s) in
     let a = begun h .args in
-    Upto (formOf (a .form)) (a .width) (ofParts (a .opening) (a .figures) (a .t3) (a .t4) (a .t5)) (a .count) (bytes h)
+    Upto (formOf (a .form)) (ofParts (a .opening) (a .figures) (a .t3) (a .t4) (a .t5)) (a .count) (bytes h)
     (a .out .now) u (replying (moving s) .put-answer .last .1 .0) (h .loop .i + 1)
 one-more s u e =
     let b = within s in
-    responded _ _ _ _ _ _ _ _ _ (head b .loop .inv .0) (turning (asked b) .loop-test .taken) _ _ _
+    responded _ _ _ _ _ _ _ _ (head b .loop .inv .0) (turning (asked b) .loop-test .taken) _ _ _
     (answered b) (replied-with s) (leaves s u e)
 
 loop-holds : At tie.Need-loop-holds
 loop-holds c =
     let a = c .before .before .before in
     let q = a .pre .1 .1 in
-    (start _ _ _ _ _ _ (q .1 .0) (a .pre .0) (q .0) (q .1 .1), full-slots a)
+    (start _ _ _ _ _ (a .pre .0) (q .0) (q .1), full-slots a)
 
 admit-at-requires : At tie.Need-admit-at-requires
 admit-at-requires c κs = asks c
-
-mul-put-refusal : At tie.Need-mul-put-refusal
-mul-put-refusal c = omega (arith, room-fits (turning (c .before .before .before)))
 
 put-refusal-requires : At tie.Need-put-refusal-requires
 put-refusal-requires c κs = reply-fits (turning (c .before .before .before))
@@ -354,7 +343,7 @@ loop-again c =
     let t = turning d in
     let h = t .before in
     let u = h .loop .inv .0 in (
-      responded _ _ _ _ _ _ _ _ _ u (t .loop-test .taken) _ _ _
+      responded _ _ _ _ _ _ _ _ u (t .loop-test .taken) _ _ _
           (refused-response _ _ _ (u .reachable) _ (d .admit-at .ensures) (not-true _ (p .if1 .taken)))
           (c .before .before .put-refusal .ensures) refl,
       h .loop .inv .1,
@@ -425,9 +414,6 @@ mul-put c = omega (arith, index (seen (effecting c)))
 element-set-from-put : At tie.Need-element-set-from-put
 element-set-from-put c = omega (arith, index (seen (effecting c)))
 
-mul-put-answer : At tie.Need-mul-put-answer
-mul-put-answer c = omega (arith, room-fits (turning (asked (entering (effecting (c .before))))))
-
 put-answer-requires : At tie.Need-put-answer-requires
 put-answer-requires c κs = reply-fits (turning (asked (entering (effecting (c .before)))))
 
@@ -489,7 +475,7 @@ same-length c = search needs
 
 returns : At tie.Need-returns
 returns c =
-    let e = ended _ _ _ _ _ _ _ _ _ (c .before .loop .inv .0) (c .loop-test .left) in
+    let e = ended _ _ _ _ _ _ _ _ (c .before .loop .inv .0) (c .loop-test .left) in
     (e .0, e .1)
 
 pub answer-in-turn-spec : {M : Type 1} → statement M
@@ -500,7 +486,6 @@ answer-in-turn-spec =
     μ-loop
     loop-holds
     admit-at-requires
-    mul-put-refusal
     put-refusal-requires
     add-i
     loop-less
@@ -526,7 +511,6 @@ answer-in-turn-spec =
     array-set-from-slots-2
     mul-put
     element-set-from-put
-    mul-put-answer
     put-answer-requires
     add-i-2
     radios-after-requires

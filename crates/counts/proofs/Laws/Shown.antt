@@ -26,25 +26,25 @@ module _ (l : List Phase) where
   tallied : (k : ℕ) (g : Phase → Bool) → ((f : Phase) → eqb (tallyOf f) k ≡ g f) → Tallied k g
   tallied k g e = weight-same (λ f. bit (eqb (tallyOf f) k)) (λ f. bit (g f)) (λ f. ap bit (e f)) l
 
-  holding : Tallied 1 holds
+  holding-tallied : Tallied 1 holds
   unfolding isOneOf
-  holding = tallied 1 holds (phases-alike (λ f. eqb (tallyOf f) 1) holds (λ t. refl))
+  holding-tallied = tallied 1 holds (phases-alike (λ f. eqb (tallyOf f) 1) holds (λ t. refl))
 
-  bringing : Tallied 2 resumes
+  bringing-tallied : Tallied 2 resumes
   unfolding isOneOf
-  bringing = tallied 2 resumes (phases-alike (λ f. eqb (tallyOf f) 2) resumes (λ t. refl))
+  bringing-tallied = tallied 2 resumes (phases-alike (λ f. eqb (tallyOf f) 2) resumes (λ t. refl))
 
-  refusing : Tallied 3 refuses
+  refusing-tallied : Tallied 3 refuses
   unfolding isOneOf
-  refusing = tallied 3 refuses (phases-alike (λ f. eqb (tallyOf f) 3) refuses (λ t. refl))
+  refusing-tallied = tallied 3 refuses (phases-alike (λ f. eqb (tallyOf f) 3) refuses (λ t. refl))
 
-  waiting : Tallied 4 isWaiting
+  waiting-tallied : Tallied 4 isWaiting
   unfolding isOneOf
-  waiting = tallied 4 isWaiting (phases-alike (λ f. eqb (tallyOf f) 4) isWaiting (λ t. refl))
+  waiting-tallied = tallied 4 isWaiting (phases-alike (λ f. eqb (tallyOf f) 4) isWaiting (λ t. refl))
 
-  pub drawing : Tallied 5 drawsTicket
+  pub drawing-tallied : Tallied 5 drawsTicket
   unfolding isOneOf
-  drawing = tallied 5 drawsTicket (phases-alike (λ f. eqb (tallyOf f) 5) drawsTicket (λ t. refl))
+  drawing-tallied = tallied 5 drawsTicket (phases-alike (λ f. eqb (tallyOf f) 5) drawsTicket (λ t. refl))
 
 in-state : (a : Place) (g : Place → Bool) → ((x : Place) → eqb (placeRank x) (placeRank a) ≡ g x)
     → (l : List Place) → count (λ x. eqb (placeRank x) (placeRank a)) l ≡ count g l
@@ -71,20 +71,20 @@ module _ (h : Hub) (c₁ c₂ d₁ d₂ g v w x : ℕ) where
   unfolding countsOf isPlaceOf
   shown ec₁ ec₂ ed₁ ed₂ eg ev ew ex = λ i.
       record {
-        held = (eg ∙ holding phases) i;
+        held = (eg ∙ holding-tallied phases) i;
         available = ev i;
         coming = coming i;
         declined = declined i;
         onway = (ex ∙ ap₂ _-_ coming declined) i;
-        waiting = (ew ∙ waiting phases) i;
+        waiting = (ew ∙ waiting-tallied phases) i;
       }
     where
       coming : c₁ + c₂ ≡ count resumes phases + count isPermit places
       coming =
-          ap₂ _+_ (ec₁ ∙ bringing phases)
+          ap₂ _+_ (ec₁ ∙ bringing-tallied phases)
           (ec₂ ∙ in-state Permit isPermit (places-alike (λ x. eqb (placeRank x) (placeRank Permit)) isPermit (λ q. refl)) places)
 
       declined : d₁ + d₂ ≡ count refuses phases + count isRefused places
       declined =
-          ap₂ _+_ (ed₁ ∙ refusing phases)
+          ap₂ _+_ (ed₁ ∙ refusing-tallied phases)
           (ed₂ ∙ in-state Refused isRefused (places-alike (λ x. eqb (placeRank x) (placeRank Refused)) isRefused (λ q. refl)) places)

@@ -175,8 +175,8 @@ module _ (m : Queue) (p : ℕ) (f : Phase) (s : PartySlot) (t : ℕ) (i : p < le
       }
 
 -- What the invariant counts of a phase, and of ticket t.
-abbrev pub counted : ℕ → Phase → List ℕ
-counted t f =
+abbrev pub weightsOf : ℕ → Phase → List ℕ
+weightsOf t f =
     holding f ∷ resuming f ∷ refusing f ∷ drawing f ∷ suspending f ∷ live f ∷ handing f ∷ cancelling f
     ∷ own t f ∷ hand t f ∷ stand t f ∷ refuse t f ∷ stage t f ∷ above t f ∷ []
 
@@ -309,9 +309,9 @@ module _ (k : ℕ) (m : Queue) (p : ℕ) (l : p < m .opening .parties) (inv : In
       kept Place.Refused i = tt
       kept Place.Done i = tt
 
-  -- Between phases of which the invariant counts the same; the figures stay.
+  -- Between phases of which the invariant counts the same, the second none of radios; the figures stay.
   pub still-row : {o : Op} {f : Phase} {r : Answer} (s : PartySlot) → phaseIn (phases m) p ≡ f
-      → ((t : ℕ) → counted t f ≡ counted t (s .phase)) → radioed (s .phase) ≡ 0
+      → ((t : ℕ) → weightsOf t f ≡ weightsOf t (s .phase)) → radioed (s .phase) ≡ 0
       → Says o f (s .phase) Place.Empty Place.Empty r (m .figures) (m .figures)
       → Tells o f (s .phase) r (m .figures .counter) → Serves (m .figures .resumed) r
       → Next k o p r m (set-in m p s (m .cells) (m .figures))
@@ -346,5 +346,5 @@ module _ (k : ℕ) (m : Queue) (p : ℕ) (l : p < m .opening .parties) (inv : In
       t : ℕ
       t = m .figures .issued
 
-      at : (u i : ℕ) → getD (counted u f) i 0 ≡ getD (counted u (s .phase)) i 0
+      at : (u i : ℕ) → getD (weightsOf u f) i 0 ≡ getD (weightsOf u (s .phase)) i 0
       at u i = ap (λ (l : List ℕ). getD l i 0) (z u)

@@ -1,6 +1,6 @@
--- The one case analysis over phases, and the one over places: every fact about all of them is taken from here. Neither
--- is named in it, so that a phase more is no line here.
-use Prim.Native.Nat.{ℕ, zero, suc}
+-- The one case analysis over phases, and the one over places: every fact about all of them is taken from here. But for
+-- the first of each none is named, so that a phase more is no line here.
+use Prim.Native.Nat.{ℕ}
 use mathlib.Core.Path.{_≡_, refl, sym, ap, subst, _∙_}
 use mathlib.Core.Bool.{Bool, true, false, cond, _||_}
 use mathlib.Core.List.{List, [], _∷_, map}
@@ -8,32 +8,32 @@ use native.Mathlib.Omega.{arith}
 use borrow.Author.Tests.{eqb-true}
 use lib.Dec.{eqb}
 use lib.ListN.{length, replicate, getD}
+use mir.Syntax.{w8, w32}
 use types.Run.{OneOf}
 use denote.Enum.Declared.{tagOf}
 use Rattle.hub.proofs.record.Phase as phase
 use Rattle.hub.proofs.record.Place as place
 use Rattle.hub.specs.declared.record.Phase.{Phase}
+use Rattle.hub.specs.declared.record.Phase.the-variants.{Free}
 use Rattle.hub.specs.declared.record.Place.{Place}
+use Rattle.hub.specs.declared.record.Place.the-variants.{Empty}
 use Rattle.hub.specs.Basics.{among}
 use Rattle.hub.specs.Phases.{byTicket, byWaiter, isOneOf, isPlaceOf, placeRank, rank, ticketOf}
-use Rattle.hub.specs.declared.record.Phase.the-variants.{Free}
-use Rattle.hub.specs.declared.record.Place.the-variants.{Empty}
-use mir.Syntax.{w8, w32}
-use Rattle.hub.proofs.Laws.Enums.{Each, variantsOf, alike, arm, back, every, hold, numberIn}
+use Rattle.hub.proofs.Laws.Enums.{Each, alike, arm, carriesNumber, every-value, numberIn, variant-found, variantsOf}
 
 -- The phases, each with ticket t if it has one.
 abbrev pub phasesWith : ℕ → List Phase
-phasesWith = variantsOf w32 (hold phase.parts) phase.make
+phasesWith = variantsOf w32 (carriesNumber phase.parts) phase.make
 
-ticket-is : (x : Phase) → numberIn w32 (hold phase.parts) (phase.as-values x) ≡ ticketOf x
+ticket-is : (x : Phase) → numberIn w32 (carriesNumber phase.parts) (phase.as-values x) ≡ ticketOf x
 ticket-is =
-    alike phasesWith Free (tagOf phase.the-type) (λ x. numberIn w32 (hold phase.parts) (phase.as-values x))
-    (back w32 (hold phase.parts) phase.make phase.as-values phase.eta Free) _ ticketOf refl (λ t. refl)
+    alike phasesWith Free (tagOf phase.the-type) (λ x. numberIn w32 (carriesNumber phase.parts) (phase.as-values x))
+    (variant-found w32 (carriesNumber phase.parts) phase.make phase.as-values phase.eta Free) _ ticketOf refl (λ t. refl)
 
 phase-back : (x : Phase) → getD (phasesWith (ticketOf x)) (tagOf phase.the-type x) Free ≡ x
 phase-back x =
     ap (λ (t : ℕ). getD (phasesWith t) (tagOf phase.the-type x) Free) (sym (ticket-is x))
-    ∙ back w32 (hold phase.parts) phase.make phase.as-values phase.eta Free x
+    ∙ variant-found w32 (carriesNumber phase.parts) phase.make phase.as-values phase.eta Free x
 
 pub phase-arm : {A : Type 0} (ks : List ℕ) (f : Phase → A) {a : A} (x : Phase)
     → map (λ k. f (getD (phasesWith (ticketOf x)) k Free)) ks ≡ replicate (length ks) a
@@ -41,7 +41,7 @@ pub phase-arm : {A : Type 0} (ks : List ℕ) (f : Phase → A) {a : A} (x : Phas
 phase-arm = arm phasesWith Free (tagOf phase.the-type) ticketOf phase-back
 
 pub every-phase : (P : Phase → Type 0) → ((t : ℕ) → Each P (phasesWith t)) → (x : Phase) → P x
-every-phase P e = every phasesWith Free (tagOf phase.the-type) ticketOf phase-back P (e 0 .0) e
+every-phase P e = every-value phasesWith Free (tagOf phase.the-type) ticketOf phase-back P (e 0 .0) e
 
 pub phases-alike : {A : Type 0} (f h : Phase → A)
     → ((t : ℕ) → map f (phasesWith t) ≡ map h (phasesWith t)) → (x : Phase) → f x ≡ h x
@@ -106,20 +106,20 @@ allOthers l = map (λ k. getD (phasesWith 0) k Free) (allBut (map rank l))
 
 -- The places, with party q where somebody waits; that party.
 abbrev pub placesWith : ℕ → List Place
-placesWith = variantsOf w8 (hold place.parts) place.make
+placesWith = variantsOf w8 (carriesNumber place.parts) place.make
 
 abbrev pub waiterOf : Place → ℕ
 waiterOf = byWaiter 0 (λ q. q)
 
-waiter-is : (a : Place) → numberIn w8 (hold place.parts) (place.as-values a) ≡ waiterOf a
+waiter-is : (a : Place) → numberIn w8 (carriesNumber place.parts) (place.as-values a) ≡ waiterOf a
 waiter-is =
-    alike placesWith Empty (tagOf place.the-type) (λ a. numberIn w8 (hold place.parts) (place.as-values a))
-    (back w8 (hold place.parts) place.make place.as-values place.eta Empty) _ waiterOf refl (λ q. refl)
+    alike placesWith Empty (tagOf place.the-type) (λ a. numberIn w8 (carriesNumber place.parts) (place.as-values a))
+    (variant-found w8 (carriesNumber place.parts) place.make place.as-values place.eta Empty) _ waiterOf refl (λ q. refl)
 
 place-back : (a : Place) → getD (placesWith (waiterOf a)) (tagOf place.the-type a) Empty ≡ a
 place-back a =
     ap (λ (q : ℕ). getD (placesWith q) (tagOf place.the-type a) Empty) (sym (waiter-is a))
-    ∙ back w8 (hold place.parts) place.make place.as-values place.eta Empty a
+    ∙ variant-found w8 (carriesNumber place.parts) place.make place.as-values place.eta Empty a
 
 pub place-arm : {A : Type 0} (ks : List ℕ) (f : Place → A) {a : A} (x : Place)
     → map (λ k. f (getD (placesWith (waiterOf x)) k Empty)) ks ≡ replicate (length ks) a
@@ -127,7 +127,7 @@ pub place-arm : {A : Type 0} (ks : List ℕ) (f : Place → A) {a : A} (x : Plac
 place-arm = arm placesWith Empty (tagOf place.the-type) waiterOf place-back
 
 pub every-place : (P : Place → Type 0) → ((q : ℕ) → Each P (placesWith q)) → (a : Place) → P a
-every-place P e = every placesWith Empty (tagOf place.the-type) waiterOf place-back P (e 0 .0) e
+every-place P e = every-value placesWith Empty (tagOf place.the-type) waiterOf place-back P (e 0 .0) e
 
 pub places-alike : {A : Type 0} (f h : Place → A)
     → ((q : ℕ) → map f (placesWith q) ≡ map h (placesWith q)) → (a : Place) → f a ≡ h a

@@ -143,12 +143,12 @@ seat c = c .before .before .before .by-ticket .result
 abbrev waiter : At tie.After-slot-within → LatchSlot
 waiter c = c .slot-within .result
 
-abbrev ticketAt : At tie.After-slot-within → ℕ
-ticketAt c = c .before .before .before .before .before .before .seat-index .result
+abbrev placeIndex : At tie.After-slot-within → ℕ
+placeIndex c = c .before .before .before .before .before .before .seat-index .result
 
 index : (c : At tie.After-slot-within)
     → let e = entered c in
-    ticketAt c ≡ ticketOf (readSlot (head e .loop .slots) (party (e .before)) .phase) % PLACES
+    placeIndex c ≡ ticketOf (readSlot (head e .loop .slots) (party (e .before)) .phase) % PLACES
 unfolding readSlot
 index c = c .before .before .before .before .before .before .seat-index .ensures
 
@@ -159,7 +159,7 @@ unfolding readSlot
 reading c =
     let e = entered c in
     let b = c .before .before .before in
-    reads (latch (head e)) (party (e .before)) (ticketAt c) (index c) _ _ _ _ (head e .loop .inv .1)
+    reads (latch (head e)) (party (e .before)) (placeIndex c) (index c) _ _ _ _ (head e .loop .inv .1)
     (b .before .empty-seat .ensures) (b .by-ticket .ensures)
     (c .before .before .waiter-at .ensures) (c .slot-within .ensures)
 
@@ -222,7 +222,7 @@ untidied s =
     let h = head e in
     let f = placed s .before .before in
     ofFields (latch h .parties) (f .figures-after .result) (h .loop .oldest)
-    (set (h .loop .places) (ticketAt (seen (effected s))) (placed s .by-ticket2 .result))
+    (set (h .loop .places) (placeIndex (seen (effected s))) (placed s .by-ticket2 .result))
     (writeSlot (woken (placed s) .if2 .slots) (party (e .before)) (f .before .slot-after .result))
 
 woken-slots : (s : At tie.After-is-untidy)

@@ -34,8 +34,8 @@ use Rattle.latch.specs.Moves.{Refuse, Act, Put, Wake}
 use Rattle.latch.specs.Queue.{Queue}
 use Rattle.latch.specs.Queue as queue
 use Rattle.latch.specs.Record.{freeSlot, readSlot}
-use Rattle.latch.specs.Table.{decide, step, stepIn, stepSuspending}
-use Rattle.latch.specs.Table.{stepTicketed, stepResuming, resumeWaiter}
+use Rattle.latch.specs.Table.{decide, step, stepIn}
+use Rattle.latch.specs.Table.{stepTicketed, resumeWaiter}
 use Rattle.latch.specs.Table.{stepResumingAt, stepCancelling, stepRefusing}
 use Rattle.latch.proofs.Laws.Slots.{read-phase}
 use Rattle.latched.proofs.Invariant.Weights.{holding, left}

@@ -22,7 +22,7 @@ use Rattle.hub.specs.Table.{acquire, cancel, release, tellRadio, decide}
 use Rattle.hub.proofs.Demand3.{demand3}
 use Rattle.hub.proofs.Laws.Bools.{first, if-true, if-false, never, second}
 use Rattle.hub.proofs.Laws.Opening.{Ends, each-passed, ends, opened, refused}
-use Rattle.hub.proofs.Laws.Rows.{calls-alike, rowOf}
+use Rattle.hub.proofs.Laws.Rows.{calls-alike, openRow}
 use Rattle.encoding.specs.Form.{asText}
 use Rattle.line.specs.Program.{unopened, isOpen, Reply, replyOf, whenOpen, beforeOpen}
 use Rattle.line.specs.Program.{replies, after, rendered, closing, linesOf, outputOf}
@@ -37,7 +37,7 @@ abbrev isLeftOut : Move → Bool
 isLeftOut m = leftOut (printed (answerOf m) .code)
 
 own-decided : (o : Op) (full : Bool) (s : Sight) → isLeftOut (decide o full s) ≡ false
-unfolding rowOf acquire cancel release tellRadio
+unfolding openRow acquire cancel release tellRadio
 own-decided o full s = calls-alike s isLeftOut false (λ t q. refl) (λ x. refl) o full
 
 own-checked : (a b : Bool) (m : Move) → isLeftOut m ≡ false → isLeftOut (checked a b m) ≡ false

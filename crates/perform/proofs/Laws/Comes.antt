@@ -88,8 +88,8 @@ module _ (h : Hub) (p : ℕ) where
   abbrev pub callBy : ℕ → Call
   callBy c = record { op = opOf c; party = p }
 
-  abbrev pub ticketAt : ℕ → ℕ
-  ticketAt c = ticketFor c (readSlot (h .slots) p .phase) (h .control .figures)
+  abbrev pub itsTicket : ℕ → ℕ
+  itsTicket c = ticketFor c (readSlot (h .slots) p .phase) (h .control .figures)
 
   -- What the operation of code c looks at.
   abbrev pub seenOf : ℕ → Seen
@@ -99,7 +99,7 @@ module _ (h : Hub) (p : ℕ) where
         kind = kindIn (h .control .opening .kinds) p;
         named = h .control .opening .named;
         slot = readSlot (h .slots) p;
-        seat = readSeat (h .places) (ticketAt c);
+        seat = readSeat (h .places) (itsTicket c);
         figures = h .control .figures;
       }
 
@@ -120,13 +120,13 @@ module _ (h : Hub) (p : ℕ) where
       (e .slot)
 
   abbrev pub placesBy : ℕ → Plan → List PlaceSlot
-  placesBy c e = writeSeat (h .places) (ticketAt c) (e .seat)
+  placesBy c e = writeSeat (h .places) (itsTicket c) (e .seat)
 
-  abbrev pub radiosBy : ℕ → Plan → Pool
-  radiosBy c e = poolAfter (h .control .opening .named) (printed (radioBy c (e .steps) (e .woken))) p (h .control .pool)
+  abbrev pub poolBy : ℕ → Plan → Pool
+  poolBy c e = poolAfter (h .control .opening .named) (printed (radioBy c (e .steps) (e .woken))) p (h .control .pool)
 
   abbrev pub storedBy : ℕ → Plan → Hub
-  storedBy c e = made (e .figures) (placesBy c e) (slotsBy e) (radiosBy c e)
+  storedBy c e = made (e .figures) (placesBy c e) (slotsBy e) (poolBy c e)
 
   -- What an operation came to, r, is what a plan says.
   pub record Comes (c : ℕ) (e : Plan) (r : Operated) : Type 0 where
@@ -167,7 +167,7 @@ module _ (h : Hub) (p : ℕ) where
           steps = refl;
           hub =
               tidied-none _
-              ∙ (λ i. made (h .control .figures) (same-seat (h .places) (ticketAt c) i)
+              ∙ (λ i. made (h .control .figures) (same-seat (h .places) (itsTicket c) i)
               ((alone own ∙ same-slot (h .slots) p) i)
               ((ap (λ (y : Answer). poolAfter (h .control .opening .named) (printed y) p (h .control .pool)) e
               ∙ unmoved p (h .control .pool) (h .control .opening .named)) i));

@@ -38,8 +38,8 @@ use Rattle.perform.specs.Bytes.{answerBytes, isOperationCode}
 use Rattle.perform.proofs.Laws.Answers.{Upto, answered, callAt, code-here, ended, start}
 use Rattle.perform.proofs.Laws.Answers.{whole-answer, whole-operation}
 use Rattle.perform.proofs.Laws.Codes.{an-operation}
-use Rattle.perform.proofs.Laws.Comes.{Comes, as-planned, no-such-party, planAt, radiosBy, storedBy}
-use Rattle.perform.proofs.Laws.Comes.{full, seenOf, ticketAt, woken-byte}
+use Rattle.perform.proofs.Laws.Comes.{Comes, as-planned, no-such-party, planAt, poolBy, storedBy}
+use Rattle.perform.proofs.Laws.Comes.{full, seenOf, itsTicket, woken-byte}
 use Rattle.perform.proofs.Laws.Plans.{as-asked, few-turns}
 use Rattle.perform.proofs.Laws.Rested.{closed, next-in-line, rested-fits}
 use Rattle.perform.proofs.perform_operations.Statement.{statement}
@@ -190,7 +190,7 @@ index c = c .before .before .before .place-for .result
 
 index-is : (c : Planned)
     → let k = asking c in
-    index c ≡ ticketAt (hub (head k)) (party k) (code k) % PLACES
+    index c ≡ itsTicket (hub (head k)) (party k) (code k) % PLACES
 unfolding readSlot
 index-is c = c .before .before .before .place-for .ensures
 
@@ -266,7 +266,7 @@ woken-slots s =
     (woken s .if2 .came)
 
 abbrev pool : Planned → Pool
-pool c = let k = asking c in radiosBy (hub (head k)) (party k) (code k) (plan c)
+pool c = let k = asking c in poolBy (hub (head k)) (party k) (code k) (plan c)
 
 moved-pool : (s : Settled) → s .if3 .pool ≡ pool (within s)
 moved-pool s =

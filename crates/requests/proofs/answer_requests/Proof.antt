@@ -6,19 +6,15 @@ use Rattle.requests.proofs.answer_requests.Tie as tie
 table-requires : tie.Need-table-requires
 table-requires c κs = search needs
 
-reply-size-requires : tie.Need-reply-size-requires
-reply-size-requires c κs = search needs
-
 -- The way back along the code, to where the parts were taken out.
 abbrev begun : tie.After-pairs → tie.Start
 begun c = c .before .before .before .before .before .before .before .before .before
 
 answer-in-turn-requires : tie.Need-answer-in-turn-requires
 answer-in-turn-requires c κs =
-    let w = c .before in
-    let p = w .before in
+    let p = c .before in
     let s = begun p in
-    (s .pre .0, (p .before .table .ensures, (s .pre .1 .0, (w .reply-size .ensures, s .pre .1 .1))))
+    (s .pre .0, (p .before .table .ensures, (s .pre .1 .0, s .pre .1 .1)))
 
 same-length : tie.Need-same-length
 same-length c = search needs
@@ -28,4 +24,4 @@ returns c = c .before .before .before .before .before .before .before .answer-in
 
 pub answer-requests-spec : {M : Type 1} → statement M
 answer-requests-spec =
-    tie.close (tie.spec table-requires reply-size-requires answer-in-turn-requires same-length returns)
+    tie.close (tie.spec table-requires answer-in-turn-requires same-length returns)

@@ -9,10 +9,10 @@ use Rattle.hub.specs.declared.record.PlaceSlot.{PlaceSlot}
 use Rattle.hub.specs.Look.{withView}
 use Rattle.hub.specs.Moves.{Move, Refuse, Tell, Act, Put, Wake}
 use Rattle.hub.specs.Phases.{isWaiting}
-use Rattle.hub.specs.Table.{Tests, acquire, cancel, decide, release, stepIn, tellRadio, testsOf}
+use Rattle.hub.specs.Table.{RowTests, acquire, cancel, decide, release, stepIn, tellRadio, rowTestsOf}
 use Rattle.hub.proofs.Laws.Enums.{Each}
 use Rattle.hub.proofs.Laws.Phases.{ticketed}
-use Rattle.hub.proofs.Laws.Rows.{otherRows, others-alike, row-of, rowOf, rows-alike}
+use Rattle.hub.proofs.Laws.Rows.{otherRows, others-alike, open-row, openRow, rows-alike}
 
 -- Does a move change a place?
 abbrev pub touches : Move → Bool
@@ -43,8 +43,8 @@ module _ (a : PlaceSlot) (w : PartySlot) where
     blind e = (ap (λ z. z .0) e, ap (λ z. z .1) e)
 
     -- What the tests say there.
-    abbrev told : Tests → Tests
-    told v =
+    abbrev testsThere : RowTests → RowTests
+    testsThere v =
         record {
           above = v .above;
           below = v .below;
@@ -54,14 +54,14 @@ module _ (a : PlaceSlot) (w : PartySlot) where
         }
 
     stepping : (f : Phase) → ticketed f ≡ false → Blind (stepIn f) s
-    unfolding rowOf
+    unfolding openRow
     stepping f e =
         let z =
         rows-alike {A = Move × Bool}
-        (λ f v. cond (ticketed f) (here (rowOf f v)) (rowOf f (told v) (shown s), touches (rowOf f v s)))
-        (λ f v. here (rowOf f v)) (λ t q. refl) f (testsOf s) in
+        (λ f v. cond (ticketed f) (here (openRow f v)) (openRow f (testsThere v) (shown s), touches (openRow f v s)))
+        (λ f v. here (openRow f v)) (λ t q. refl) f (rowTestsOf s) in
         let y = blind (rw e at z) in
-        (row-of f (testsOf (shown s)) (shown s) ∙ y .0 ∙ sym (row-of f (testsOf s) s), ap touches (row-of f (testsOf s) s) ∙ y .1)
+        (open-row f (rowTestsOf (shown s)) (shown s) ∙ y .0 ∙ sym (open-row f (rowTestsOf s) s), ap touches (open-row f (rowTestsOf s) s) ∙ y .1)
 
     others : (x : Phase) (b c d : Bool) → Each (λ r. there r ≡ here r) (otherRows x b c d)
     unfolding acquire cancel release tellRadio

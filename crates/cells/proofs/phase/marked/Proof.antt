@@ -3,7 +3,7 @@ use borrow.Author.Needs.{needs}
 use Prim.Native.Nat.{ℕ}
 use mathlib.Core.Path.{_≡_, refl, sym, ap, _∙_}
 use mathlib.Core.Bool.{Bool, false, cond}
-use mathlib.Core.List.{List, [], _∷_}
+use mathlib.Core.List.{[], _∷_}
 use mathlib.Core.Logic.{_≢_}
 use borrow.Author.Tests.{eq-eqb, ne-eqb}
 use lib.Dec.{eqb}
@@ -15,9 +15,9 @@ use Rattle.cells.specs.Phases.{withMark}
 use Rattle.cells.proofs.phase.marked.Statement.{statement}
 use Rattle.cells.proofs.phase.marked.Tie as tie
 
--- A mark that is odd counts; where no test is passed the phase is left as it is.
-odd : {n : ℕ} (f : Phase) {w x : Phase} → n ≢ 0 → x ≡ w → x ≡ cond (eqb n 0) f w
-odd {n} f {w} o e = e ∙ sym (if-false (eqb n 0) f w (ne-eqb n 0 o))
+-- A mark that is where-odd counts; where no test is passed the phase is left as it is.
+where-odd : {n : ℕ} (f : Phase) {w x : Phase} → n ≢ 0 → x ≡ w → x ≡ cond (eqb n 0) f w
+where-odd {n} f {w} o e = e ∙ sym (if-false (eqb n 0) f w (ne-eqb n 0 o))
 
 left-alone : (a b c : Bool) (x y z f : Phase) → a ≡ false → b ≡ false → c ≡ false
     → f ≡ cond a x (cond b y (cond c z f))
@@ -38,22 +38,22 @@ enum-known-phase c = search needs
 returns-2 : tie.Need-returns-2
 returns-2 c =
     let b = c .before .before in
-    odd _ (b .if1 .left) (phase-arm (3 ∷ []) withMark (b .before .args .phase) refl (c .before .match .keys1))
+    where-odd _ (b .if1 .left) (phase-arm (3 ∷ []) withMark (b .before .args .phase) refl (c .before .match .keys1))
 
 returns-3 : tie.Need-returns-3
 returns-3 c =
     let b = c .before .before in
-    odd _ (b .if1 .left) (phase-arm (4 ∷ []) withMark (b .before .args .phase) refl (c .before .match .keys2))
+    where-odd _ (b .if1 .left) (phase-arm (4 ∷ []) withMark (b .before .args .phase) refl (c .before .match .keys2))
 
 returns-4 : tie.Need-returns-4
-returns-4 c = odd _ (c .before .before .before .if1 .left) (ap withMark (sym (c .before .phase .given .1)))
+returns-4 c = where-odd _ (c .before .before .before .if1 .left) (ap withMark (sym (c .before .phase .given .1)))
 
 returns-5 : tie.Need-returns-5
 returns-5 c =
     let b = c .before in
     let f = b .before .args .phase in
     let none = allBut (3 ∷ 4 ∷ 5 ∷ []) in
-    odd f (b .if1 .left)
+    where-odd f (b .if1 .left)
     (left-alone (eqb (rank f) 3) (eqb (rank f) 4) (eqb (rank f) 5) _ _ _ f
     (sym (phase-arm none (λ x. eqb (rank x) 3) f refl (c .match .keys4)))
     (sym (phase-arm none (λ x. eqb (rank x) 4) f refl (c .match .keys4)))

@@ -1,6 +1,7 @@
 -- `put_answer` meets its contract: the words of an answer are what is printed of it.
 use borrow.Author.Needs.{needs}
-use Rattle.encoding.specs.Form.{formOf}
+use Prim.Native.Nat.{_*_}
+use Rattle.encoding.specs.Form.{formOf, replySize}
 use Rattle.exchange.proofs.Laws.Reply.{replied-as}
 use Rattle.exchange.proofs.wire.put_answer.Statement.{statement}
 use Rattle.exchange.proofs.wire.put_answer.Tie as tie
@@ -14,5 +15,5 @@ put-answer-spec =
     (λ c. search needs)
     (λ c.
     let a = c .before .before .before .before .before .before .args in
-    replied-as (formOf (a .form)) (a .at) (a .party) (a .out .now) (c .before .before .put-reply-at .ensures)
+    replied-as (formOf (a .form)) (replySize (formOf (a .form)) * a .i) (a .party) (a .out .now) (c .before .before .put-reply-at .ensures)
     (c .before .before .before .print-of .ensures)))

@@ -1,6 +1,7 @@
 -- `put_refusal` meets its contract: of a refusal its code is printed.
 use borrow.Author.Needs.{needs}
-use Rattle.encoding.specs.Form.{formOf}
+use Prim.Native.Nat.{_*_}
+use Rattle.encoding.specs.Form.{formOf, replySize}
 use Rattle.exchange.proofs.Laws.Reply.{replied-as}
 use Rattle.exchange.proofs.wire.put_refusal.Statement.{statement}
 use Rattle.exchange.proofs.wire.put_refusal.Tie as tie
@@ -14,5 +15,5 @@ put-refusal-spec =
     (λ c. search needs)
     (λ c.
     let a = c .before .before .before .before .before .before .args in
-    replied-as (formOf (a .form)) (a .at) (a .a .party) (a .out .now) (c .before .before .put-reply-at .ensures)
+    replied-as (formOf (a .form)) (replySize (formOf (a .form)) * a .i) (a .a .party) (a .out .now) (c .before .before .put-reply-at .ensures)
     (c .before .before .before .plain .ensures)))

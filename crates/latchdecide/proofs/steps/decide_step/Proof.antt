@@ -14,6 +14,7 @@ use Rattle.latcheffect.specs.Effect.{effectOf}
 use Rattle.latchdecide.proofs.steps.decide_step.Statement.{statement}
 use Rattle.latchdecide.proofs.steps.decide_step.Tie as tie
 
+-- The sight is written out at each arm: the row does not show it once its tests are made of it.
 in-phase : (s : LatchSight) {f : Phase} {e : LatchEffect} → s .slot .phase ≡ f
     → e ≡ effectOf (stepIn f s) s → e ≡ effectOf (step s) s
 in-phase s i h = h ∙ ap (λ (x : Phase). effectOf (stepIn x s) s) (sym i)
@@ -23,7 +24,7 @@ unfolding stepIn
 decide-step-spec =
     tie.close
     (tie.spec
-    -- each arm is told its phase, and calls its row
+    -- each arm calls its row; but for the first and the last it is told its phase
     (λ c κs. search needs)
     (λ c. search needs)
     (λ c κs. search needs)

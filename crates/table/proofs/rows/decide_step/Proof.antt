@@ -12,6 +12,7 @@ use Rattle.effects.specs.Effect.{effectOf}
 use Rattle.table.proofs.rows.decide_step.Statement.{statement}
 use Rattle.table.proofs.rows.decide_step.Tie as tie
 
+-- The sight is written out at each arm: the row does not show it once its tests are made of it.
 in-phase : (s : Sight) {f : Phase} {e : Effect} → s .slot .phase ≡ f → e ≡ effectOf (stepIn f s) s
     → e ≡ effectOf (step s) s
 in-phase s i h = h ∙ ap (λ (x : Phase). effectOf (stepIn x s) s) (sym i)
