@@ -54,7 +54,7 @@ pub fn perform_operations(hub: Hub, operations: &[u8], out: &mut [u8])
         let t = place_for(code, slot, figures);
         let seat = places[t];
         let kind = kinds[own];
-        let full = is_full_for(code, oldest, figures.issued, slots);
+        let full = is_full_for(code, oldest, figures.issued);
         let s = Seen {
             party,
             kind,

@@ -3,7 +3,6 @@
 use effects::counter::above_zero;
 use effects::counter::below_zero;
 use hub::answers::Answer;
-use hub::moves::Op;
 use hub::record::Figures;
 use hub::record::Hub;
 use hub::record::PartySlot;
@@ -15,13 +14,11 @@ use hub::slots::with_phase;
 use hub::slots::with_place;
 use phases::ticket;
 use pool::moving::move_radio;
-use transition::room::full_for;
 ghost use mathlib.Core.Path.{_≡_};
 ghost use mathlib.Core.Bool.{cond};
 ghost use lib.Dec.{eqb, leb};
-ghost use Prim.Native.Nat.{_%_, _<_, _≤_};
+ghost use Prim.Native.Nat.{_+_, _%_, _<_, _≤_};
 ghost use Rattle.hub.specs.Answers.{printed};
-ghost use Rattle.hub.specs.Calls.{isFull};
 ghost use Rattle.hub.specs.Phases.{byWaiter, isFree, isHolding, isWaiting};
 ghost use Rattle.hub.specs.Radios.{moved};
 ghost use Rattle.hub.specs.Record.{MAX-BEGUN, withPlace};
@@ -53,25 +50,15 @@ pub struct Plan {
     pub seat: PlaceSlot,
 }
 
-// The operation of a code; give back is what is left of the three.
-fn operation_of(code: u8) -> Op
-    ensures { λ r. ⌜ r ≡ operationOf code ⌝ }
+// Is there no place for one more ticket? Asked for an ask alone. At rest nobody is to draw one, so that nobody is counted.
+pub fn is_full_for(code: u8, oldest: u32, issued: u32) -> bool
+    requires { ⌜ oldest ≤ 1000000 ⌝ }
+    ensures { λ r. ⌜ r ≡ fullFor (operationOf code) (leb (oldest + PLACES) issued) ⌝ }
 {
     if code == 0x10 {
-        return Op::Acquire;
+        return oldest + Hub::PLACES <= issued;
     }
-    if code == 0x12 {
-        return Op::Cancel;
-    }
-    Op::Release
-}
-
-// Is there no place for one more ticket? Asked for an ask alone.
-pub fn is_full_for(code: u8, oldest: u32, issued: u32, slots: [PartySlot; 32]) -> bool
-    requires { ⌜ (oldest ≤ 1000000) × (issued ≤ 1000000) ⌝ }
-    ensures { λ r. ⌜ r ≡ fullFor (operationOf code) (isFull oldest issued slots) ⌝ }
-{
-    full_for(operation_of(code), oldest, issued, slots)
+    false
 }
 
 // The ticket whose place it is about: the next that is drawn, the party's own, the next that is resumed.

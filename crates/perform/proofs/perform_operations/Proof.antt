@@ -3,7 +3,7 @@
 use borrow.Author.Needs.{needs}
 use borrow.Author.Tests.{le-ltb, lt-ltb}
 use mathlib.Core.Path.{_≡_, sym, ap, subst, _∙_}
-use mathlib.Core.Bool.{true}
+use mathlib.Core.Bool.{Bool, true}
 use mathlib.Core.List.{List, [], _∷_, map}
 use mathlib.Core.Logic.{⊎-elim}
 use native.Mathlib.Omega.{arith}
@@ -31,9 +31,10 @@ use Rattle.transition.proofs.Laws.Called.{Counted, counted}
 use Rattle.transition.proofs.Laws.Radios.{few-stored, with-radios, without-radios}
 use Rattle.transition.proofs.Laws.Stored.{nobody, still}
 use Rattle.tidystep.proofs.Laws.Tidying.{Tidying, tidying-ends, tidying, stepAt, steps-on}
+use Rattle.transition.specs.Room.{fullFor}
 use Rattle.plan.specs.declared.Plan.{Plan}
 use Rattle.plan.specs.declared.Seen.{Seen}
-use Rattle.plan.specs.Plan.{planOf}
+use Rattle.plan.specs.Plan.{operationOf, planOf}
 use Rattle.perform.specs.Bytes.{answerBytes, isOperationCode}
 use Rattle.perform.proofs.Laws.Answers.{Upto, answered, callAt, code-here, ended, start}
 use Rattle.perform.proofs.Laws.Answers.{whole-answer, whole-operation}
@@ -41,7 +42,7 @@ use Rattle.perform.proofs.Laws.Codes.{an-operation}
 use Rattle.perform.proofs.Laws.Comes.{Comes, as-planned, no-such-party, planAt, poolBy, storedBy}
 use Rattle.perform.proofs.Laws.Comes.{full, seenOf, itsTicket, woken-byte}
 use Rattle.perform.proofs.Laws.Plans.{as-asked, few-turns}
-use Rattle.perform.proofs.Laws.Rested.{closed, next-in-line, rested-fits}
+use Rattle.perform.proofs.Laws.Rested.{closed, next-in-line, rested-fits, room-at-rest}
 use Rattle.perform.proofs.perform_operations.Statement.{statement}
 use Rattle.perform.proofs.perform_operations.Tie as tie
 
@@ -212,6 +213,8 @@ plan-is c =
     } in
     c .plan-for .ensures
     ∙ (λ i. planOf (code k) (c .before .is-full-for .ensures i) (sight (index-is c i)))
+    ∙ ap (λ (b : Bool). planOf (code k) (fullFor (operationOf (code k)) b) (seenOf (hub h) (party k) (code k)))
+    (room-at-rest (hub h) (h .loop .inv .0 .rested) (h .loop .oldest) (h .loop .figures .issued))
     ∙ as-asked (code k) (full (hub h) (party k)) (seenOf (hub h) (party k) (code k))
 
 comes : (c : Planned)
@@ -394,7 +397,7 @@ array-read-kind c = omega (arith, small (c .before .before .before))
 
 is-full-for-requires : At tie.Need-is-full-for-requires
 is-full-for-requires c κs =
-    let n = counts (head (known (c .before .before .before))) in (n .oldest, n .issued)
+    counts (head (known (c .before .before .before))) .oldest
 
 plan-for-requires : At tie.Need-plan-for-requires
 plan-for-requires c κs =
