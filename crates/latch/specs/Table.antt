@@ -192,7 +192,7 @@ stepRefusing t Cancelled s = Refuse Unfit
 stepRefusing t Refused s = Refuse Unfit
 stepRefusing t Done s = Refuse Unfit
 
--- The stepRows, each told the ticket of its phase. At rest: 8.
+-- The rows, each told the ticket of its phase. At rest: 8.
 abbrev pub stepRows : LatchSight → List (Phase × (ℕ → Move))
 stepRows s =
     (Free, λ t. Refuse AtRest)

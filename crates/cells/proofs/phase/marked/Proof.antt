@@ -15,7 +15,7 @@ use Rattle.cells.specs.Phases.{withMark}
 use Rattle.cells.proofs.phase.marked.Statement.{statement}
 use Rattle.cells.proofs.phase.marked.Tie as tie
 
--- A mark that is where-odd counts; where no test is passed the phase is left as it is.
+-- A mark that is odd counts; where no test is passed the phase is left as it is.
 where-odd : {n : ℕ} (f : Phase) {w x : Phase} → n ≢ 0 → x ≡ w → x ≡ cond (eqb n 0) f w
 where-odd {n} f {w} o e = e ∙ sym (if-false (eqb n 0) f w (ne-eqb n 0 o))
 
