@@ -3,10 +3,10 @@
 // that is proved: so there is no check of the whole record here. The crate `requests` hands a whole record over.
 
 ghost use Rattle.std.specs.Prelude.{◌≡◌, ◌*◌, ◌≤◌, length};
-ghost use Rattle.encoding.specs.Form.{form_of, replySize};
+ghost use Rattle.encoding.specs.Form.{form_of, reply_size};
 ghost use Rattle.encoding.specs.Tables.{Pairs};
 ghost use Rattle.line.specs.Program.{after};
-ghost use Rattle.batch.specs.Batch.{Reachable, ofParts, replied, requestsIn};
+ghost use Rattle.batch.specs.Batch.{Reachable, of_parts, replied, requests_in};
 
 use exchange::decision::{decide_for, full_by, radios_after};
 use exchange::wire::{admit_at, put_answer, put_refusal};
@@ -39,14 +39,14 @@ pub fn answer_in_turn(
     form: bool,
     out: &mut [u8],
 ) -> Parts
-    requires reachable { Reachable (ofParts opening figures ring slots pool) }
+    requires reachable { Reachable (of_parts opening figures ring slots pool) }
     requires pairs { Pairs pairs.now }
     requires count_in_bounds { 2 * count ≤ length requests.now }
-    requires count_in_bounds_2 { replySize (form_of form) * count ≤ length out.old }
-    ensures { (ofParts opening result.figures result.ring result.slots result.pool
-        ≡ after (ofParts opening figures ring slots pool) (requestsIn count requests.now))
+    requires count_in_bounds_2 { reply_size (form_of form) * count ≤ length out.old }
+    ensures { (of_parts opening result.figures result.ring result.slots result.pool
+        ≡ after (of_parts opening figures ring slots pool) (requests_in count requests.now))
         × (out.new
-        ≡ replied (form_of form) (ofParts opening figures ring slots pool) count requests.now
+        ≡ replied (form_of form) (of_parts opening figures ring slots pool) count requests.now
         out.old) }
 {
     let kinds = opening.kinds;

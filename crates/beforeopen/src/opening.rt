@@ -1,10 +1,10 @@
 // Lines before a hub is open. Each is answered by itself, and the one that opens the hub is the last.
 
 ghost use Rattle.std.specs.Prelude.{◌≡◌, true, ◌++◌, ◌*◌, ◌≤◌, length, drop};
-ghost use Rattle.encoding.specs.Form.{asText};
-ghost use Rattle.line.specs.Program.{beforeOpen, isOpen, repliesIn, replyIn};
-ghost use Rattle.line.specs.Requests.{isOpening, requestOf};
-ghost use Rattle.beforeopen.specs.Opening.{SessionHub, begunBy, early, refusal};
+ghost use Rattle.encoding.specs.Form.{as_text};
+ghost use Rattle.line.specs.Program.{before_open, is_open, replies_in, reply_in};
+ghost use Rattle.line.specs.Requests.{is_opening, request_of};
+ghost use Rattle.beforeopen.specs.Opening.{SessionHub, begun_by, early, refusal};
 ghost use Rattle.reader.specs.Reading.{KEPT, asked};
 
 use encoding::answer::{plain, print_of};
@@ -26,7 +26,7 @@ pub struct Begun {
 
 // A hub that is open has permits.
 pub fn is_open(hub: Hub) -> bool
-    ensures { result ≡ isOpen hub }
+    ensures { result ≡ is_open hub }
 {
     1 <= hub.control.opening.permits
 }
@@ -34,7 +34,7 @@ pub fn is_open(hub: Hub) -> bool
 // 12, or 13 for a call.
 fn refuse(out: &mut [u8], code: u8, party: u8)
     requires { length out.old ≡ 15 }
-    ensures { out.new ≡ replyIn asText (refusal code party) }
+    ensures { out.new ≡ reply_in as_text (refusal code party) }
 {
     if code == MALFORMED {
         put_line(out, party, plain(12));
@@ -45,10 +45,10 @@ fn refuse(out: &mut [u8], code: u8, party: u8)
 
 // Opens a hub as a line asks; a refused opening makes no record.
 fn open_as(line: &[u8], out: &mut [u8]) -> Hub
-    requires line_value { isOpening (requestOf line.now) ≡ true }
+    requires line_value { is_opening (request_of line.now) ≡ true }
     requires out_len { length out.old ≡ 15 }
-    ensures { (result ≡ (beforeOpen (requestOf line.now)).hub)
-        × (out.new ≡ replyIn asText (beforeOpen (requestOf line.now)).reply) }
+    ensures { (result ≡ (before_open (request_of line.now)).hub)
+        × (out.new ≡ reply_in as_text (before_open (request_of line.now)).reply) }
 {
     let o = open_hub(read_opening(line));
     let answer = o.answer;
@@ -61,8 +61,8 @@ pub fn until_open(hub: Hub, reader: Reader, piece: &[u8], out: &mut [u8]) -> Beg
     requires session_hub { SessionHub hub }
     requires len_bound { reader.len ≤ KEPT }
     requires piece_in_bounds { 15 * length (asked reader piece.now) ≤ length out.old }
-    ensures { (result ≡ begunBy hub reader piece.now)
-        × (out.new ≡ repliesIn asText hub (asked reader (early hub reader piece.now))
+    ensures { (result ≡ begun_by hub reader piece.now)
+        × (out.new ≡ replies_in as_text hub (asked reader (early hub reader piece.now))
         ++ drop (15 * length (asked reader (early hub reader piece.now))) out.old) }
 {
     if is_open(hub) {

@@ -15,41 +15,41 @@ use Rattle.hub.specs.Basics.{among, bit, count, weight}
 use Rattle.hub.specs.Demand3.{Demand3}
 use Rattle.hub.specs.Ledger.{opened}
 use Rattle.hub.specs.Opening.{fresh, opening}
-use Rattle.hub.specs.Phases.{isOneOf, holds}
-use Rattle.hub.specs.Record.{PARTIES, phasesOf}
+use Rattle.hub.specs.Phases.{is_one_of, holds}
+use Rattle.hub.specs.Record.{PARTIES, phases_of}
 use Rattle.hub.specs.Schedule.{entries}
 use Rattle.hub.proofs.Demand3.{in-range, demand3}
 use Rattle.hub.proofs.Laws.Bools.{first, second}
 use Rattle.hub.proofs.Laws.Lists.{weight-map, weight-replicate}
-use Rattle.encoding.specs.Form.{asBytes}
-use Rattle.line.specs.Program.{unopened, Reply, replyOf, replies, rendered, lines_of}
-use Rattle.line.specs.Requests.{requestOf}
-use Rattle.outputs.specs.Schedule.{Schedule, unstarted, started, repliesOf, leftBy, Holds, scheduleOf}
-use Rattle.outputs.specs.Schedule.{leftOut, leftOutCodes, kept, EveryInput}
+use Rattle.encoding.specs.Form.{as_bytes}
+use Rattle.line.specs.Program.{unopened, Reply, reply_of, replies, rendered, lines_of}
+use Rattle.line.specs.Requests.{request_of}
+use Rattle.outputs.specs.Schedule.{Schedule, unstarted, started, replies_of, left_by, Holds, schedule_of}
+use Rattle.outputs.specs.Schedule.{left_out, left_out_codes, kept, EveryInput}
 use Rattle.outputs.proofs.Laws.Every.{every-input}
-use Rattle.billing.specs.Counting.{receiverOf}
-use Rattle.billing.specs.Promises.{partiesOf, Balanced, EverySchedule, EveryOutput}
+use Rattle.billing.specs.Counting.{receiver_of}
+use Rattle.billing.specs.Promises.{parties_of, Balanced, EverySchedule, EveryOutput}
 use Rattle.billing.proofs.Laws.Counting.{to-nobody}
 use Rattle.billing.proofs.Laws.Holders.{start, all-given, all-returned, takes_low}
-use Rattle.billing.proofs.Laws.Lines.{worthOf, tally-replies, granting, returning, grants-tally}
+use Rattle.billing.proofs.Laws.Lines.{worth_of, tally-replies, granting, returning, grants-tally}
 use Rattle.billing.proofs.Laws.Lines.{returns-tally}
 use Rattle.billing.proofs.Laws.Sums.{bit-false}
 
 abbrev held : Schedule → ℕ
-held s = count holds (phasesOf (leftBy s).slots)
+held s = count holds (phases_of (left_by s).slots)
 
 -- The claim over the replies themselves.
 abbrev Even : Schedule → List Reply → Type 0
 Even s rs =
-    weight (worthOf (granting (partiesOf s))) rs ≡ weight (worthOf returning) rs + held s
+    weight (worth_of (granting (parties_of s))) rs ≡ weight (worth_of returning) rs + held s
 
-in_bytes : (s : Schedule) (rs : List Reply) → Even s rs → Balanced s rs
-in_bytes s rs e =
-    let l = rendered asBytes rs in
+in_bytes_lem : (s : Schedule) (rs : List Reply) → Even s rs → Balanced s rs
+in_bytes_lem s rs e =
+    let l = rendered as_bytes rs in
     omega (
       arith,
-      grants-tally (partiesOf s) l,
-      tally-replies (granting (partiesOf s)) rs,
+      grants-tally (parties_of s) l,
+      tally-replies (granting (parties_of s)) rs,
       returns-tally l,
       tally-replies returning rs,
     )
@@ -58,8 +58,8 @@ module _ (o : Opening) (a : (opening o).answer ≡ Answer.Opened) (cs : List Cal
   abbrev s : Schedule
   s = started o cs
 
-  even : Even s (repliesOf s)
-  unfolding weight receiverOf Demand3
+  even : Even s (replies_of s)
+  unfolding weight receiver_of Demand3
   even =
       let h = (opening o).hub in
       let d = demand3 o a cs in
@@ -67,24 +67,24 @@ module _ (o : Opening) (a : (opening o).answer ≡ Answer.Opened) (cs : List Cal
         arith,
         all-given o a (start o a) cs,
         all-returned (opened o) (entries h cs),
-        weight-map (worthOf (granting o.parties)) replyOf (entries h cs),
-        weight-map (worthOf returning) replyOf (entries h cs),
+        weight-map (worth_of (granting o.parties)) reply_of (entries h cs),
+        weight-map (worth_of returning) reply_of (entries h cs),
         bit-false (le-ltb 0xFF o.parties (omega (arith, (in-range o a).parties.1))),
         d.holders,
-        d.heldWhole,
+        d.held_whole,
         ap (count holds) d.phases,
       )
 
 pub every-schedule : EverySchedule
 unfolding EverySchedule
-every-schedule o a cs = in_bytes (started o cs) (repliesOf (started o cs)) (even o a cs)
+every-schedule o a cs = in_bytes_lem (started o cs) (replies_of (started o cs)) (even o a cs)
 
 -- A reply that is left out is a refusal, and is worth nothing.
-abbrev allLow : List ℕ → Bool
-allLow [] = true
-allLow (x ∷ l) = ltb x 0x20 && allLow l
+abbrev all_low : List ℕ → Bool
+all_low [] = true
+all_low (x ∷ l) = ltb x 0x20 && all_low l
 
-low : (l : List ℕ) (c : ℕ) → allLow l ≡ true → among l c ≡ true → c < 0x20
+low : (l : List ℕ) (c : ℕ) → all_low l ≡ true → among l c ≡ true → c < 0x20
 low [] c e i = let z : ◌≡◌ {A = ℕ} 0 1 = cc in absurd (omega arith)
 low (x ∷ l) c e i = go (eqb c x) refl (low l c (second (ltb x 0x20) _ e)) i
   where
@@ -92,35 +92,35 @@ low (x ∷ l) c e i = go (eqb c x) refl (low l c (second (ltb x 0x20) _ e)) i
     go true z later j = omega (arith, eqb-true c x z, ltb-true x 0x20 (first (ltb x 0x20) _ e))
     go false z later j = later j
 
-left-out-low : (c : ℕ) → leftOut c ≡ true → c < 0x20
-left-out-low c e = low leftOutCodes c refl e
+left-out-low : (c : ℕ) → left_out c ≡ true → c < 0x20
+left-out-low c e = low left_out_codes c refl e
 
 module _ (worth : Reply → ℕ) (none : (r : Reply) → r.answer.code < 0x20 → worth r ≡ 0) where
   kept-worth : (rs : List Reply) → weight worth rs ≡ weight worth (kept rs)
   unfolding weight kept
   kept-worth [] = refl
-  kept-worth (r ∷ rs) = go (leftOut r.answer.code) refl (kept-worth rs)
+  kept-worth (r ∷ rs) = go (left_out r.answer.code) refl (kept-worth rs)
     where
-      go : (b : Bool) → leftOut r.answer.code ≡ b → weight worth rs ≡ weight worth (kept rs)
+      go : (b : Bool) → left_out r.answer.code ≡ b → weight worth rs ≡ weight worth (kept rs)
           → worth r + weight worth rs ≡ weight worth (cond b (kept rs) (r ∷ kept rs))
       go true e i = omega (arith, none r (left-out-low r.answer.code e))
       go false e i = omega arith
 
-no-grant : (n : ℕ) → n ≤ 32 → (r : Reply) → r.answer.code < 0x20 → worthOf (granting n) r ≡ 0
+no-grant : (n : ℕ) → n ≤ 32 → (r : Reply) → r.answer.code < 0x20 → worth_of (granting n) r ≡ 0
 no-grant n m r e =
     ap (λ (q : ℕ). bit (ltb q n))
     (to-nobody r.answer.code r.party _ (λ i. omega arith) (λ i. omega arith) (λ i. omega arith))
     ∙ bit-false (le-ltb 0xFF n (omega arith))
 
-no_return : (r : Reply) → r.answer.code < 0x20 → worthOf returning r ≡ 0
+no_return : (r : Reply) → r.answer.code < 0x20 → worth_of returning r ≡ 0
 no_return r e = takes_low r.answer.code e
 
-few : (s : Schedule) → Holds s → partiesOf s ≤ 32
+few : (s : Schedule) → Holds s → parties_of s ≤ 32
 few unstarted d = omega arith
 few (started o cs) d = (in-range o d.0).parties.1
 
-even-kept : (s : Schedule) → Holds s → Even s (repliesOf s)
-unfolding weight fresh isOneOf
+even-kept : (s : Schedule) → Holds s → Even s (replies_of s)
+unfolding weight fresh is_one_of
 even-kept unstarted d =
     omega (arith, weight-replicate (λ (f : Phase). bit (holds f)) Phase.Free refl PARTIES)
 even-kept (started o cs) d = even o d.0 cs
@@ -128,17 +128,17 @@ even-kept (started o cs) d = even o d.0 cs
 pub every-output : EveryOutput
 unfolding EveryOutput EveryInput
 every-output input =
-    let rs = replies unopened (map requestOf (lines_of input)) in
-    let s = scheduleOf (map requestOf (lines_of input)) in
+    let rs = replies unopened (map request_of (lines_of input)) in
+    let s = schedule_of (map request_of (lines_of input)) in
     let f = every-input input in
-    let k : (worth : Reply → ℕ) → weight worth (kept rs) ≡ weight worth (repliesOf s) =
+    let k : (worth : Reply → ℕ) → weight worth (kept rs) ≡ weight worth (replies_of s) =
     λ worth. ap (weight worth) f.1 in
-    in_bytes s rs
+    in_bytes_lem s rs
     (omega (
       arith,
-      kept-worth (worthOf (granting (partiesOf s))) (no-grant (partiesOf s) (few s f.2)) rs,
-      kept-worth (worthOf returning) no_return rs,
-      k (worthOf (granting (partiesOf s))),
-      k (worthOf returning),
+      kept-worth (worth_of (granting (parties_of s))) (no-grant (parties_of s) (few s f.2)) rs,
+      kept-worth (worth_of returning) no_return rs,
+      k (worth_of (granting (parties_of s))),
+      k (worth_of returning),
       even-kept s f.2,
     ))

@@ -6,13 +6,13 @@ use Rattle.hub.specs.declared.opening.Opening.{Opening}
 use Rattle.hub.specs.Basics.{among, count}
 use Rattle.hub.specs.Opening.{opening}
 use Rattle.hub.specs.Phases.{holds}
-use Rattle.hub.specs.Record.{phasesOf}
-use Rattle.encoding.specs.Form.{asBytes}
+use Rattle.hub.specs.Record.{phases_of}
+use Rattle.encoding.specs.Form.{as_bytes}
 use Rattle.line.specs.Program.{unopened, Reply, replies, rendered, lines_of}
-use Rattle.line.specs.Requests.{requestOf}
-use Rattle.outputs.specs.Schedule.{Schedule, unstarted, started, repliesOf, leftBy, scheduleOf}
+use Rattle.line.specs.Requests.{request_of}
+use Rattle.outputs.specs.Schedule.{Schedule, unstarted, started, replies_of, left_by, schedule_of}
 use Rattle.billing.specs.declared.Terms.{Terms}
-use Rattle.billing.specs.Counting.{sum, countBelow, linesIn, code_at, grantsOf}
+use Rattle.billing.specs.Counting.{sum, count_below, lines_in, code_at, grants_of}
 use Rattle.billing.specs.Sharing.{weight, whole, share}
 
 -- "The shares add up to the fee exactly, and no share differs from its exact portion by a cent or
@@ -27,31 +27,31 @@ EveryBill = (t : Terms) → 1 ≤ t.parties → Fair t
 
 -- "The links counted are its 26 and 27 lines plus the holders at its end": so much of a schedule
 -- and its replies, in bytes.
-abbrev pub isReturn : ℕ → Bool
-isReturn code = among (0x26 ∷ 0x27 ∷ []) code
+abbrev pub is_return : ℕ → Bool
+is_return code = among (0x26 ∷ 0x27 ∷ []) code
 
 unfoldable pub returns : List ℕ → ℕ
-returns l = countBelow (λ i. isReturn (code_at l i)) (linesIn l)
+returns l = count_below (λ i. is_return (code_at l i)) (lines_in l)
 
-abbrev pub partiesOf : Schedule → ℕ
-partiesOf unstarted = 0
-partiesOf (started o cs) = o.parties
+abbrev pub parties_of : Schedule → ℕ
+parties_of unstarted = 0
+parties_of (started o cs) = o.parties
 
 abbrev pub Balanced : Schedule → List Reply → Type 0
 Balanced s rs =
-    let l = rendered asBytes rs in
-    sum (grantsOf l) (partiesOf s) ≡ returns l + count holds (phasesOf (leftBy s).slots)
+    let l = rendered as_bytes rs in
+    sum (grants_of l) (parties_of s) ≡ returns l + count holds (phases_of (left_by s).slots)
 
 -- Of every schedule from an accepted opening, whichever, with that opening's n.
 unfoldable pub EverySchedule : Type 0
 EverySchedule =
     (o : Opening) → (opening o).answer ≡ Answer.Opened → (cs : List Call)
     → let s = started o cs in
-    Balanced s (repliesOf s)
+    Balanced s (replies_of s)
 
 -- And of all that the program prints, whatever it reads.
 unfoldable pub EveryOutput : Type 0
 EveryOutput =
     (input : List ℕ)
-    → let rs = map requestOf (lines_of input) in
-    Balanced (scheduleOf rs) (replies unopened rs)
+    → let rs = map request_of (lines_of input) in
+    Balanced (schedule_of rs) (replies unopened rs)

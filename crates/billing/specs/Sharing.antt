@@ -3,7 +3,7 @@
 use Rattle.std.specs.Prelude.{ℕ, ◌+◌, ◌*◌, ◌-◌, ◌/◌, ◌%◌, ◌≤◌, ◌<◌, Bool, cond, ◌&&◌, ◌||◌, List, eqb, ltb, get_or}
 use Rattle.hub.specs.Basics.{bit}
 use Rattle.billing.specs.declared.Terms.{Terms}
-use Rattle.billing.specs.Counting.{sum, countBelow, table}
+use Rattle.billing.specs.Counting.{sum, count_below, table}
 
 abbrev pub granted : Terms → ℕ → ℕ
 granted t p = get_or t.grants p 0
@@ -19,15 +19,15 @@ abbrev pub whole : Terms → ℕ
 whole t = sum (weight t) t.parties
 
 -- The exact portion is the fee × weight ÷ whole: its whole cents, and what remains of it.
-abbrev pub roundedDown : Terms → ℕ → ℕ
-roundedDown t p = t.fee * weight t p / whole t
+abbrev pub rounded_down : Terms → ℕ → ℕ
+rounded_down t p = t.fee * weight t p / whole t
 
 abbrev pub remainder : Terms → ℕ → ℕ
 remainder t p = t.fee * weight t p % whole t
 
 -- The cents left over.
-abbrev pub leftOver : Terms → ℕ
-leftOver t = t.fee - sum (roundedDown t) t.parties
+abbrev pub left_over : Terms → ℕ
+left_over t = t.fee - sum (rounded_down t) t.parties
 
 -- Party q, with remainder r, comes before party p, with remainder s: the larger remainder first, the
 -- lower party first among equals.
@@ -36,11 +36,11 @@ precedes r q s p = ltb s r || (eqb r s && ltb q p)
 
 -- How many of n parties with these remainders come before party p.
 unfoldable pub rank : (ℕ → ℕ) → ℕ → ℕ → ℕ
-rank r n p = countBelow (λ q. precedes (r q) q (r p) p) n
+rank r n p = count_below (λ q. precedes (r q) q (r p) p) n
 
 -- A cent more for as many parties as there are cents left over, the first in that order.
 unfoldable pub share : Terms → ℕ → ℕ
-share t p = roundedDown t p + bit (ltb (rank (remainder t) t.parties p) (leftOver t))
+share t p = rounded_down t p + bit (ltb (rank (remainder t) t.parties p) (left_over t))
 
 -- 32 numbers: f of the parties below n, then 0.
 abbrev pub up_to : ℕ → (ℕ → ℕ) → List ℕ

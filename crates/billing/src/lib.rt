@@ -3,11 +3,11 @@
 
 ghost use Rattle.std.specs.Prelude.{◌*◌, ◌+◌, ◌<◌, ◌≤◌, ◌≡◌, ltb, get_or, length, replicate};
 ghost use Rattle.hub.specs.Basics.{bit};
-ghost use Rattle.billing.specs.Bill.{answerTo, billBytes, billCode, code_of, inBytes, shares_of};
-ghost use Rattle.billing.specs.Bill.{writtenAt};
-ghost use Rattle.billing.specs.Counting.{grantsOf, receiverOf, sum, table};
-ghost use Rattle.billing.specs.Sharing.{Billable, granted, leftOver, precedes, rank, remainder};
-ghost use Rattle.billing.specs.Sharing.{roundedDown, share, up_to, weighed, whole};
+ghost use Rattle.billing.specs.Bill.{answer_to, bill_bytes, bill_code, code_of, in_bytes, shares_of};
+ghost use Rattle.billing.specs.Bill.{written_at};
+ghost use Rattle.billing.specs.Counting.{grants_of, receiver_of, sum, table};
+ghost use Rattle.billing.specs.Sharing.{Billable, granted, left_over, precedes, rank, remainder};
+ghost use Rattle.billing.specs.Sharing.{rounded_down, share, up_to, weighed, whole};
 
 use openhub::up_to_32;
 
@@ -50,7 +50,7 @@ pub struct Bill {
 
 // The party that a line gives a link.
 fn receiver(code: u8, party: u8, woken: u8) -> u8
-    ensures { result ≡ receiverOf code party woken }
+    ensures { result ≡ receiver_of code party woken }
 {
     if code == 0x21 {
         return party;
@@ -66,7 +66,7 @@ fn receiver(code: u8, party: u8, woken: u8) -> u8
 
 // The links that each party got, counted from answer lines of seven bytes each.
 pub fn count_grants(lines: &[u8]) -> [u64; 32]
-    ensures { result ≡ table 32 (grantsOf lines.now) }
+    ensures { result ≡ table 32 (grants_of lines.now) }
 {
     let total = lines.len() / 7;
     let mut grants = [0u64; 32];
@@ -110,8 +110,8 @@ fn weight(all: u64, links: u64) -> u64
 // The exact portions.
 fn divide(t: Terms) -> Portions
     requires { Billable t }
-    ensures { (result.cents ≡ up_to t.parties (roundedDown t))
-        × (result.remainders ≡ up_to t.parties (remainder t)) × (result.left ≡ leftOver t) }
+    ensures { (result.cents ≡ up_to t.parties (rounded_down t))
+        × (result.remainders ≡ up_to t.parties (remainder t)) × (result.left ≡ left_over t) }
 {
     let n = t.parties as usize;
     let fee = t.fee;
@@ -208,7 +208,7 @@ fn refused(answer: Answer) -> Bill
 
 // The bill of n parties for a fee in cents, from answer lines of seven bytes each.
 pub fn share_fee(parties: u8, fee: u32, lines: &[u8]) -> Bill
-    ensures { (result.answer ≡ answerTo parties fee lines.now)
+    ensures { (result.answer ≡ answer_to parties fee lines.now)
         × (result.shares ≡ shares_of parties fee lines.now) }
 {
     if !up_to_32(parties) {
@@ -245,7 +245,7 @@ pub fn code(answer: Answer) -> u8
 // A number in four bytes, high byte first.
 fn put_number(out: &mut [u8], at: usize, n: u32)
     requires { at + 4 ≤ length out.old }
-    ensures { out.new ≡ writtenAt at out.old n }
+    ensures { out.new ≡ written_at at out.old n }
 {
     out[at] = (n / 16777216 % 256) as u8;
     out[at + 1] = (n / 65536 % 256) as u8;
@@ -255,7 +255,7 @@ fn put_number(out: &mut [u8], at: usize, n: u32)
 
 fn put_shares(out: &mut [u8], parties: u8, shares: [u32; 32])
     requires { (parties ≤ 32) × (length out.old ≡ 4 * parties) }
-    ensures { out.new ≡ inBytes (λ p. get_or shares p 0) parties }
+    ensures { out.new ≡ in_bytes (λ p. get_or shares p 0) parties }
 {
     let n = parties as usize;
     let mut p: usize = 0;
@@ -269,8 +269,8 @@ fn put_shares(out: &mut [u8], parties: u8, shares: [u32; 32])
 // if it is handed no such buffer; unless it gives 0 nothing is written.
 #[unsafe(no_mangle)]
 pub extern "C" fn bill_shares(parties: u8, fee: u32, lines: &[u8], shares: &mut [u8]) -> u8
-    ensures { (result ≡ billCode parties fee lines.now shares.old)
-        × (shares.new ≡ billBytes parties fee lines.now shares.old) }
+    ensures { (result ≡ bill_code parties fee lines.now shares.old)
+        × (shares.new ≡ bill_bytes parties fee lines.now shares.old) }
 {
     let b = share_fee(parties, fee, lines);
     let answer = b.answer;

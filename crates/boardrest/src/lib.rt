@@ -5,7 +5,7 @@
 ghost use Rattle.std.specs.Prelude.{◌≡◌};
 ghost use Rattle.hub.specs.Answers.{printed};
 ghost use Rattle.hub.specs.Record.{of_fields};
-ghost use Rattle.operations.specs.Operation.{operated, toldOf};
+ghost use Rattle.operations.specs.Operation.{operated, told_of};
 
 use hub::{Control, Hub, Op, PartySlot, PlaceSlot};
 use operations::{Operated, Told};
@@ -29,7 +29,7 @@ fn operate_fields(
 
 // Any record and any party byte may be handed in; a refusal leaves the record as it came.
 pub fn operate(hub: &mut Hub, op: Op, party: u8) -> Told
-    ensures { (result ≡ toldOf (operated hub.old (record { op = op; party = party })))
+    ensures { (result ≡ told_of (operated hub.old (record { op = op; party = party })))
         × (printed result.answer ≡ printed (operated hub.old (record { op = op; party = party })).answer)
         × (hub.new ≡ (operated hub.old (record { op = op; party = party })).hub) }
 {

@@ -7,33 +7,33 @@ use Rattle.hub.specs.declared.record.Phase.TheVariants.{Cancelling, Refusing, Re
 use Rattle.hub.specs.declared.record.Phase.TheVariants.{Resuming, ResumingAt, Fetching, Storing}
 use Rattle.hub.specs.declared.record.Phase.TheVariants.{AcquiringMarked, SuspendingMarked, TicketedMarked}
 use Rattle.hub.specs.Basics.{bit}
-use Rattle.hub.specs.Phases.{isMarked, isOneOf, rank, ticketOf}
+use Rattle.hub.specs.Phases.{is_marked, is_one_of, rank, ticket_of}
 
 -- The phases in the order of their names, with their ticket t.
-abbrev pub namedPhases : ℕ → List Phase
-namedPhases t =
+abbrev pub named_phases : ℕ → List Phase
+named_phases t =
     Free ∷ Holding ∷ Waiting t ∷ Acquiring ∷ Suspending ∷ Ticketed t ∷ Aborting t ∷ Cancelling t
     ∷ Refusing t ∷ Releasing ∷ Resuming ∷ ResumingAt t ∷ Fetching ∷ Storing ∷ []
 
 -- What has another name is asked.
-abbrev pub phaseNamed : ℕ → ℕ → Phase
-phaseNamed name t = get_or (namedPhases t) name Acquiring
+abbrev pub phase_named : ℕ → ℕ → Phase
+phase_named name t = get_or (named_phases t) name Acquiring
 
 -- Asked, unnumbered and numbered with a mark; any other phase as it is.
-abbrev pub withMark : Phase → Phase
-withMark f =
+abbrev pub with_mark : Phase → Phase
+with_mark f =
     cond (eqb (rank f) 3) AcquiringMarked
-    (cond (eqb (rank f) 4) SuspendingMarked (cond (eqb (rank f) 5) (TicketedMarked (ticketOf f)) f))
+    (cond (eqb (rank f) 4) SuspendingMarked (cond (eqb (rank f) 5) (TicketedMarked (ticket_of f)) f))
 
 -- A mark counts modulo 2.
 abbrev pub marked : Phase → ℕ → Phase
-marked f mark = cond (eqb (mark % 2) 0) f (withMark f)
+marked f mark = cond (eqb (mark % 2) 0) f (with_mark f)
 
-abbrev pub markOf : Phase → ℕ
-markOf f = bit (isMarked f)
+abbrev pub mark_of : Phase → ℕ
+mark_of f = bit (is_marked f)
 
 -- The name of a phase. One with a mark has that of the phase without; a phase that has no name is written as asked.
-abbrev pub phaseName : Phase → ℕ
-phaseName f =
-    cond (isOneOf (SuspendingMarked ∷ []) f) 4
-    (cond (isOneOf (TicketedMarked 0 ∷ []) f) 5 (cond (leb (rank f) 13) (rank f) 3))
+abbrev pub phase_name : Phase → ℕ
+phase_name f =
+    cond (is_one_of (SuspendingMarked ∷ []) f) 4
+    (cond (is_one_of (TicketedMarked 0 ∷ []) f) 5 (cond (leb (rank f) 13) (rank f) 3))

@@ -1,7 +1,7 @@
 // The places of a record, 256 cells: a state, and the party that waits there.
 
 ghost use Rattle.std.specs.Prelude.{◌+◌, ◌≤◌, ◌≡◌, length};
-ghost use Rattle.cells.specs.Places.{placeBytes, placeNamed, places_at, seatAt, waiterOf};
+ghost use Rattle.cells.specs.Places.{place_bytes, place_named, places_at, seat_at, waiter_of};
 
 use crate::number::{number_at, put_cell, wide};
 use hub::record::{Place, PlaceSlot};
@@ -10,7 +10,7 @@ use phases::place_rank;
 
 // A byte that names nothing counts by its remainder, and so does a party that a place has no room for.
 fn place_named(name: u8, party: u32) -> Place
-    ensures { result ≡ placeNamed name party }
+    ensures { result ≡ place_named name party }
 {
     let state = name % 6;
     match state {
@@ -24,7 +24,7 @@ fn place_named(name: u8, party: u32) -> Place
 }
 
 fn waiter_of(place: Place) -> u32
-    ensures { result ≡ waiterOf place }
+    ensures { result ≡ waiter_of place }
 {
     match place {
         Place::Waiting(party) => wide(party),
@@ -35,7 +35,7 @@ fn waiter_of(place: Place) -> u32
 // The place in the five bytes from here on.
 fn seat_at(bytes: &[u8], at: usize) -> PlaceSlot
     requires { at + 5 ≤ length bytes.now }
-    ensures { result ≡ seatAt bytes.now at }
+    ensures { result ≡ seat_at bytes.now at }
 {
     let place = place_named(bytes[at], number_at(bytes, at + 1));
     with_place(place, empty_seat())
@@ -57,7 +57,7 @@ pub fn places_at(bytes: &[u8], at: usize) -> [PlaceSlot; 256]
 
 fn put_places(out: &mut [u8], places: [PlaceSlot; 256])
     requires { length out.old ≡ 1280 }
-    ensures { out.new ≡ placeBytes places }
+    ensures { out.new ≡ place_bytes places }
 {
     let mut i: usize = 0;
     while i < 256 {
@@ -71,7 +71,7 @@ fn put_places(out: &mut [u8], places: [PlaceSlot; 256])
 }
 
 pub fn place_bytes(places: [PlaceSlot; 256]) -> [u8; 1280]
-    ensures { result ≡ placeBytes places }
+    ensures { result ≡ place_bytes places }
 {
     let mut out = [0u8; 1280];
     put_places(&mut out, places);

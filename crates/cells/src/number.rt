@@ -1,7 +1,7 @@
 // Numbers of four bytes, the high byte first, alone or after a name; and bytes copied.
 
 ghost use Rattle.std.specs.Prelude.{◌+◌, ◌<◌, ◌≤◌, ◌≡◌, ◌∷◌, ◌++◌, length};
-ghost use Rattle.cells.specs.Bytes.{fourOf, number_at, withBytes};
+ghost use Rattle.cells.specs.Bytes.{four_of, number_at, with_bytes};
 
 pub fn wide(byte: u8) -> u32
     ensures { (result ≡ byte) × (result < 256) }
@@ -20,7 +20,7 @@ pub fn number_at(bytes: &[u8], at: usize) -> u32
 }
 
 pub fn number_bytes(n: u32) -> [u8; 4]
-    ensures { result ≡ fourOf n }
+    ensures { result ≡ four_of n }
 {
     [
         (n / 16777216 % 256) as u8,
@@ -32,7 +32,7 @@ pub fn number_bytes(n: u32) -> [u8; 4]
 
 // Four numbers, one after another.
 pub fn four_numbers(a: u32, b: u32, c: u32, d: u32) -> [u8; 16]
-    ensures { result ≡ fourOf a ++ fourOf b ++ fourOf c ++ fourOf d }
+    ensures { result ≡ four_of a ++ four_of b ++ four_of c ++ four_of d }
 {
     [
         (a / 16777216 % 256) as u8,
@@ -57,7 +57,7 @@ pub fn four_numbers(a: u32, b: u32, c: u32, d: u32) -> [u8; 16]
 // A place or a phase: which one it is, and the party or the ticket that it may have.
 pub fn put_cell(out: &mut [u8], name: u8, n: u32)
     requires { length out.old ≡ 5 }
-    ensures { out.new ≡ name ∷ fourOf n }
+    ensures { out.new ≡ name ∷ four_of n }
 {
     out[0] = name;
     out[1] = (n / 16777216 % 256) as u8;
@@ -80,7 +80,7 @@ pub fn put_bytes(out: &mut [u8], bytes: &[u8])
 // Bytes in their place among others, which stay.
 pub fn put_bytes_at(out: &mut [u8], at: usize, bytes: &[u8])
     requires { at + length bytes.now ≤ length out.old }
-    ensures { out.new ≡ withBytes out.old at bytes.now }
+    ensures { out.new ≡ with_bytes out.old at bytes.now }
 {
     let end = at + bytes.len();
     put_bytes(&mut out[at..end], bytes);
@@ -89,7 +89,7 @@ pub fn put_bytes_at(out: &mut [u8], at: usize, bytes: &[u8])
 // The same of 32, one for each party or radio.
 pub fn put_few(out: &mut [u8], at: usize, few: [u8; 32])
     requires { at + 32 ≤ length out.old }
-    ensures { (out.new ≡ withBytes out.old at few) × (length few ≡ 32) }
+    ensures { (out.new ≡ with_bytes out.old at few) × (length few ≡ 32) }
 {
     put_bytes_at(out, at, &few);
 }

@@ -1,13 +1,13 @@
 // A phase by its name, its ticket and its mark.
 
 ghost use Rattle.std.specs.Prelude.{◌≡◌};
-ghost use Rattle.cells.specs.Phases.{markOf, marked, phaseName, phaseNamed};
+ghost use Rattle.cells.specs.Phases.{mark_of, marked, phase_name, phase_named};
 
 use hub::record::Phase;
 
 // The phase of a name. From 14 up a name is one of asked with more said beside it.
 pub fn phase_named(name: u8, t: u32) -> Phase
-    ensures { result ≡ phaseNamed name t }
+    ensures { result ≡ phase_named name t }
 {
     match name {
         0 => Phase::Free,
@@ -30,7 +30,7 @@ pub fn phase_named(name: u8, t: u32) -> Phase
 
 // A mark stands elsewhere, and a phase with one has the name of the phase without. A phase that has no name is written as asked.
 pub fn phase_name(phase: Phase) -> u8
-    ensures { result ≡ phaseName phase }
+    ensures { result ≡ phase_name phase }
 {
     match phase {
         Phase::Free => 0,
@@ -66,7 +66,7 @@ pub fn marked(phase: Phase, mark: u8) -> Phase
 }
 
 pub fn mark_of(phase: Phase) -> u8
-    ensures { result ≡ markOf phase }
+    ensures { result ≡ mark_of phase }
 {
     match phase {
         Phase::AcquiringMarked | Phase::SuspendingMarked | Phase::TicketedMarked(_) => 1,

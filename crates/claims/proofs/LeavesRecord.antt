@@ -7,31 +7,31 @@ use Rattle.hub.specs.declared.moves.Sight.{Sight}
 use Rattle.hub.specs.declared.record.Hub.{Hub}
 use Rattle.hub.specs.declared.record.Pool.{Pool}
 use Rattle.hub.specs.Answers.{Printed, printed}
-use Rattle.hub.specs.Calls.{answer_of, apply, checked, isFull, move_of}
+use Rattle.hub.specs.Calls.{answer_of, apply, checked, is_full, move_of}
 use Rattle.hub.specs.Fits.{fits}
-use Rattle.claims.specs.LeavesRecord.{LeavesRecord, leavesAll}
+use Rattle.claims.specs.LeavesRecord.{LeavesRecord, leaves_all}
 use Rattle.hub.specs.Look.{look}
 use Rattle.hub.specs.Moves.{Move, Refuse, Tell, Act, Put, Wake}
-use Rattle.hub.specs.Radios.{poolAfter}
-use Rattle.hub.specs.Record.{withPool}
-use Rattle.hub.specs.Table.{acquire, cancel, decide, release, tellRadio}
+use Rattle.hub.specs.Radios.{pool_after}
+use Rattle.hub.specs.Record.{with_pool}
+use Rattle.hub.specs.Table.{acquire, cancel, decide, release, tell_radio}
 use Rattle.hub.proofs.Laws.Bools.{never}
 use Rattle.hub.proofs.Laws.Radios.{still}
-use Rattle.hub.proofs.Laws.Rows.{calls-alike, openRow}
+use Rattle.hub.proofs.Laws.Rows.{calls-alike, open_row}
 
 -- Does a move change nothing, or answer otherwise?
-abbrev answersSo : Move → Bool
-answersSo (Refuse r) = true
-answersSo (Tell y) = true
-answersSo (Act c) = not (leavesAll (printed c.answer).code)
-answersSo (Put a c) = not (leavesAll (printed c.answer).code)
-answersSo (Wake q s a c) = not (leavesAll (printed c.answer).code)
+abbrev answers_so : Move → Bool
+answers_so (Refuse r) = true
+answers_so (Tell y) = true
+answers_so (Act c) = not (leaves_all (printed c.answer).code)
+answers_so (Put a c) = not (leaves_all (printed c.answer).code)
+answers_so (Wake q s a c) = not (leaves_all (printed c.answer).code)
 
-decided : (s : Sight) (o : Op) (full : Bool) → answersSo (decide o full s) ≡ true
-unfolding openRow acquire cancel release tellRadio
-decided s = calls-alike s answersSo true (λ t q. refl) (λ x. refl)
+decided : (s : Sight) (o : Op) (full : Bool) → answers_so (decide o full s) ≡ true
+unfolding open_row acquire cancel release tell_radio
+decided s = calls-alike s answers_so true (λ t q. refl) (λ x. refl)
 
-checked-so : (a b : Bool) (m : Move) → answersSo m ≡ true → answersSo (checked a b m) ≡ true
+checked-so : (a b : Bool) (m : Move) → answers_so m ≡ true → answers_so (checked a b m) ≡ true
 unfolding checked
 checked-so false b m e = refl
 checked-so true false m e = refl
@@ -41,7 +41,7 @@ not-both : (b : Bool) → not b ≡ true → b ≡ true → {A : Type 0} → A
 not-both true e f = never (sym e)
 not-both false e f = never (sym f)
 
-applied : (h : Hub) (s : Sight) (m : Move) → answersSo m ≡ true → leavesAll (printed (answer_of m)).code ≡ true
+applied : (h : Hub) (s : Sight) (m : Move) → answers_so m ≡ true → leaves_all (printed (answer_of m)).code ≡ true
     → apply h s m ≡ h
 unfolding apply
 applied h s (Refuse r) e f = refl
@@ -50,8 +50,8 @@ applied h s (Act c) e f = not-both _ e f
 applied h s (Put a c) e f = not-both _ e f
 applied h s (Wake q x a c) e f = not-both _ e f
 
-pool-stays : (named : Bool) (y : Printed) (p : ℕ) (q : Pool) → leavesAll y.code ≡ true → poolAfter named y p q ≡ q
-unfolding poolAfter
+pool-stays : (named : Bool) (y : Printed) (p : ℕ) (q : Pool) → leaves_all y.code ≡ true → pool_after named y p q ≡ q
+unfolding pool_after
 pool-stays true y p q e = still y p q e
 pool-stays false y p q e = refl
 
@@ -59,7 +59,7 @@ pub leaves-record : LeavesRecord
 unfolding LeavesRecord
 leaves-record h c e =
     let s = look h c.party in
-    let so = checked-so (fits h) _ _ (decided s c.op (isFull h.control.oldest h.control.figures.issued h.slots)) in
+    let so = checked-so (fits h) _ _ (decided s c.op (is_full h.control.oldest h.control.figures.issued h.slots)) in
     λ i.
-    withPool (pool-stays h.control.opening.named (printed (answer_of (move_of h c))) c.party h.control.pool e i)
+    with_pool (pool-stays h.control.opening.named (printed (answer_of (move_of h c))) c.party h.control.pool e i)
     (applied h s (move_of h c) so e i)

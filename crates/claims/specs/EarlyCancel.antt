@@ -9,7 +9,7 @@ use Rattle.hub.specs.Answers.{printed}
 use Rattle.hub.specs.Basics.{among}
 use Rattle.hub.specs.Calls.{called}
 use Rattle.hub.specs.Fits.{fits}
-use Rattle.hub.specs.Phases.{holds, isMarked}
+use Rattle.hub.specs.Phases.{holds, is_marked}
 use Rattle.hub.specs.Record.{read_slot}
 use Rattle.hub.specs.Schedule.{Entry, entries, run}
 
@@ -37,4 +37,4 @@ unfoldable pub ForgetsMark : Type 0
 ForgetsMark =
     (h : Hub) (p : ℕ) → among (0x21 ∷ 0x25 ∷ []) (printed (called h (call_by Op.Step p)).answer).code ≡ true
     → let f = (read_slot (called h (call_by Op.Step p)).hub.slots p).phase in
-    (holds f ≡ true) × (isMarked f ≡ false)
+    (holds f ≡ true) × (is_marked f ≡ false)

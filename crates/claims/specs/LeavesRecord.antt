@@ -7,10 +7,10 @@ use Rattle.hub.specs.Basics.{among}
 use Rattle.hub.specs.Calls.{called}
 
 -- A refusal's code is below 20.
-abbrev pub leavesAll : ℕ → Bool
-leavesAll c = ltb c 0x20 || among (0x37 ∷ 0x39 ∷ []) c
+abbrev pub leaves_all : ℕ → Bool
+leaves_all c = ltb c 0x20 || among (0x37 ∷ 0x39 ∷ []) c
 
 -- Of every record, whether it fits or not, and every call: such an answer gives the record back as it came.
 unfoldable pub LeavesRecord : Type 0
 LeavesRecord =
-    (h : Hub) (c : Call) → leavesAll (printed (called h c).answer).code ≡ true → (called h c).hub ≡ h
+    (h : Hub) (c : Call) → leaves_all (printed (called h c).answer).code ≡ true → (called h c).hub ≡ h

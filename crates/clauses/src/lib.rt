@@ -2,10 +2,10 @@
 
 ghost use Rattle.std.specs.Prelude.{◌≡◌, ◌&&◌, ◌≤◌, ◌<◌};
 ghost use Rattle.hub.specs.Basics.{implies};
-ghost use Rattle.hub.specs.Fits.{counterFits, figuresFit, inWindow, ticketFits, placeListed};
-ghost use Rattle.hub.specs.Fits.{kindsFit, standsAt};
-ghost use Rattle.hub.specs.Phases.{ofRadios};
-ghost use Rattle.clauses.specs.Window.{ticketAt};
+ghost use Rattle.hub.specs.Fits.{counter_fits, figures_fit, in_window, ticket_fits, place_listed};
+ghost use Rattle.hub.specs.Fits.{kinds_fit, stands_at};
+ghost use Rattle.hub.specs.Phases.{of_radios};
+ghost use Rattle.clauses.specs.Window.{ticket_at};
 
 use hub::opening::Opening;
 use hub::record::{Figures, Hub, Phase, Place};
@@ -14,7 +14,7 @@ use phases::{of_radios, ticket};
 
 // −32 to 32.
 fn counter_fits(figures: Figures) -> bool
-    ensures { result ≡ counterFits figures.counter }
+    ensures { result ≡ counter_fits figures.counter }
 {
     if figures.counter < -32 {
         return false;
@@ -24,7 +24,7 @@ fn counter_fits(figures: Figures) -> bool
 
 // K and n, the figures and the oldest ticket that has a place, clause by clause.
 fn figures_fit(opening: Opening, figures: Figures, oldest: u32) -> bool
-    ensures { result ≡ figuresFit opening figures oldest }
+    ensures { result ≡ figures_fit opening figures oldest }
 {
     if !up_to_32(opening.permits) {
         return false;
@@ -59,7 +59,7 @@ fn figures_fit(opening: Opening, figures: Figures, oldest: u32) -> bool
 // Has t a place, and is it below end?
 pub fn in_window(oldest: u32, end: u32, t: u32) -> bool
     requires { oldest ≤ 1000000 }
-    ensures { result ≡ inWindow oldest end t }
+    ensures { result ≡ in_window oldest end t }
 {
     if t < oldest {
         return false;
@@ -73,7 +73,7 @@ pub fn in_window(oldest: u32, end: u32, t: u32) -> bool
 // Is the ticket of this phase one that fits? Drawing a ticket needs room.
 fn ticket_fits(phase: Phase, figures: Figures, oldest: u32) -> bool
     requires { oldest ≤ 1000000 }
-    ensures { result ≡ ticketFits figures oldest phase }
+    ensures { result ≡ ticket_fits figures oldest phase }
 {
     match phase {
         Phase::Waiting(_)
@@ -91,7 +91,7 @@ fn ticket_fits(phase: Phase, figures: Figures, oldest: u32) -> bool
 
 // Does the step table list the place that a party of this phase is about to act on?
 fn listed(phase: Phase, place: Place) -> bool
-    ensures { result ≡ placeListed phase place }
+    ensures { result ≡ place_listed phase place }
 {
     match phase {
         Phase::Ticketed(_) | Phase::TicketedMarked(_) => match place {
@@ -112,7 +112,7 @@ fn listed(phase: Phase, place: Place) -> bool
 
 // Some phases are of a hub with radios alone.
 fn phase_fits(phase: Phase, named: bool) -> bool
-    ensures { result ≡ implies (ofRadios phase) named }
+    ensures { result ≡ implies (of_radios phase) named }
 {
     if of_radios(phase) {
         return named;
@@ -123,8 +123,8 @@ fn phase_fits(phase: Phase, named: bool) -> bool
 // The clauses of one of the n parties, over its phase and what lies at the place of its ticket.
 pub fn party_fits(phase: Phase, place: Place, figures: Figures, oldest: u32, named: bool) -> bool
     requires { oldest ≤ 1000000 }
-    ensures { result ≡ ticketFits figures oldest phase && placeListed phase place
-        && implies (ofRadios phase) named }
+    ensures { result ≡ ticket_fits figures oldest phase && place_listed phase place
+        && implies (of_radios phase) named }
 {
     if !ticket_fits(phase, figures, oldest) {
         return false;
@@ -137,7 +137,7 @@ pub fn party_fits(phase: Phase, place: Place, figures: Figures, oldest: u32, nam
 
 // Is the phase one of a party that stands at ticket t?
 fn stands_at(phase: Phase, t: u32) -> bool
-    ensures { result ≡ standsAt phase t }
+    ensures { result ≡ stands_at phase t }
 {
     // mostly it waits
     if let Phase::Waiting(u) = phase {
@@ -152,7 +152,7 @@ fn stands_at(phase: Phase, t: u32) -> bool
 // The ticket whose place is at index i.
 fn ticket_at(oldest: u32, i: usize) -> u32
     requires { (oldest ≤ 1000000) × (i < 256) }
-    ensures { result ≡ ticketAt oldest i }
+    ensures { result ≡ ticket_at oldest i }
 {
     oldest + (i as u32 + Hub::PLACES - oldest % Hub::PLACES) % Hub::PLACES
 }
@@ -160,14 +160,14 @@ fn ticket_at(oldest: u32, i: usize) -> u32
 // The clause of a place where someone waits, over that party's phase and the place's index.
 pub fn waiter_fits(phase: Phase, oldest: u32, i: usize) -> bool
     requires { (oldest ≤ 1000000) × (i < 256) }
-    ensures { result ≡ standsAt phase (ticketAt oldest i) }
+    ensures { result ≡ stands_at phase (ticket_at oldest i) }
 {
     stands_at(phase, ticket_at(oldest, i))
 }
 
 // What is asked of the record apart from its parties, places and radios.
 pub fn figures_and_kinds_fit(opening: Opening, figures: Figures, oldest: u32) -> bool
-    ensures { result ≡ figuresFit opening figures oldest && kindsFit opening }
+    ensures { result ≡ figures_fit opening figures oldest && kinds_fit opening }
 {
     if !figures_fit(opening, figures, oldest) {
         return false;

@@ -1,7 +1,7 @@
 // The closing line: 7E, holders, parties waiting, counter.
 
 ghost use Rattle.std.specs.Prelude.{◌≡◌, length};
-ghost use Rattle.encoding.specs.Frame.{twosComplement};
+ghost use Rattle.encoding.specs.Frame.{twos_complement};
 ghost use Rattle.line.specs.Program.{closing};
 
 use counts::counts;
@@ -12,7 +12,7 @@ use writer::text::put_line;
 
 // The counter as it is printed.
 fn counter_number(figures: Figures) -> u32
-    ensures { result ≡ twosComplement figures.counter }
+    ensures { result ≡ twos_complement figures.counter }
 {
     twos_complement(figures.counter)
 }

@@ -1,14 +1,14 @@
 // How long until calm: for a poller, who must know when to stop.
 
 ghost use Rattle.std.specs.Prelude.{◌≡◌};
-ghost use Rattle.hub.specs.Calm.{stepsToCalm};
+ghost use Rattle.hub.specs.Calm.{steps_to_calm};
 
 use crate::count_drawing;
 use hub::record::Hub;
 
 // The bound of any record, in an integer that every record's has room in.
 pub fn steps_to_calm(hub: Hub) -> u64
-    ensures { result ≡ stepsToCalm hub }
+    ensures { result ≡ steps_to_calm hub }
 {
     let slots = hub.slots;
     let drawing = count_drawing(slots) as u64;

@@ -4,10 +4,10 @@ pub mod calm; // how many steps until all are at rest
 
 ghost use Rattle.std.specs.Prelude.{◌≡◌, eqb, ◌≤◌};
 ghost use Rattle.hub.specs.Basics.{bit, count};
-ghost use Rattle.hub.specs.Counts.{countsOf};
-ghost use Rattle.hub.specs.Ledger.{atCounter};
-ghost use Rattle.hub.specs.Phases.{drawsTicket, placeRank};
-ghost use Rattle.hub.specs.Record.{phasesOf, places_of};
+ghost use Rattle.hub.specs.Counts.{counts_of};
+ghost use Rattle.hub.specs.Ledger.{at_counter};
+ghost use Rattle.hub.specs.Phases.{draws_ticket, place_rank};
+ghost use Rattle.hub.specs.Record.{phases_of, places_of};
 ghost use Rattle.counts.specs.Tallies.{tally_of};
 
 use hub::record::{Counts, Hub, PartySlot, Phase, Place, PlaceSlot};
@@ -51,7 +51,7 @@ fn one_if(x: u8, a: u8) -> u32
 
 // The parties of a tally.
 fn count_parties(slots: [PartySlot; 32], tally: u8) -> u32
-    ensures { (result ≡ count (λ f. eqb (tally_of f) tally) (phasesOf slots)) × (result ≤ 32) }
+    ensures { (result ≡ count (λ f. eqb (tally_of f) tally) (phases_of slots)) × (result ≤ 32) }
 {
     let mut n: u32 = 0;
     let mut p: usize = 0;
@@ -66,14 +66,14 @@ fn count_parties(slots: [PartySlot; 32], tally: u8) -> u32
 
 // The parties asked or unnumbered, with a mark or without: they may yet draw a ticket.
 pub fn count_drawing(slots: [PartySlot; 32]) -> u32
-    ensures { (result ≡ count drawsTicket (phasesOf slots)) × (result ≤ 32) }
+    ensures { (result ≡ count draws_ticket (phases_of slots)) × (result ≤ 32) }
 {
     count_parties(slots, TALLY_DRAWING)
 }
 
 // The places in one state, whoever waits there.
 fn count_places(places: [PlaceSlot; 256], a: Place) -> u32
-    ensures { (result ≡ count (λ x. eqb (placeRank x) (placeRank a)) (places_of places)) × (result ≤ 256) }
+    ensures { (result ≡ count (λ x. eqb (place_rank x) (place_rank a)) (places_of places)) × (result ≤ 256) }
 {
     let state = place_rank(a);
     let mut n: u32 = 0;
@@ -88,7 +88,7 @@ fn count_places(places: [PlaceSlot; 256], a: Place) -> u32
 }
 
 fn at_counter(counter: i32) -> u32
-    ensures { result ≡ atCounter counter }
+    ensures { result ≡ at_counter counter }
 {
     if 0 < counter {
         return counter as u32;
@@ -97,7 +97,7 @@ fn at_counter(counter: i32) -> u32
 }
 
 pub fn counts(hub: Hub) -> Counts
-    ensures value { result ≡ countsOf hub }
+    ensures value { result ≡ counts_of hub }
     ensures few { result.held ≤ 32 }
 {
     let slots = hub.slots;

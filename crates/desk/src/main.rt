@@ -2,7 +2,7 @@
 
 ghost use Rattle.std.specs.Prelude.{◌*◌, ◌≤◌, length};
 ghost use Rattle.deskfeed.specs.Session.{Sound};
-ghost use Rattle.deskline.specs.Text.{LONGEST-TEXT};
+ghost use Rattle.deskline.specs.Text.{LONGEST_TEXT};
 
 use deskfeed::session::{Session, begin, feed, finish};
 use libc::{STDERR_FILENO, STDIN_FILENO, STDOUT_FILENO};
@@ -34,7 +34,7 @@ fn print(out: &[u8], size: usize) -> bool {
 // Reads once, answers the lines that end in what came, and writes the answers.
 fn take_piece(session: Session, piece: &mut [u8], out: &mut [u8]) -> Taken
     requires sound { Sound session }
-    requires piece_in_bounds { LONGEST-TEXT * length piece.old ≤ length out.old }
+    requires piece_in_bounds { LONGEST_TEXT * length piece.old ≤ length out.old }
     ensures { Sound result.session }
 {
     let got = libc::read(STDIN_FILENO, piece);
@@ -76,7 +76,7 @@ fn close(session: Session)
 // Piece after piece. A proved loop has to end, so they are counted down from a number that no
 // input uses up.
 fn take_all(piece: &mut [u8], out: &mut [u8]) -> Taken
-    requires { LONGEST-TEXT * length piece.old ≤ length out.old }
+    requires { LONGEST_TEXT * length piece.old ≤ length out.old }
     ensures { Sound result.session }
 {
     let mut session = begin();

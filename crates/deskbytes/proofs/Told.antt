@@ -12,42 +12,42 @@ use Rattle.hub.specs.Opening.{opening}
 use Rattle.hub.proofs.Laws.Bools.{first, second}
 use Rattle.encoding.specs.Frame.{op_of}
 use Rattle.operations.specs.Operation.{operated}
-use Rattle.run.specs.Bytes.{calls_of, wellFormed}
-use Rattle.run.specs.Run.{endIf}
-use Rattle.perform.specs.Bytes.{answerBytes, answersTo, answersWritten, isOperationCode}
+use Rattle.run.specs.Bytes.{calls_of, well_formed}
+use Rattle.run.specs.Run.{end_if}
+use Rattle.perform.specs.Bytes.{answer_bytes, answers_to, answers_written, is_operation_code}
 use Rattle.perform.proofs.Laws.Codes.{among-three}
 use Rattle.screen.specs.Moves.{call_of}
 use Rattle.screen.specs.Reached.{DeskRequest}
-use Rattle.shown.specs.Shows.{ScreenShows, callFor, hubTold}
+use Rattle.shown.specs.Shows.{ScreenShows, call_for, hub_told}
 use Rattle.shown.proofs.Shows.{screen-shows}
-use Rattle.deskbytes.specs.Told.{WritesShown, operationIn, requestsOf, toldBytes}
+use Rattle.deskbytes.specs.Told.{WritesShown, operation_in, requests_of, told_bytes}
 
 -- Well-formed bytes are the hub's calls of these requests.
-calls-for : (l : List ℕ) → wellFormed isOperationCode l ≡ true → calls_of l ≡ map callFor (requestsOf l)
-unfolding wellFormed calls_of requestsOf
+calls-for : (l : List ℕ) → well_formed is_operation_code l ≡ true → calls_of l ≡ map call_for (requests_of l)
+unfolding well_formed calls_of requests_of
 calls-for [] w = refl
 calls-for (c ∷ []) w = absurd (true≢false (sym w))
 calls-for (c ∷ p ∷ l) w =
-    λ i. one (first (isOperationCode c) _ w) i ∷ calls-for l (second (isOperationCode c) _ w) i
+    λ i. one (first (is_operation_code c) _ w) i ∷ calls-for l (second (is_operation_code c) _ w) i
   where
-    one : isOperationCode c ≡ true → record { op = op_of c; party = p } ≡ call_of (operationIn c) p
-    one = among-three (λ (c : ℕ). record { op = op_of c; party = p } ≡ call_of (operationIn c) p) refl refl refl c
+    one : is_operation_code c ≡ true → record { op = op_of c; party = p } ≡ call_of (operation_in c) p
+    one = among-three (λ (c : ℕ). record { op = op_of c; party = p } ≡ call_of (operation_in c) p) refl refl refl c
 
 -- The answers to them are what is told at the hub.
-answers-told : (h : Hub) (rs : List DeskRequest) → answersTo h (map callFor rs) ≡ toldBytes (hubTold h rs)
-unfolding answersTo hubTold toldBytes
+answers-told : (h : Hub) (rs : List DeskRequest) → answers_to h (map call_for rs) ≡ told_bytes (hub_told h rs)
+unfolding answers_to hub_told told_bytes
 answers-told h [] = refl
 answers-told h (r ∷ rs) =
-    ap (λ (l : List ℕ). answerBytes (operated h (callFor r)) ++ l)
-    (answers-told (operated h (callFor r)).hub rs)
+    ap (λ (l : List ℕ). answer_bytes (operated h (call_for r)) ++ l)
+    (answers-told (operated h (call_for r)).hub rs)
 
 pub writes-shown : WritesShown
-unfolding WritesShown ScreenShows endIf
+unfolding WritesShown ScreenShows end_if
 writes-shown o e operations out w m n =
     (λ i.
-    endIf (eqb (printed (e i)).code 0x1F) (w i) (m i) (printed (opening o).answer).code out
-    (answersWritten (opening o).hub operations out))
+    end_if (eqb (printed (e i)).code 0x1F) (w i) (m i) (printed (opening o).answer).code out
+    (answers_written (opening o).hub operations out))
     ∙ ap (λ (l : List ℕ). record { result = 0; out = l ++ drop (3 * (length operations / 2)) out })
-    (ap (answersTo (opening o).hub) (calls-for operations w)
-    ∙ answers-told (opening o).hub (requestsOf operations)
-    ∙ ap toldBytes (screen-shows o e (requestsOf operations) n).told)
+    (ap (answers_to (opening o).hub) (calls-for operations w)
+    ∙ answers-told (opening o).hub (requests_of operations)
+    ∙ ap told_bytes (screen-shows o e (requests_of operations) n).told)

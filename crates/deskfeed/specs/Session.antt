@@ -3,30 +3,30 @@ use Rattle.std.specs.Prelude.{ℕ, ◌≤◌, ◌≡◌, List, [], ◌∷◌, �
 use Rattle.reader.specs.Reading.{KEPT, asked, past}
 use Rattle.frame.specs.Session.{joined, rest}
 use Rattle.line.specs.Program.{lines_of}
-use Rattle.line.specs.Requests.{Request, requestOf}
+use Rattle.line.specs.Requests.{Request, request_of}
 use Rattle.hub.specs.Record.{PARTIES}
 use Rattle.screen.specs.declared.record.Line.{Line}
-use Rattle.screen.specs.Moves.{noLine}
+use Rattle.screen.specs.Moves.{no_line}
 use Rattle.deskfeed.specs.declared.session.Session.{Session}
-use Rattle.deskreply.specs.Replies.{askedBy, replyTo}
-use Rattle.deskline.specs.Text.{lineText}
+use Rattle.deskreply.specs.Replies.{asked_by, reply_to}
+use Rattle.deskline.specs.Text.{line_text}
 
 -- What is printed for requests from a line on, and the line that they leave.
 unfoldable pub said : Line → List Request → List ℕ
 said l [] = []
-said l (q ∷ qs) = let r = replyTo l (askedBy q) in lineText r ++ said r.line qs
+said l (q ∷ qs) = let r = reply_to l (asked_by q) in line_text r ++ said r.line qs
 
 unfoldable pub left : Line → List Request → Line
 left l [] = l
-left l (q ∷ qs) = left (replyTo l (askedBy q)).line qs
+left l (q ∷ qs) = left (reply_to l (asked_by q)).line qs
 
 -- The whole output.
-unfoldable pub outputOf : List ℕ → List ℕ
-outputOf input = said noLine (map requestOf (lines_of input))
+unfoldable pub output_of : List ℕ → List ℕ
+output_of input = said no_line (map request_of (lines_of input))
 
 -- Before the first piece.
 abbrev pub at_start : Session
-at_start = record { line = noLine; reader = record { line = replicate KEPT 0; len = 0 } }
+at_start = record { line = no_line; reader = record { line = replicate KEPT 0; len = 0 } }
 
 -- Past a piece, and what is printed for it; at the end a line left without its end mark counts.
 unfoldable pub fed : Session → List ℕ → Session
@@ -40,12 +40,12 @@ unfoldable pub finished : Session → List ℕ
 finished s = said s.line (rest s.reader)
 
 -- However an input is cut, the output is that of the whole.
-unfoldable pub toldAll : Session → List (List ℕ) → List ℕ
-toldAll s [] = finished s
-toldAll s (p ∷ ps) = told s p ++ toldAll (fed s p) ps
+unfoldable pub told_all : Session → List (List ℕ) → List ℕ
+told_all s [] = finished s
+told_all s (p ∷ ps) = told s p ++ told_all (fed s p) ps
 
 unfoldable pub InPieces : Type 0
-InPieces = (pieces : List (List ℕ)) → toldAll at_start pieces ≡ outputOf (joined pieces)
+InPieces = (pieces : List (List ℕ)) → told_all at_start pieces ≡ output_of (joined pieces)
 
 -- A line that can be printed: of its arrays those that say who holds and who waits have 32 elements, and at most 32
 -- wait.

@@ -3,7 +3,7 @@
 ghost use Rattle.std.specs.Prelude.{◌≡◌, ◌++◌, ◌*◌, ◌≤◌, length, drop};
 ghost use Rattle.reader.specs.Reading.{asked};
 ghost use Rattle.deskfeed.specs.Session.{Sound, at_start, fed, finished, told};
-ghost use Rattle.deskline.specs.Text.{LONGEST-TEXT};
+ghost use Rattle.deskline.specs.Text.{LONGEST_TEXT};
 
 use deskline::text::put_line_text;
 use deskreply::reply_to;
@@ -41,7 +41,7 @@ pub fn begin() -> Session
 // Answers the lines that end in a piece.
 pub fn feed(session: Session, piece: &[u8], out: &mut [u8]) -> Fed
     requires sound { Sound session }
-    requires piece_in_bounds { LONGEST-TEXT * length (asked session.reader piece.now) ≤ length out.old }
+    requires piece_in_bounds { LONGEST_TEXT * length (asked session.reader piece.now) ≤ length out.old }
     ensures { (result ≡ record {
       session = fed session piece.now;
       size = length (told session piece.now);
@@ -84,7 +84,7 @@ pub fn feed(session: Session, piece: &[u8], out: &mut [u8]) -> Fed
 // Answers a line left without its end mark, as if it had one.
 pub fn finish(session: Session, out: &mut [u8]) -> usize
     requires sound { Sound session }
-    requires in_bounds { LONGEST-TEXT ≤ length out.old }
+    requires in_bounds { LONGEST_TEXT ≤ length out.old }
     ensures { (result ≡ length (finished session))
         × (out.new ≡ finished session ++ drop (length (finished session)) out.old) }
 {

@@ -1,8 +1,8 @@
 // Words and numbers as characters. Each function writes at a place of a buffer and gives the place past what it wrote.
 
 ghost use Rattle.std.specs.Prelude.{◌≡◌, [], ◌∷◌, ◌+◌, ◌≤◌, ◌<◌, length};
-ghost use Rattle.encoding.specs.Hex.{charOf, hexOf};
-ghost use Rattle.deskline.specs.Text.{decimal, decimalChar, put_at};
+ghost use Rattle.encoding.specs.Hex.{char_of, hex_of};
+ghost use Rattle.deskline.specs.Text.{decimal, decimal_char, put_at};
 
 const DIGITS: [u8; 16] = [
     0x30, 0x31, 0x32, 0x33, 0x34, 0x35, 0x36, 0x37, 0x38, 0x39, 0x41, 0x42, 0x43, 0x44, 0x45, 0x46,
@@ -11,14 +11,14 @@ const DIGITS: [u8; 16] = [
 // A hexadecimal digit.
 fn hex_char(d: u8) -> u8
     requires { d < 16 }
-    ensures { result ≡ charOf d }
+    ensures { result ≡ char_of d }
 {
     DIGITS[d as usize]
 }
 
 // The last digit of a number in base ten.
 fn decimal_char(n: u8) -> u8
-    ensures { result ≡ decimalChar n }
+    ensures { result ≡ decimal_char n }
 {
     0x30 + n % 10
 }
@@ -46,7 +46,7 @@ pub(crate) fn put_word(out: &mut [u8], at: usize, word: &[u8]) -> usize
 
 pub(crate) fn put_hex(out: &mut [u8], at: usize, byte: u8) -> usize
     requires { at + 2 ≤ length out.old }
-    ensures { (result ≡ at + 2) × (out.new ≡ put_at at (hexOf (byte ∷ [])) out.old) }
+    ensures { (result ≡ at + 2) × (out.new ≡ put_at at (hex_of (byte ∷ [])) out.old) }
 {
     let high = hex_char(byte / 16 % 16);
     let low = hex_char(byte % 16);

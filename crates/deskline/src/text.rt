@@ -2,8 +2,8 @@
 
 ghost use Rattle.std.specs.Prelude.{◌≡◌, [], ◌∷◌, ◌+◌, ◌≤◌, length};
 ghost use Rattle.screen.specs.Line.{holders, waiters};
-ghost use Rattle.deskline.specs.Text.{LONGEST-TEXT, headText, lineText, numbers, partiesText, put_at};
-ghost use Rattle.deskline.specs.Text.{stepsText};
+ghost use Rattle.deskline.specs.Text.{LONGEST_TEXT, head_text, line_text, numbers, parties_text, put_at};
+ghost use Rattle.deskline.specs.Text.{steps_text};
 
 use crate::digits::{put_char, put_decimal, put_hex, put_word};
 use deskreply::DeskReply;
@@ -64,8 +64,8 @@ fn put_waiters(out: &mut [u8], at: usize, line: Line) -> usize
 // The steps to rest, or a dash.
 fn put_steps(out: &mut [u8], at: usize, code: u8, steps: u8) -> usize
     requires { at + 3 ≤ length out.old }
-    ensures { (result ≡ at + length (stepsText code steps))
-        × (out.new ≡ put_at at (stepsText code steps) out.old) }
+    ensures { (result ≡ at + length (steps_text code steps))
+        × (out.new ≡ put_at at (steps_text code steps) out.old) }
 {
     if code == 0x20 {
         return put_decimal(out, at, steps);
@@ -76,8 +76,8 @@ fn put_steps(out: &mut [u8], at: usize, code: u8, steps: u8) -> usize
 // The code, the party and the steps.
 fn put_head(out: &mut [u8], at: usize, code: u8, party: u8, steps: u8) -> usize
     requires { at + 9 ≤ length out.old }
-    ensures value { (result ≡ at + length (headText code party steps))
-        × (out.new ≡ put_at at (headText code party steps) out.old) }
+    ensures value { (result ≡ at + length (head_text code party steps))
+        × (out.new ≡ put_at at (head_text code party steps) out.old) }
     ensures short { result ≤ at + 9 }
 {
     let a = put_hex(out, at, code);
@@ -91,8 +91,8 @@ fn put_head(out: &mut [u8], at: usize, code: u8, party: u8, steps: u8) -> usize
 fn put_parties(out: &mut [u8], at: usize, line: Line) -> usize
     requires waiting_bound { line.waiting ≤ 32 }
     requires at_in_bounds { at + 270 ≤ length out.old }
-    ensures value { (result ≡ at + length (partiesText line))
-        × (out.new ≡ put_at at (partiesText line) out.old) }
+    ensures value { (result ≡ at + length (parties_text line))
+        × (out.new ≡ put_at at (parties_text line) out.old) }
     ensures short { result ≤ at + 270 }
 {
     let a = put_word(out, at, b" held");
@@ -105,10 +105,10 @@ fn put_parties(out: &mut [u8], at: usize, line: Line) -> usize
 // The whole line.
 pub fn put_line_text(out: &mut [u8], at: usize, r: DeskReply) -> usize
     requires waiting_bound { r.line.waiting ≤ 32 }
-    requires at_in_bounds { at + LONGEST-TEXT ≤ length out.old }
-    ensures value { (result ≡ at + length (lineText r))
-        × (out.new ≡ put_at at (lineText r) out.old) }
-    ensures short { result ≤ at + LONGEST-TEXT }
+    requires at_in_bounds { at + LONGEST_TEXT ≤ length out.old }
+    ensures value { (result ≡ at + length (line_text r))
+        × (out.new ≡ put_at at (line_text r) out.old) }
+    ensures short { result ≤ at + LONGEST_TEXT }
 {
     let line = r.line;
     let next = put_head(out, at, r.code, r.party, r.steps);

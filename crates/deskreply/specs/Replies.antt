@@ -3,56 +3,56 @@ use Rattle.std.specs.Prelude.{ℕ, Bool, cond, leb}
 use Rattle.hub.specs.declared.moves.Op.{Op}
 use Rattle.hub.specs.declared.opening.Opening.{Opening}
 use Rattle.hub.specs.Answers.{printed}
-use Rattle.line.specs.Requests.{Request, malformed, toOpen, toCall}
+use Rattle.line.specs.Requests.{Request, malformed, to_open, to_call}
 use Rattle.screen.specs.declared.record.Line.{Line}
 use Rattle.screen.specs.declared.record.Operation.{Operation}
-use Rattle.screen.specs.Moves.{lineMove, lineOpening}
-use Rattle.screen.specs.Steps.{stepsToRest}
+use Rattle.screen.specs.Moves.{line_move, line_opening}
+use Rattle.screen.specs.Steps.{steps_to_rest}
 use Rattle.deskreply.specs.declared.DeskReply.{DeskReply}
 
 -- What a line asks of the screen: nothing, which is refused by 12, an opening, or an operation.
 pub data Asked : Type 0 where
   nothing : Asked
-  anOpening : Opening → Asked
-  anOperation : Operation → ℕ → Asked
+  an_opening : Opening → Asked
+  an_operation : Operation → ℕ → Asked
 
 -- 11 and 14 are no codes of the screen.
-abbrev pub askedByCall : Op → ℕ → Asked
-askedByCall Op.Acquire p = anOperation Operation.Acquire p
-askedByCall Op.Step p = nothing
-askedByCall Op.Cancel p = anOperation Operation.Cancel p
-askedByCall Op.Release p = anOperation Operation.Release p
-askedByCall Op.Radio p = nothing
+abbrev pub asked_by_call : Op → ℕ → Asked
+asked_by_call Op.Acquire p = an_operation Operation.Acquire p
+asked_by_call Op.Step p = nothing
+asked_by_call Op.Cancel p = an_operation Operation.Cancel p
+asked_by_call Op.Release p = an_operation Operation.Release p
+asked_by_call Op.Radio p = nothing
 
-unfoldable pub askedBy : Request → Asked
-askedBy malformed = nothing
-askedBy (toOpen o) = anOpening o
-askedBy (toCall c) = askedByCall c.op c.party
+unfoldable pub asked_by : Request → Asked
+asked_by malformed = nothing
+asked_by (to_open o) = an_opening o
+asked_by (to_call c) = asked_by_call c.op c.party
 
 -- Before an opening the line has no permits.
-abbrev pub isOpenLine : Line → Bool
-isOpenLine l = leb 1 l.permits
+abbrev pub is_open_line : Line → Bool
+is_open_line l = leb 1 l.permits
 
 -- A code for party p, and the line l that is left.
-abbrev pub codeReply : ℕ → ℕ → Line → DeskReply
-codeReply c p l = record { code = c; party = p; steps = 0; line = l }
+abbrev pub code_reply : ℕ → ℕ → Line → DeskReply
+code_reply c p l = record { code = c; party = p; steps = 0; line = l }
 
-unfoldable pub openingReply : Opening → DeskReply
-openingReply o = codeReply (printed (lineOpening o).answer).code 0xFF (lineOpening o).line
+unfoldable pub opening_reply : Opening → DeskReply
+opening_reply o = code_reply (printed (line_opening o).answer).code 0xFF (line_opening o).line
 
-unfoldable pub operationReply : Line → Operation → ℕ → DeskReply
-operationReply l o p =
-    cond (isOpenLine l)
+unfoldable pub operation_reply : Line → Operation → ℕ → DeskReply
+operation_reply l o p =
+    cond (is_open_line l)
     (record {
-      code = (printed (lineMove l o p).answer).code;
+      code = (printed (line_move l o p).answer).code;
       party = p;
-      steps = stepsToRest l o p;
-      line = (lineMove l o p).line;
+      steps = steps_to_rest l o p;
+      line = (line_move l o p).line;
     })
-    (codeReply 13 p l)
+    (code_reply 13 p l)
 
 -- 12, then 13, then the opening's or the operation's own.
-unfoldable pub replyTo : Line → Asked → DeskReply
-replyTo l nothing = codeReply 12 0xFF l
-replyTo l (anOpening o) = cond (isOpenLine l) (codeReply 13 0xFF l) (openingReply o)
-replyTo l (anOperation o p) = operationReply l o p
+unfoldable pub reply_to : Line → Asked → DeskReply
+reply_to l nothing = code_reply 12 0xFF l
+reply_to l (an_opening o) = cond (is_open_line l) (code_reply 13 0xFF l) (opening_reply o)
+reply_to l (an_operation o p) = operation_reply l o p

@@ -1,8 +1,8 @@
 // What a line of the desk program is answered: 12, then 13, then the operation's own.
 
 ghost use Rattle.std.specs.Prelude.{◌≡◌};
-ghost use Rattle.line.specs.Requests.{requestOf};
-ghost use Rattle.deskreply.specs.Replies.{askedBy, codeReply, isOpenLine, openingReply, operationReply, replyTo};
+ghost use Rattle.line.specs.Requests.{request_of};
+ghost use Rattle.deskreply.specs.Replies.{asked_by, code_reply, is_open_line, opening_reply, operation_reply, reply_to};
 
 use encoding::answer::print_of;
 use hub::opening::Opening;
@@ -21,13 +21,13 @@ pub struct DeskReply {
 
 // A line with permits is open.
 fn is_open_line(line: Line) -> bool
-    ensures { result ≡ isOpenLine line }
+    ensures { result ≡ is_open_line line }
 {
     1 <= line.permits
 }
 
 fn code_reply(code: u8, party: u8, line: Line) -> DeskReply
-    ensures { result ≡ codeReply code party line }
+    ensures { result ≡ code_reply code party line }
 {
     DeskReply {
         code,
@@ -38,7 +38,7 @@ fn code_reply(code: u8, party: u8, line: Line) -> DeskReply
 }
 
 fn opening_reply(o: Opening) -> DeskReply
-    ensures { result ≡ openingReply o }
+    ensures { result ≡ opening_reply o }
 {
     let m = open_line(o);
     let answer = m.answer;
@@ -48,7 +48,7 @@ fn opening_reply(o: Opening) -> DeskReply
 }
 
 fn operation_reply(line: Line, operation: Operation, party: u8) -> DeskReply
-    ensures { result ≡ operationReply line operation party }
+    ensures { result ≡ operation_reply line operation party }
 {
     if !is_open_line(line) {
         return code_reply(13, party, line);
@@ -68,7 +68,7 @@ fn operation_reply(line: Line, operation: Operation, party: u8) -> DeskReply
 
 // The answer to a line of text.
 pub fn reply_to(line: Line, text: &[u8]) -> DeskReply
-    ensures { result ≡ replyTo line (askedBy (requestOf text.now)) }
+    ensures { result ≡ reply_to line (asked_by (request_of text.now)) }
 {
     let h = read_header(text);
     if h.code == OPENING {

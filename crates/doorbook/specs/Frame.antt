@@ -11,14 +11,14 @@ abbrev pub number_at : List ℕ → ℕ → ℕ
 number_at l i = number (get_or l i 0) (get_or l (i + 1) 0) (get_or l (i + 2) 0) (get_or l (i + 3) 0)
 
 -- Ten bytes, the first of them 40.
-abbrev pub isFrame : List ℕ → Bool
-isFrame f = eqb (length f) 10 && eqb (get_or f 0 0) 0x40
+abbrev pub is_frame : List ℕ → Bool
+is_frame f = eqb (length f) 10 && eqb (get_or f 0 0) 0x40
 
-abbrev pub doorOf : List ℕ → ℕ
-doorOf f = get_or f 1 0
+abbrev pub door_of : List ℕ → ℕ
+door_of f = get_or f 1 0
 
-abbrev pub newLock : List ℕ → ℕ
-newLock f = number_at f 2
+abbrev pub new_lock : List ℕ → ℕ
+new_lock f = number_at f 2
 
 abbrev pub superseded : List ℕ → ℕ
 superseded f = number_at f 6

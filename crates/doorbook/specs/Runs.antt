@@ -2,14 +2,14 @@
 -- frame, 0 without one, and no lock other than 0 stands at two doors."
 use Rattle.std.specs.Prelude.{ℕ, ◌≡◌, cond, ◌&&◌, List, [], ◌∷◌, eqb, replicate}
 use Rattle.doorbook.specs.declared.Answer.{Answer}
-use Rattle.doorbook.specs.Book.{emptyBook, lockAt, answerTo, code_of, isAccepted, after}
-use Rattle.doorbook.specs.Bytes.{locksOf, enterCode, enterBytes, lockIn}
-use Rattle.doorbook.specs.Frame.{doorOf, newLock}
+use Rattle.doorbook.specs.Book.{empty_book, lock_at, answer_to, code_of, is_accepted, after}
+use Rattle.doorbook.specs.Bytes.{locks_of, enter_code, enter_bytes, lock_in}
+use Rattle.doorbook.specs.Frame.{door_of, new_lock}
 
 -- The book that a run of frames leaves.
-unfoldable pub afterRun : List ℕ → List (List ℕ) → List ℕ
-afterRun book [] = book
-afterRun book (f ∷ fs) = afterRun (after book f) fs
+unfoldable pub after_run : List ℕ → List (List ℕ) → List ℕ
+after_run book [] = book
+after_run book (f ∷ fs) = after_run (after book f) fs
 
 -- A frame and its answer, all that the locks are counted from.
 pub record Answered : Type 0 where
@@ -18,35 +18,35 @@ pub record Answered : Type 0 where
 
 unfoldable pub answered : List ℕ → List (List ℕ) → List Answered
 answered book [] = []
-answered book (f ∷ fs) = record { frame = f; answer = answerTo book f } ∷ answered (after book f) fs
+answered book (f ∷ fs) = record { frame = f; answer = answer_to book f } ∷ answered (after book f) fs
 
 -- The new lock of a door's last accepted frame; without one, the number given.
-unfoldable pub lastNew : ℕ → List Answered → ℕ → ℕ
-lastNew d [] none = none
-lastNew d (e ∷ es) none =
-    lastNew d es
-    (cond (isAccepted e.answer && eqb (doorOf e.frame) d) (newLock e.frame) none)
+unfoldable pub last_new : ℕ → List Answered → ℕ → ℕ
+last_new d [] none = none
+last_new d (e ∷ es) none =
+    last_new d es
+    (cond (is_accepted e.answer && eqb (door_of e.frame) d) (new_lock e.frame) none)
 
 -- The claim, for every run of frames, of any bytes each, from an empty book.
 pub record BookHolds (frames : List (List ℕ)) (book : List ℕ) : Type 0 where
-  pub last : (d : ℕ) → lockAt book d ≡ lastNew d (answered emptyBook frames) 0
-  pub once : (d e : ℕ) → lockAt book d ≡ lockAt book e → (lockAt book d ≡ 0 → ⊥) → d ≡ e
+  pub last : (d : ℕ) → lock_at book d ≡ last_new d (answered empty_book frames) 0
+  pub once : (d e : ℕ) → lock_at book d ≡ lock_at book e → (lock_at book d ≡ 0 → ⊥) → d ≡ e
 
 abbrev pub EveryRun : Type 0
-EveryRun = (frames : List (List ℕ)) → BookHolds frames (afterRun emptyBook frames)
+EveryRun = (frames : List (List ℕ)) → BookHolds frames (after_run empty_book frames)
 
 -- The bytes that a run leaves.
-unfoldable pub bytesAfterRun : List ℕ → List (List ℕ) → List ℕ
-bytesAfterRun bytes [] = bytes
-bytesAfterRun bytes (f ∷ fs) = bytesAfterRun (enterBytes bytes f) fs
+unfoldable pub bytes_after_run : List ℕ → List (List ℕ) → List ℕ
+bytes_after_run bytes [] = bytes
+bytes_after_run bytes (f ∷ fs) = bytes_after_run (enter_bytes bytes f) fs
 
 -- In place the same: from 800 bytes of 0 every run leaves the book that it leaves by value, which
 -- answers the next frame alike and shows the same lock at every door.
 pub record SameBook (bytes book : List ℕ) : Type 0 where
-  pub locks : locksOf bytes ≡ book
-  pub answers : (f : List ℕ) → enterCode bytes f ≡ code_of (answerTo book f)
-  pub lock : (d : ℕ) → lockIn bytes d ≡ lockAt book d
+  pub locks : locks_of bytes ≡ book
+  pub answers : (f : List ℕ) → enter_code bytes f ≡ code_of (answer_to book f)
+  pub lock : (d : ℕ) → lock_in bytes d ≡ lock_at book d
 
 abbrev pub EveryRunInPlace : Type 0
 EveryRunInPlace =
-    (frames : List (List ℕ)) → SameBook (bytesAfterRun (replicate 800 0) frames) (afterRun emptyBook frames)
+    (frames : List (List ℕ)) → SameBook (bytes_after_run (replicate 800 0) frames) (after_run empty_book frames)

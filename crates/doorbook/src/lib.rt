@@ -2,8 +2,8 @@
 // which the book enters or refuses. It stands apart from the hub. Here is the book by value; `doorbytes` has it in place.
 
 ghost use Rattle.std.specs.Prelude.{◌+◌, ◌<◌, ◌≤◌, ◌≡◌, length};
-ghost use Rattle.doorbook.specs.Book.{after, answerTo, code_of, emptyBook, lockAt, stands};
-ghost use Rattle.doorbook.specs.Frame.{isFrame, number_at};
+ghost use Rattle.doorbook.specs.Book.{after, answer_to, code_of, empty_book, lock_at, stands};
+ghost use Rattle.doorbook.specs.Frame.{is_frame, number_at};
 
 pub const LAST: u8 = 199; // the highest door
 
@@ -42,7 +42,7 @@ pub fn number_at(bytes: &[u8], at: usize) -> u32
 }
 
 pub fn is_frame(frame: &[u8]) -> bool
-    ensures { result ≡ isFrame frame.now }
+    ensures { result ≡ is_frame frame.now }
 {
     if frame.len() != 10 {
         return false;
@@ -73,14 +73,14 @@ pub struct Entry {
 
 impl Book {
     pub fn empty() -> Book
-        ensures { result.locks ≡ emptyBook }
+        ensures { result.locks ≡ empty_book }
     {
         Book { locks: [NONE; 200] }
     }
 
     // The lock at a door: 0 if none or the door is above 199.
     pub fn lock(self, door: u8) -> u32
-        ensures { result ≡ lockAt self.locks door }
+        ensures { result ≡ lock_at self.locks door }
     {
         if LAST < door {
             return NONE;
@@ -90,7 +90,7 @@ impl Book {
 
     // A frame is entered, or refused and the book left alone.
     pub fn enter(self, frame: &[u8]) -> Entry
-        ensures { (result.answer ≡ answerTo self.locks frame.now)
+        ensures { (result.answer ≡ answer_to self.locks frame.now)
             × (result.book.locks ≡ after self.locks frame.now) }
     {
         if !is_frame(frame) {

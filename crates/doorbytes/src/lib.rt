@@ -1,15 +1,15 @@
 // The door book as 800 bytes, altered in place, for C and Rust: 200 locks of four bytes, the high byte first.
 
 ghost use Rattle.std.specs.Prelude.{◌+◌, ◌≤◌, ◌≡◌, length};
-ghost use Rattle.doorbook.specs.Book.{answerTo, stands};
-ghost use Rattle.doorbook.specs.Bytes.{bytesAfter, enterBytes, enterCode, fittedAt, lockIn, locksOf};
+ghost use Rattle.doorbook.specs.Book.{answer_to, stands};
+ghost use Rattle.doorbook.specs.Bytes.{bytes_after, enter_bytes, enter_code, fitted_at, lock_in, locks_of};
 
 use doorbook::{Answer, LAST, NONE, code, is_frame, number_at};
 
 // Does a lock stand at any door?
 fn stands_in(book: &[u8], lock: u32) -> bool
     requires { length book.now ≡ 800 }
-    ensures { result ≡ stands lock (locksOf book.now) }
+    ensures { result ≡ stands lock (locks_of book.now) }
 {
     let mut i: usize = 0;
     while i < 200 {
@@ -24,7 +24,7 @@ fn stands_in(book: &[u8], lock: u32) -> bool
 // The new lock's four bytes, from the frame into the book.
 fn fit(book: &mut [u8], at: usize, frame: &[u8])
     requires { (at + 4 ≤ length book.old) × (length frame.now ≡ 10) }
-    ensures { book.new ≡ fittedAt at book.old frame.now }
+    ensures { book.new ≡ fitted_at at book.old frame.now }
 {
     book[at] = frame[2];
     book[at + 1] = frame[3];
@@ -34,8 +34,8 @@ fn fit(book: &mut [u8], at: usize, frame: &[u8])
 
 fn enter_in(book: &mut [u8], frame: &[u8]) -> Answer
     requires { length book.old ≡ 800 }
-    ensures { (result ≡ answerTo (locksOf book.old) frame.now)
-        × (book.new ≡ bytesAfter book.old frame.now) }
+    ensures { (result ≡ answer_to (locks_of book.old) frame.now)
+        × (book.new ≡ bytes_after book.old frame.now) }
 {
     if !is_frame(frame) {
         return Answer::Malformed;
@@ -63,8 +63,8 @@ fn enter_in(book: &mut [u8], frame: &[u8]) -> Answer
 // code, or 255, with nothing written, if it is handed no book.
 #[unsafe(no_mangle)]
 pub extern "C" fn book_enter(book: &mut [u8], frame: &[u8]) -> u8
-    ensures { (result ≡ enterCode book.old frame.now)
-        × (book.new ≡ enterBytes book.old frame.now) }
+    ensures { (result ≡ enter_code book.old frame.now)
+        × (book.new ≡ enter_bytes book.old frame.now) }
 {
     if book.len() != 800 {
         return 255;
@@ -75,7 +75,7 @@ pub extern "C" fn book_enter(book: &mut [u8], frame: &[u8]) -> u8
 // The lock at a door: 0 if none, if the door is above 199, or if it is handed no book.
 #[unsafe(no_mangle)]
 pub extern "C" fn book_lock(book: &[u8], door: u8) -> u32
-    ensures { result ≡ lockIn book.now door }
+    ensures { result ≡ lock_in book.now door }
 {
     if book.len() != 800 {
         return NONE;

@@ -9,9 +9,9 @@ use Rattle.hub.specs.declared.record.Hub.{Hub}
 use Rattle.hub.specs.Answers.{Printed, printed, plain, with_number}
 use Rattle.hub.specs.Calls.{called}
 use Rattle.hub.specs.Basics.{count}
-use Rattle.hub.specs.Phases.{holds, isWaiting}
-use Rattle.hub.specs.Record.{phasesOf}
-use Rattle.hub.specs.Opening.{opening, sized, withKinds, withRadios}
+use Rattle.hub.specs.Phases.{holds, is_waiting}
+use Rattle.hub.specs.Record.{phases_of}
+use Rattle.hub.specs.Opening.{opening, sized, with_kinds, with_radios}
 
 -- A step of a run: the counter before the call, the call, and what it must answer.
 pub record Row : Type 0 where
@@ -103,8 +103,8 @@ in_turn =
     ∷ []
 
 -- 37: party 0's permit is the counter's, and its radio not yet the store's.
-abbrev pub notYet : List Row
-notYet =
+abbrev pub not_yet : List Row
+not_yet =
     at (pos 1) Acquire 0 (plain 0x20)
     ∷ at (pos 1) Step 0 (plain 0x21)
     ∷ at (pos 0) Step 0 (plain 0x36)
@@ -120,8 +120,8 @@ notYet =
 
 -- Giving up early: party 1 in asked, party 2 in numbered, each once; where a wait would begin it is given up. Party
 -- 0, given up early too, got its permit first.
-abbrev pub cancelledEarly : List Row
-cancelledEarly =
+abbrev pub cancelled_early : List Row
+cancelled_early =
     at (pos 1) Acquire 0 (plain 0x20)
     ∷ at (pos 1) Cancel 0 (plain 0x20)
     ∷ at (pos 1) Step 0 (plain 0x21)
@@ -149,8 +149,8 @@ cancelledEarly =
     ∷ []
 
 -- A party 0 of kind 3 may not give up, and a party 1 of kind 1 may.
-abbrev pub byOwnKinds : List Row
-byOwnKinds =
+abbrev pub by_own_kinds : List Row
+by_own_kinds =
     at (pos 1) Acquire 2 (plain 0x20)
     ∷ at (pos 1) Step 2 (plain 0x21)
     ∷ at (pos 0) Acquire 0 (plain 0x20)
@@ -173,24 +173,24 @@ edges =
     ∷ runs (sized 1 3) bounded 1 0 (pos 0)
     ∷ runs (sized 32 32) (at (pos 32) Acquire 32 (plain 0x04) ∷ at (pos 32) Acquire 31 (plain 0x20) ∷ []) 0 0
     (pos 32)
-    ∷ opens (withRadios 2 3 (0x0A ∷ 0x0B ∷ [])) 0x1F
-    ∷ opens (withRadios 2 3 (0x0A ∷ 0x0A ∷ [])) 0x0E
-    ∷ opens (withRadios 2 0 (0x0A ∷ 0x0A ∷ [])) 0x03
-    ∷ runs (withRadios 2 3 (0x0A ∷ 0x0B ∷ [])) in_turn 1 0 (pos 1)
-    ∷ runs (withRadios 1 2 (0x2F ∷ [])) notYet 1 0 (pos 0)
+    ∷ opens (with_radios 2 3 (0x0A ∷ 0x0B ∷ [])) 0x1F
+    ∷ opens (with_radios 2 3 (0x0A ∷ 0x0A ∷ [])) 0x0E
+    ∷ opens (with_radios 2 0 (0x0A ∷ 0x0A ∷ [])) 0x03
+    ∷ runs (with_radios 2 3 (0x0A ∷ 0x0B ∷ [])) in_turn 1 0 (pos 1)
+    ∷ runs (with_radios 1 2 (0x2F ∷ [])) not_yet 1 0 (pos 0)
     ∷ runs (sized 1 3) (at (pos 1) Op.Radio 0 (plain 0x39) ∷ []) 0 0 (pos 1)
-    ∷ runs (sized 1 3) cancelledEarly 1 1 (negsuc 0)
-    ∷ opens (withKinds (replicate 32 0) (sized 1 3)) 0x1F
-    ∷ opens (withKinds (replicate 31 0) (sized 1 3)) 0x0F
-    ∷ opens (withKinds (replicate 33 0) (sized 1 3)) 0x0F
-    ∷ opens (withKinds (replicate 31 4) (sized 1 3)) 0x0F
-    ∷ opens (withKinds (4 ∷ []) (sized 0 3)) 0x02
-    ∷ opens (withKinds (0 ∷ []) (sized 1 0)) 0x03
-    ∷ opens (withKinds (4 ∷ []) (withRadios 2 3 (0x0A ∷ 0x0A ∷ []))) 0x0E
-    ∷ opens (withKinds (replicate 31 0 ++ (4 ∷ [])) (sized 1 3)) 0x10
-    ∷ opens (withKinds (replicate 32 4) (sized 1 3)) 0x10
-    ∷ opens (withKinds (replicate 32 3) (sized 1 3)) 0x11
-    ∷ runs (withKinds (3 ∷ replicate 30 1 ++ (0 ∷ [])) (sized 1 3)) byOwnKinds 1 0 (pos 0)
+    ∷ runs (sized 1 3) cancelled_early 1 1 (negsuc 0)
+    ∷ opens (with_kinds (replicate 32 0) (sized 1 3)) 0x1F
+    ∷ opens (with_kinds (replicate 31 0) (sized 1 3)) 0x0F
+    ∷ opens (with_kinds (replicate 33 0) (sized 1 3)) 0x0F
+    ∷ opens (with_kinds (replicate 31 4) (sized 1 3)) 0x0F
+    ∷ opens (with_kinds (4 ∷ []) (sized 0 3)) 0x02
+    ∷ opens (with_kinds (0 ∷ []) (sized 1 0)) 0x03
+    ∷ opens (with_kinds (4 ∷ []) (with_radios 2 3 (0x0A ∷ 0x0A ∷ []))) 0x0E
+    ∷ opens (with_kinds (replicate 31 0 ++ (4 ∷ [])) (sized 1 3)) 0x10
+    ∷ opens (with_kinds (replicate 32 4) (sized 1 3)) 0x10
+    ∷ opens (with_kinds (replicate 32 3) (sized 1 3)) 0x11
+    ∷ runs (with_kinds (3 ∷ replicate 30 1 ++ (0 ∷ [])) (sized 1 3)) by_own_kinds 1 0 (pos 0)
     ∷ []
 
 -- Two counters, and two answers, alike?
@@ -200,26 +200,26 @@ sameℤ (pos m) (negsuc n) = false
 sameℤ (negsuc m) (pos n) = false
 sameℤ (negsuc m) (negsuc n) = eqb m n
 
-abbrev pub sameAnswer : Printed → Printed → Bool
-sameAnswer a b = eqb a.code b.code && eqb a.woken b.woken && eqb a.number b.number
+abbrev pub same_answer : Printed → Printed → Bool
+same_answer a b = eqb a.code b.code && eqb a.woken b.woken && eqb a.number b.number
 
 -- Does the run go so, from this record, and end with these holders, waiting parties and counter?
 unfoldable pub goes : ℕ → ℕ → ℤ → Hub → List Row → Bool
 goes a b z h [] =
-    eqb (count holds (phasesOf h.slots)) a && eqb (count isWaiting (phasesOf h.slots)) b
+    eqb (count holds (phases_of h.slots)) a && eqb (count is_waiting (phases_of h.slots)) b
     && sameℤ h.control.figures.counter z
 goes a b z h (r ∷ rs) =
     let o = called h r.call in
-    sameℤ h.control.figures.counter r.counter && sameAnswer (printed o.answer) r.answer
+    sameℤ h.control.figures.counter r.counter && same_answer (printed o.answer) r.answer
     && goes a b z o.hub rs
 
-unfoldable pub holdsAt : Edge → Bool
-holdsAt (opens o c) = eqb (printed (opening o).answer).code c
-holdsAt (runs o rs a b z) = goes a b z (opening o).hub rs
+unfoldable pub holds_at : Edge → Bool
+holds_at (opens o c) = eqb (printed (opening o).answer).code c
+holds_at (runs o rs a b z) = goes a b z (opening o).hub rs
 
-unfoldable pub allHold : List Edge → Bool
-allHold [] = true
-allHold (e ∷ es) = holdsAt e && allHold es
+unfoldable pub all_hold : List Edge → Bool
+all_hold [] = true
+all_hold (e ∷ es) = holds_at e && all_hold es
 
 unfoldable pub EdgesHold : Type 0
-EdgesHold = allHold edges ≡ true
+EdgesHold = all_hold edges ≡ true

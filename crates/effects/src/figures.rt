@@ -2,12 +2,12 @@
 // halves, and the compiler packs and unpacks them in the loop of `batch`.
 
 ghost use Rattle.std.specs.Prelude.{◌≡◌};
-ghost use Rattle.hub.specs.Table.{withBegun, withCounter, withIssued, withResumed};
+ghost use Rattle.hub.specs.Table.{with_begun, with_counter, with_issued, with_resumed};
 
 use hub::record::Figures;
 
 pub fn with_counter(counter: i32, f: Figures) -> Figures
-    ensures { result ≡ withCounter counter f }
+    ensures { result ≡ with_counter counter f }
 {
     Figures {
         counter,
@@ -18,7 +18,7 @@ pub fn with_counter(counter: i32, f: Figures) -> Figures
 }
 
 pub fn with_issued(issued: u32, f: Figures) -> Figures
-    ensures { result ≡ withIssued issued f }
+    ensures { result ≡ with_issued issued f }
 {
     Figures {
         counter: f.counter,
@@ -29,7 +29,7 @@ pub fn with_issued(issued: u32, f: Figures) -> Figures
 }
 
 pub fn with_resumed(resumed: u32, f: Figures) -> Figures
-    ensures { result ≡ withResumed resumed f }
+    ensures { result ≡ with_resumed resumed f }
 {
     Figures {
         counter: f.counter,
@@ -40,7 +40,7 @@ pub fn with_resumed(resumed: u32, f: Figures) -> Figures
 }
 
 pub fn with_begun(begun: u32, f: Figures) -> Figures
-    ensures { result ≡ withBegun begun f }
+    ensures { result ≡ with_begun begun f }
 {
     Figures {
         counter: f.counter,

@@ -2,7 +2,7 @@
 
 ghost use Rattle.std.specs.Prelude.{◌≡◌, true, false, eqb};
 ghost use Rattle.hub.specs.declared.moves.Op.{Op};
-ghost use Rattle.hub.specs.Phases.{isWaiting};
+ghost use Rattle.hub.specs.Phases.{is_waiting};
 ghost use Rattle.hub.specs.Table.{cancel, decide};
 ghost use Rattle.effects.specs.Effect.{effect_of};
 
@@ -51,7 +51,7 @@ fn cancel_to(can: bool, next: Phase, s: Sight) -> Effect
 
 // Before it waits a give-up is remembered, once.
 fn cancel_early(s: Sight) -> Effect
-    requires { isWaiting s.slot.phase ≡ false }
+    requires { is_waiting s.slot.phase ≡ false }
     ensures { result ≡ effect_of (decide Op.Cancel false s) s }
 {
     let slot = s.slot;

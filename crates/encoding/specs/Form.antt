@@ -4,19 +4,19 @@ use Rattle.std.specs.Prelude.{ℕ, Bool, true, false, List}
 use Rattle.encoding.specs.Hex.{text_of}
 
 pub data Form : Type 0 where
-  asText : Form
-  asBytes : Form
+  as_text : Form
+  as_bytes : Form
 
 -- The code says it by a bool, TEXT or BYTES.
 abbrev pub form_of : Bool → Form
-form_of true = asText
-form_of false = asBytes
+form_of true = as_text
+form_of false = as_bytes
 
-abbrev pub replySize : Form → ℕ
-replySize asText = 15
-replySize asBytes = 7
+abbrev pub reply_size : Form → ℕ
+reply_size as_text = 15
+reply_size as_bytes = 7
 
 -- The seven bytes of a reply, as they are written.
-abbrev pub inForm : Form → List ℕ → List ℕ
-inForm asText bytes = text_of bytes
-inForm asBytes bytes = bytes
+abbrev pub in_form : Form → List ℕ → List ℕ
+in_form as_text bytes = text_of bytes
+in_form as_bytes bytes = bytes

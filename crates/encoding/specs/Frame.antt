@@ -34,6 +34,6 @@ frame_of p r =
     ∷ r.number / 256 % 256 ∷ r.number % 256 ∷ []
 
 -- A signed number in four bytes, two's complement: −1 is FFFFFFFF.
-abbrev pub twosComplement : ℤ → ℕ
-twosComplement (pos n) = n
-twosComplement (negsuc n) = 0xFFFFFFFF - n
+abbrev pub twos_complement : ℤ → ℕ
+twos_complement (pos n) = n
+twos_complement (negsuc n) = 0xFFFFFFFF - n

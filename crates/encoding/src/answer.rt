@@ -1,7 +1,7 @@
 // How an answer is written: its code, the party, the woken party and the number, seven bytes.
 
 ghost use Rattle.std.specs.Prelude.{◌≡◌, length};
-ghost use Rattle.hub.specs.Answers.{plain, printed, refusalCode, with_number};
+ghost use Rattle.hub.specs.Answers.{plain, printed, refusal_code, with_number};
 ghost use Rattle.encoding.specs.Frame.{frame_of, paper};
 
 use hub::answers::{Answer, Refusal};
@@ -15,7 +15,7 @@ pub struct Print {
 }
 
 pub fn refusal_code(why: Refusal) -> u8
-    ensures { result ≡ refusalCode why }
+    ensures { result ≡ refusal_code why }
 {
     match why {
         Refusal::Unfit => 1,

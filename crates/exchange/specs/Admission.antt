@@ -12,7 +12,7 @@ abbrev pub admitted : ℕ → ℕ → Admission
 admitted c p = record { admitted = true; party = p; code = c }
 
 -- The code of a call needs a party below n; 1 is an opening, and any other code malformed.
-unfoldable pub admissionOf : ℕ → ℕ → ℕ → Admission
-admissionOf c p n =
+unfoldable pub admission_of : ℕ → ℕ → ℕ → Admission
+admission_of c p n =
     cond (is_call c) (cond (nat_lt p n) (admitted c p) (refused p 4))
     (cond (c == 0x01) (refused 0xFF 13) (refused 0xFF 12))

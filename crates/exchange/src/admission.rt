@@ -2,7 +2,7 @@
 
 ghost use Rattle.std.specs.Prelude.{◌≡◌};
 ghost use Rattle.encoding.specs.Frame.{op_of};
-ghost use Rattle.exchange.specs.Admission.{admissionOf, refused};
+ghost use Rattle.exchange.specs.Admission.{admission_of, refused};
 
 use hub::moves::Op;
 use line::request::OPENING;
@@ -26,7 +26,7 @@ fn refused(party: u8, code: u8) -> Admission
 }
 
 pub fn admit(code: u8, party: u8, parties: u8) -> Admission
-    ensures { result ≡ admissionOf code party parties }
+    ensures { result ≡ admission_of code party parties }
 {
     // the codes of the calls are 10 to 14
     if wrapping_sub_u8(code, 0x10) < 5 {

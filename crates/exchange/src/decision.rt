@@ -3,14 +3,14 @@
 
 ghost use Rattle.std.specs.Prelude.{◌≡◌, ◌≤◌};
 ghost use Rattle.hub.specs.Answers.{printed};
-ghost use Rattle.hub.specs.Calls.{isFull};
+ghost use Rattle.hub.specs.Calls.{is_full};
 ghost use Rattle.hub.specs.Radios.{moved};
 ghost use Rattle.hub.specs.Table;
 ghost use Rattle.effects.specs.Effect.{effect_of};
 ghost use Rattle.effects.specs.Small.{Small};
 ghost use Rattle.encoding.specs.Frame.{op_of};
-ghost use Rattle.transition.specs.Room.{fullFor};
-ghost use Rattle.exchange.specs.Decision.{sightBy};
+ghost use Rattle.transition.specs.Room.{full_for};
+ghost use Rattle.exchange.specs.Decision.{sight_by};
 
 use crate::admission::op_of;
 use effects::effect::Effect;
@@ -24,7 +24,7 @@ use transition::sight::{slot_within, waiter_at};
 // Refusal 7, for the call of a code.
 pub fn full_by(code: u8, oldest: u32, issued: u32, slots: [PartySlot; 32]) -> bool
     requires { (oldest ≤ 1000000) × (issued ≤ 1000000) }
-    ensures { result ≡ fullFor (op_of code) (isFull oldest issued slots) }
+    ensures { result ≡ full_for (op_of code) (is_full oldest issued slots) }
 {
     full_for(op_of(code), oldest, issued, slots)
 }
@@ -43,10 +43,10 @@ pub fn decide_for(
     radio: u8,
     stored: u32,
 ) -> Effect
-    requires { Small (sightBy party kind slot seat near figures named radio stored) }
+    requires { Small (sight_by party kind slot seat near figures named radio stored) }
     ensures { result
-        ≡ effect_of (Table.decide (op_of code) full (sightBy party kind slot seat near figures named radio stored))
-        (sightBy party kind slot seat near figures named radio stored) }
+        ≡ effect_of (Table.decide (op_of code) full (sight_by party kind slot seat near figures named radio stored))
+        (sight_by party kind slot seat near figures named radio stored) }
 {
     let q = waiter_at(seat);
     let waiter = slot_within(q, near);

@@ -2,11 +2,11 @@
 
 ghost use Rattle.std.specs.Prelude.{◌≡◌, ◌+◌, ◌*◌, ◌≤◌, length, slice_index};
 ghost use Rattle.hub.specs.Answers.{plain, printed};
-ghost use Rattle.encoding.specs.Form.{form_of, replySize};
+ghost use Rattle.encoding.specs.Form.{form_of, reply_size};
 ghost use Rattle.encoding.specs.Frame.{frame_of, paper};
 ghost use Rattle.encoding.specs.Tables.{Pairs};
-ghost use Rattle.exchange.specs.Admission.{admissionOf};
-ghost use Rattle.exchange.specs.Wire.{withReply};
+ghost use Rattle.exchange.specs.Admission.{admission_of};
+ghost use Rattle.exchange.specs.Wire.{with_reply};
 
 use crate::admission::{Admission, admit};
 use effects::effect::Effect;
@@ -33,7 +33,7 @@ pub fn party_at(requests: &[u8], i: usize) -> u8
 pub fn admit_at(requests: &[u8], i: usize, parties: u8) -> Admission
     requires { 2 * i + 2 ≤ length requests.now }
     ensures { result
-        ≡ admissionOf (slice_index requests.now (2 * i)) (slice_index requests.now (2 * i + 1)) parties }
+        ≡ admission_of (slice_index requests.now (2 * i)) (slice_index requests.now (2 * i + 1)) parties }
 {
     admit(code_at(requests, i), party_at(requests, i), parties)
 }
@@ -41,9 +41,9 @@ pub fn admit_at(requests: &[u8], i: usize, parties: u8) -> Admission
 // The reply to request i, behind those before it.
 fn put_reply_at(pairs: &[u16; 256], out: &mut [u8], i: usize, form: bool, party: u8, print: Print)
     requires pairs { Pairs pairs.now }
-    requires form_in_bounds { replySize (form_of form) * i + replySize (form_of form) ≤ length out.old }
+    requires form_in_bounds { reply_size (form_of form) * i + reply_size (form_of form) ≤ length out.old }
     ensures { out.new
-        ≡ withReply (form_of form) (replySize (form_of form) * i) (frame_of party (paper print)) out.old }
+        ≡ with_reply (form_of form) (reply_size (form_of form) * i) (frame_of party (paper print)) out.old }
 {
     let width = reply_size(form);
     let at = width * i;
@@ -54,9 +54,9 @@ fn put_reply_at(pairs: &[u16; 256], out: &mut [u8], i: usize, form: bool, party:
 // What a request is answered that was not admitted.
 pub fn put_refusal(pairs: &[u16; 256], out: &mut [u8], i: usize, form: bool, a: Admission)
     requires pairs { Pairs pairs.now }
-    requires form_in_bounds { replySize (form_of form) * i + replySize (form_of form) ≤ length out.old }
+    requires form_in_bounds { reply_size (form_of form) * i + reply_size (form_of form) ≤ length out.old }
     ensures { out.new
-        ≡ withReply (form_of form) (replySize (form_of form) * i) (frame_of a.party (plain a.code))
+        ≡ with_reply (form_of form) (reply_size (form_of form) * i) (frame_of a.party (plain a.code))
         out.old }
 {
     put_reply_at(pairs, out, i, form, a.party, plain(a.code));
@@ -65,9 +65,9 @@ pub fn put_refusal(pairs: &[u16; 256], out: &mut [u8], i: usize, form: bool, a: 
 // What a call is answered.
 pub fn put_answer(pairs: &[u16; 256], out: &mut [u8], i: usize, form: bool, party: u8, e: Effect)
     requires pairs { Pairs pairs.now }
-    requires form_in_bounds { replySize (form_of form) * i + replySize (form_of form) ≤ length out.old }
+    requires form_in_bounds { reply_size (form_of form) * i + reply_size (form_of form) ≤ length out.old }
     ensures { out.new
-        ≡ withReply (form_of form) (replySize (form_of form) * i) (frame_of party (printed e.answer))
+        ≡ with_reply (form_of form) (reply_size (form_of form) * i) (frame_of party (printed e.answer))
         out.old }
 {
     let answer = e.answer;

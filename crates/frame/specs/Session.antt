@@ -1,12 +1,12 @@
 -- A run over an input that comes in pieces, and what makes the pieces one.
 use Rattle.std.specs.Prelude.{ℕ, ◌≤◌, ◌≡◌, cond, List, [], ◌∷◌, ◌++◌, eqb, length, replicate}
-use Rattle.encoding.specs.Form.{asText}
-use Rattle.line.specs.Program.{unopened, repliesIn, after, closing, outputOf}
-use Rattle.line.specs.Requests.{Request, requestOf}
+use Rattle.encoding.specs.Form.{as_text}
+use Rattle.line.specs.Program.{unopened, replies_in, after, closing, output_of}
+use Rattle.line.specs.Requests.{Request, request_of}
 use Rattle.reader.specs.declared.Reader.{Reader}
 use Rattle.frame.specs.declared.session.Session.{Session}
 use Rattle.beforeopen.specs.Opening.{SessionHub}
-use Rattle.reader.specs.Reading.{KEPT, lineIn, past, asked}
+use Rattle.reader.specs.Reading.{KEPT, line_in, past, asked}
 
 -- Before the first piece.
 abbrev pub at_start : Session
@@ -18,21 +18,21 @@ fed s piece =
     record { hub = after s.hub (asked s.reader piece); reader = past s.reader piece }
 
 unfoldable pub told : Session → List ℕ → List ℕ
-told s piece = repliesIn asText s.hub (asked s.reader piece)
+told s piece = replies_in as_text s.hub (asked s.reader piece)
 
 -- At the end of the input a line left without its end mark counts.
 abbrev pub rest : Reader → List Request
-rest r = cond (eqb r.len 0) [] (requestOf (lineIn r) ∷ [])
+rest r = cond (eqb r.len 0) [] (request_of (line_in r) ∷ [])
 
 -- What is printed then: the answer to that line, and the closing line.
 unfoldable pub finished : Session → List ℕ
 finished s =
-    repliesIn asText s.hub (rest s.reader) ++ closing (after s.hub (rest s.reader))
+    replies_in as_text s.hub (rest s.reader) ++ closing (after s.hub (rest s.reader))
 
 -- All that is printed for some pieces, and the input that they make.
-unfoldable pub toldAll : Session → List (List ℕ) → List ℕ
-toldAll s [] = finished s
-toldAll s (p ∷ ps) = told s p ++ toldAll (fed s p) ps
+unfoldable pub told_all : Session → List (List ℕ) → List ℕ
+told_all s [] = finished s
+told_all s (p ∷ ps) = told s p ++ told_all (fed s p) ps
 
 unfoldable pub joined : List (List ℕ) → List ℕ
 joined [] = []
@@ -40,7 +40,7 @@ joined (p ∷ ps) = p ++ joined ps
 
 -- However an input is cut, the output is that of the whole.
 unfoldable pub InPieces : Type 0
-InPieces = (pieces : List (List ℕ)) → toldAll at_start pieces ≡ outputOf (joined pieces)
+InPieces = (pieces : List (List ℕ)) → told_all at_start pieces ≡ output_of (joined pieces)
 
 -- What `feed` and `finish` ask of a session, and what every input leads to: a record that needs no
 -- check, and at most as many characters as the buffer has.

@@ -2,8 +2,8 @@
 
 ghost use Rattle.std.specs.Prelude.{◌≡◌, ◌++◌, ◌*◌, ◌≤◌, length, drop};
 ghost use Rattle.batch.specs.Batch.{Reachable};
-ghost use Rattle.beforeopen.specs.Opening.{askedOpen};
-ghost use Rattle.reader.specs.Reading.{KEPT, asked, requestsWritten};
+ghost use Rattle.beforeopen.specs.Opening.{asked_open};
+ghost use Rattle.reader.specs.Reading.{KEPT, asked, requests_written};
 ghost use Rattle.frame.specs.Session.{Sound, at_start, fed, rest, told};
 
 use beforeopen::opening::{is_open, until_open};
@@ -53,7 +53,7 @@ fn feed_open(session: Session, piece: &[u8], requests: &mut [u8], out: &mut [u8]
       lines = length (asked session.reader piece.now);
     })
         × (requests.new
-        ≡ requestsWritten (asked session.reader piece.now) requests.old)
+        ≡ requests_written (asked session.reader piece.now) requests.old)
         × (out.new ≡ told session piece.now
         ++ drop (15 * length (asked session.reader piece.now)) out.old) }
 {
@@ -80,7 +80,7 @@ pub fn feed(session: Session, piece: &[u8], requests: &mut [u8], out: &mut [u8])
       lines = length (asked session.reader piece.now);
     })
         × (requests.new
-        ≡ requestsWritten (askedOpen session.hub session.reader piece.now)
+        ≡ requests_written (asked_open session.hub session.reader piece.now)
         requests.old)
         × (out.new ≡ told session piece.now
         ++ drop (15 * length (asked session.reader piece.now)) out.old) }

@@ -21,26 +21,26 @@ use Rattle.hub.specs.declared.record.Phase.TheVariants.{AcquiringMarked, Suspend
 use Rattle.hub.specs.Answers.{printed}
 use Rattle.hub.specs.Basics.{bit, count, weight}
 use Rattle.hub.specs.Calls.{answer_of, called, checked, move_of}
-use Rattle.hub.specs.Calm.{Busy, rests, stepBy, stepRefused, drawnAndToDraw, stepsToCalm}
+use Rattle.hub.specs.Calm.{Busy, rests, step_by, step_refused, drawn_and_to_draw, steps_to_calm}
 use Rattle.hub.specs.Calm.{BusySteps, stepped, NoneRefused, ReachesCalm, Settles, ComesToRest}
-use Rattle.hub.specs.Ledger.{phaseIn}
-use Rattle.hub.specs.Look.{look, seenBy}
+use Rattle.hub.specs.Ledger.{phase_in}
+use Rattle.hub.specs.Look.{look, seen_by}
 use Rattle.hub.specs.Moves.{Move, Refuse, Tell, Act, Put, Wake}
 use Rattle.hub.specs.Opening.{fresh, opening}
-use Rattle.hub.specs.Phases.{atRest, drawsTicket, isOneOf}
+use Rattle.hub.specs.Phases.{at_rest, draws_ticket, is_one_of}
 use Rattle.hub.specs.Queue.{Queue, phases}
 use Rattle.hub.specs.Queue as queue
-use Rattle.hub.specs.Record.{phasesOf}
-use Rattle.hub.specs.Refinement.{isSeven}
+use Rattle.hub.specs.Record.{phases_of}
+use Rattle.hub.specs.Refinement.{is_seven}
 use Rattle.hub.specs.Schedule.{run}
 use Rattle.hub.specs.Table.{decide}
 use Rattle.hub.proofs.Laws.Bools.{second}
 use Rattle.hub.proofs.Laws.Opening.{kept-opening, run-opening}
-use Rattle.hub.proofs.Laws.Table.{isListed}
+use Rattle.hub.proofs.Laws.Table.{is_listed}
 use Rattle.hub.proofs.Invariant.Weights.{drawing, radioed, pick, sum, count-pick}
 use Rattle.hub.proofs.Invariant.Tickets.{drawing-most, resumed-most}
 use Rattle.hub.proofs.Invariant.Keep.{Inv}
-use Rattle.hub.proofs.Invariant.Potential.{toCalm, most-to-calm, potential}
+use Rattle.hub.proofs.Invariant.Potential.{to_calm, most-to-calm, potential}
 use Rattle.hub.proofs.Invariant.Rows.{Good, Next}
 use Rattle.hub.proofs.Invariant.Schedules.{move-good, tidied-keeps}
 use Rattle.hub.proofs.Window.Shown.{Reached, look-same}
@@ -57,13 +57,13 @@ room_for k m inv = omega (arith, resumed-most inv.tickets, drawing-most inv.tick
 
 -- One step at the queue.
 module _ (k : ℕ) (m : Queue) (inv : Inv k m) (unnamed : m.opening.named ≡ false) (p : ℕ)
-    (busy : atRest (queue.look m p).slot.phase ≡ false) where
+    (busy : at_rest (queue.look m p).slot.phase ≡ false) where
   -- not refused by r, and m'' is one nearer
   abbrev Calms : Answer → Queue → Type 0
   Calms r m'' = (ltb (printed r).code 0x20 ≡ false) × (potential m'' + 1 ≤ potential m)
 
   -- nobody is at the radios
-  no-radio : radioed (phaseIn (phases m) p) ≡ 0
+  no-radio : radioed (phase_in (phases m) p) ≡ 0
   no-radio = omega (arith, inv.radios p, ap bit unnamed)
 
   told : (r : Answer) (m' : Queue) → Next k Op.Step p r m m' → Calms r m'
@@ -83,8 +83,8 @@ module _ (k : ℕ) (m : Queue) (inv : Inv k m) (unnamed : m.opening.named ≡ fa
           x.1,
           room_for k m' g.inv,
           room_for k (queue.tidied m') t.0,
-          ap (λ (l : List PartySlot). weight toCalm (phasesOf l)) t.1.slots,
-          ap (λ (l : List PartySlot). weight drawing (phasesOf l)) t.1.slots,
+          ap (λ (l : List PartySlot). weight to_calm (phases_of l)) t.1.slots,
+          ap (λ (l : List PartySlot). weight drawing (phases_of l)) t.1.slots,
           t.1.issued,
           t.1.resumed,
         ),
@@ -92,15 +92,15 @@ module _ (k : ℕ) (m : Queue) (inv : Inv k m) (unnamed : m.opening.named ≡ fa
 
   moved : (v : Move) → Good k Op.Step p m (queue.look m p).slot.phase v
       → Calms (answer_of v) (queue.apply m (queue.look m p) v)
-  unfolding queue.apply seenBy
-  moved (Refuse r) g = absurd (apart (second (isListed (Refuse r)) _ g) busy)
+  unfolding queue.apply seen_by
+  moved (Refuse r) g = absurd (apart (second (is_listed (Refuse r)) _ g) busy)
   moved (Tell y) g = told y m g
   moved (Act x) g = after x.answer _ g
   moved (Put a x) g = after x.answer _ g
   moved (Wake q s a x) g = after x.answer _ g
 
-  step-calms : Calms (answer_of (queue.move_of m (stepBy p))) (queue.next m (stepBy p))
-  step-calms = moved _ (move-good k m inv (stepBy p) _ refl)
+  step-calms : Calms (answer_of (queue.move_of m (step_by p))) (queue.next m (step_by p))
+  step-calms = moved _ (move-good k m inv (step_by p) _ refl)
 
 -- And at the hub, which does the same: a step is never answered 7.
 module _ (k : ℕ) (k₁ : 1 ≤ k) (k₂ : k ≤ 32) where
@@ -112,7 +112,7 @@ module _ (k : ℕ) (k₁ : 1 ≤ k) (k₂ : k ≤ 32) where
     pub near : potential queue ≤ w
 
   move_same : (h : Hub) (m : Queue) (p : ℕ) → Reached k h m
-      → move_of h (stepBy p) ≡ queue.move_of m (stepBy p)
+      → move_of h (step_by p) ≡ queue.move_of m (step_by p)
   unfolding decide
   move_same h m p r = λ i.
       checked (reached-fits k h m r k₁ k₂ i) (ltb p (r.tracks.shows.opening i).parties)
@@ -120,13 +120,13 @@ module _ (k : ℕ) (k₁ : 1 ≤ k) (k₂ : k ≤ 32) where
 
   -- A busy party's step is not refused, and leads one step nearer.
   one-step : (h : Hub) (w : ℕ) → Within h w → (p : ℕ) → Busy h p
-      → (stepRefused h p ≡ false) × (1 ≤ w) × Within (called h (stepBy p)).hub (w - 1)
+      → (step_refused h p ≡ false) × (1 ≤ w) × Within (called h (step_by p)).hub (w - 1)
   one-step h w x p b = (
     granted,
     omega (arith, s.1, x.near),
     record {
-      queue = queue.next m (stepBy p);
-      reached = called-reached k h m r (stepBy p) _ (f.alike (go _ refl)).0;
+      queue = queue.next m (step_by p);
+      reached = called-reached k h m r (step_by p) _ (f.alike (go _ refl)).0;
       unnamed = ap (λ (o : Opening). o.named) (kept-opening h _ _) ∙ x.unnamed;
       near = omega (arith, s.1, x.near);
     },
@@ -138,24 +138,24 @@ module _ (k : ℕ) (k₁ : 1 ≤ k) (k₂ : k ≤ 32) where
       r : Reached k h m
       r = x.reached
 
-      s : (ltb (printed (answer_of (queue.move_of m (stepBy p)))).code 0x20 ≡ false)
-          × (potential (queue.next m (stepBy p)) + 1 ≤ potential m)
+      s : (ltb (printed (answer_of (queue.move_of m (step_by p)))).code 0x20 ≡ false)
+          × (potential (queue.next m (step_by p)) + 1 ≤ potential m)
       s =
           step-calms k m r.tracks.inv
           (sym (ap (λ (o : Opening). o.named) r.tracks.shows.opening) ∙ x.unnamed) p
-          (sym (ap (λ (v : Sight). atRest v.slot.phase) (look-same k h m r.tracks p))
-          ∙ unfold seenBy in b)
+          (sym (ap (λ (v : Sight). at_rest v.slot.phase) (look-same k h m r.tracks p))
+          ∙ unfold seen_by in b)
 
-      granted : stepRefused h p ≡ false
+      granted : step_refused h p ≡ false
       granted = ap (λ (v : Move). ltb (printed (answer_of v)).code 0x20) (move_same h m p r) ∙ s.0
 
-      f : Follows k h m (stepBy p) (look h p) (move_of h (stepBy p))
-      f = follows k h m r (stepBy p) k₁ k₂
+      f : Follows k h m (step_by p) (look h p) (move_of h (step_by p))
+      f = follows k h m r (step_by p) k₁ k₂
 
-      go : (c : Bool) → isSeven (called h (stepBy p)).answer ≡ c
-          → isSeven (called h (stepBy p)).answer ≡ false
+      go : (c : Bool) → is_seven (called h (step_by p)).answer ≡ c
+          → is_seven (called h (step_by p)).answer ≡ false
       go false i = i
-      go true i = absurd (not-seven (called h (stepBy p)).answer granted i)
+      go true i = absurd (not-seven (called h (step_by p)).answer granted i)
 
   -- Any number of them.
   steps : (h : Hub) (w : ℕ) (ps : List ℕ) → Within h w → BusySteps h ps
@@ -164,21 +164,21 @@ module _ (k : ℕ) (k₁ : 1 ≤ k) (k₂ : k ≤ 32) where
   steps h w [] x b = (tt, omega arith, subst (Within h) (omega arith) x)
   steps h w (p ∷ ps) x b =
       let y = one-step h w x p b.0 in
-      let z = steps (called h (stepBy p)).hub (w - 1) ps y.2 b.1 in (
+      let z = steps (called h (step_by p)).hub (w - 1) ps y.2 b.1 in (
         (y.0, z.0),
         omega (arith, y.1, z.1),
         subst (Within _) (omega arith) z.2,
       )
 
   -- So they come to rest.
-  settles : (h : Hub) (w : ℕ) (ps : List ℕ) → stepsToCalm h ≡ w → Within h w → BusySteps h ps
+  settles : (h : Hub) (w : ℕ) (ps : List ℕ) → steps_to_calm h ≡ w → Within h w → BusySteps h ps
       → Settles h ps
   settles h w ps e x b =
       let y = steps h w ps x b in
       record {
         onward = λ p c. (one-step _ _ y.2 p c).0;
-        atEnd = λ n p. go p (λ c. apart (n p) (one-step _ _ y.2 p c).0) _ refl;
-        inTime = λ n p. go p (λ c. omega (arith, e, n, y.1, (one-step _ _ y.2 p c).1)) _ refl;
+        at_end = λ n p. go p (λ c. apart (n p) (one-step _ _ y.2 p c).0) _ refl;
+        in_time = λ n p. go p (λ c. omega (arith, e, n, y.1, (one-step _ _ y.2 p c).1)) _ refl;
       }
     where
       go : (p : ℕ) → (Busy (stepped h ps) p → ⊥) → (c : Bool) → rests (stepped h ps) p ≡ c
@@ -187,12 +187,12 @@ module _ (k : ℕ) (k₁ : 1 ≤ k) (k₂ : k ≤ 32) where
       go p f false i = absurd (f i)
 
 -- At the start: five for each party, and twice the bracket.
-parties-most : (n : ℕ) (l : List Phase) → ((i : ℕ) → n ≤ i → phaseIn l i ≡ Phase.Free)
-    → weight toCalm l ≤ 5 * n
-unfolding weight pick isOneOf
+parties-most : (n : ℕ) (l : List Phase) → ((i : ℕ) → n ≤ i → phase_in l i ≡ Phase.Free)
+    → weight to_calm l ≤ 5 * n
+unfolding weight pick is_one_of
 parties-most n [] e = omega arith
 parties-most zero (x ∷ l) e =
-    omega (arith, ap toCalm (e 0 (omega arith)), parties-most zero l (λ i j. e (suc i) (omega arith)))
+    omega (arith, ap to_calm (e 0 (omega arith)), parties-most zero l (λ i j. e (suc i) (omega arith)))
 parties-most (suc n) (x ∷ l) e =
     omega (arith, most-to-calm x, parties-most n l (λ i j. e (suc i) (omega arith)))
 
@@ -210,16 +210,16 @@ module _ (o : Opening) (e : (opening o).answer ≡ Answer.Opened) (unnamed : o.n
   reached = (schedule o e cs).reached
 
   -- what the record shows of the bracket
-  drawn : drawnAndToDraw hub ≡ m.figures.issued + sum drawing m
+  drawn : drawn_and_to_draw hub ≡ m.figures.issued + sum drawing m
   drawn =
       omega (
         arith,
         ap (λ (f : Figures). f.issued) reached.tracks.shows.figures,
-        ap (λ (l : List PartySlot). count drawsTicket (phasesOf l)) reached.tracks.shows.slots,
+        ap (λ (l : List PartySlot). count draws_ticket (phases_of l)) reached.tracks.shows.slots,
         count-pick (Acquiring ∷ Suspending ∷ AcquiringMarked ∷ SuspendingMarked ∷ []) (phases m),
       )
 
-  whole : hub.control.figures.resumed ≤ drawnAndToDraw hub
+  whole : hub.control.figures.resumed ≤ drawn_and_to_draw hub
   whole =
       omega (
         arith,
@@ -228,8 +228,8 @@ module _ (o : Opening) (e : (opening o).answer ≡ Answer.Opened) (unnamed : o.n
         room_for o.permits m reached.tracks.inv,
       )
 
-  within : Within o.permits (start o e).permits.0 (start o e).permits.1 hub (stepsToCalm hub)
-  unfolding stepsToCalm fresh
+  within : Within o.permits (start o e).permits.0 (start o e).permits.1 hub (steps_to_calm hub)
+  unfolding steps_to_calm fresh
   within =
       record {
         queue = m;

@@ -17,30 +17,30 @@ use Rattle.hub.specs.declared.record.Phase.{Phase}
 use Rattle.hub.specs.declared.record.Place.{Place}
 use Rattle.hub.specs.declared.record.PlaceSlot.{PlaceSlot}
 use Rattle.hub.specs.Answers.{printed}
-use Rattle.hub.specs.Basics.{bit, weight, count, upTo32}
+use Rattle.hub.specs.Basics.{bit, weight, count, up_to32}
 use Rattle.hub.specs.Calls.{called, move_of}
-use Rattle.hub.specs.Counts.{countsOf, CountsAddUp}
+use Rattle.hub.specs.Counts.{counts_of, CountsAddUp}
 use Rattle.hub.specs.Demand3.{Accounts, Calm, Demand3, ReachedFits}
-use Rattle.hub.specs.Ledger.{Ledger, opened, phaseIn, enter, ledger, atCounter}
+use Rattle.hub.specs.Ledger.{Ledger, opened, phase_in, enter, ledger, at_counter}
 use Rattle.hub.specs.Look.{look}
-use Rattle.hub.specs.Opening.{fresh, opening, radiosDiffer, tests}
-use Rattle.hub.specs.Fits.{kindsFit}
-use Rattle.hub.specs.Phases.{isOneOf, isPlaceOf, isUnserved, holds, resumes, refuses}
+use Rattle.hub.specs.Opening.{fresh, opening, radios_differ, tests}
+use Rattle.hub.specs.Fits.{kinds_fit}
+use Rattle.hub.specs.Phases.{is_one_of, is_place_of, is_unserved, holds, resumes, refuses}
 use Rattle.hub.specs.Queue.{Queue, phases}
 use Rattle.hub.specs.Queue as queue
-use Rattle.hub.specs.Record.{PARTIES, emptySeat, phasesOf, places_of}
-use Rattle.hub.specs.Refinement.{Window, Shows, isSeven, heard, withoutSevens, Refines}
-use Rattle.hub.specs.Ring.{PLACES, readSeat}
+use Rattle.hub.specs.Record.{PARTIES, empty_seat, phases_of, places_of}
+use Rattle.hub.specs.Refinement.{Window, Shows, is_seven, heard, without_sevens, Refines}
+use Rattle.hub.specs.Ring.{PLACES, read_seat}
 use Rattle.hub.specs.Schedule.{run, answers, entries}
 use Rattle.hub.proofs.Laws.Bools.{first, second, if-true}
 use Rattle.hub.proofs.Laws.Opening.{by-opened, each-passed, ends, kinds-fit}
 use Rattle.hub.proofs.Laws.Lists.{weight-add, weight-map, weight-replicate, weight-same}
 use Rattle.hub.proofs.Laws.Phases.{every-phase}
-use Rattle.hub.proofs.Laws.Ranges.{sumFrom, sum-zero, sum_same, sum-split, sum-rotate}
+use Rattle.hub.proofs.Laws.Ranges.{sum_from, sum-zero, sum_same, sum-split, sum-rotate}
 use Rattle.hub.proofs.Laws.Ranges.{sum-list}
 use Rattle.hub.proofs.Laws.Seats.{fresh-seat, next-round, read-index}
 use Rattle.hub.proofs.Invariant.Weights.{up, down, pick, count-pick, holding, resuming, refusing}
-use Rattle.hub.proofs.Invariant.Weights.{drawing, suspending, live, permitCell, refusedCell, sum, cellSum}
+use Rattle.hub.proofs.Invariant.Weights.{drawing, suspending, live, permit_cell, refused_cell, sum, cell_sum}
 use Rattle.hub.proofs.Invariant.Weights.{total, TICKETS}
 use Rattle.hub.proofs.Invariant.Tickets.{near}
 use Rattle.hub.proofs.Invariant.Keep.{permits}
@@ -59,8 +59,8 @@ use Rattle.hub.proofs.Window.Followed.{Follows, follows, called-reached}
 pub record InRange (o : Opening) : Type 0 where
   pub permits : (1 ≤ o.permits) × (o.permits ≤ 32)
   pub parties : (1 ≤ o.parties) × (o.parties ≤ 32)
-  pub differ : radiosDiffer o ≡ true
-  pub kinds : kindsFit o ≡ true
+  pub differ : radios_differ o ≡ true
+  pub kinds : kinds_fit o ≡ true
   pub hub : (opening o).hub ≡ fresh o
 
 pub in-range : (o : Opening) → (opening o).answer ≡ Answer.Opened → InRange o
@@ -75,13 +75,13 @@ in-range o e =
       hub = ap (λ (x : Outcome). x.hub) z.1;
     }
   where
-    range : (x : ℕ) → upTo32 x ≡ true → (1 ≤ x) × (x ≤ 32)
+    range : (x : ℕ) → up_to32 x ≡ true → (1 ≤ x) × (x ≤ 32)
     range x e = (leb-true 1 x (first (leb 1 x) _ e), leb-true x 32 (second (leb 1 x) _ e))
 
 -- A fresh record shows a fresh queue.
 fresh-tracks : (o : Opening) → 1 ≤ o.parties → o.parties ≤ PARTIES
     → Tracks o.permits (fresh o) (queue.fresh o)
-unfolding fresh queue.fresh pick isOneOf
+unfolding fresh queue.fresh pick is_one_of
 fresh-tracks o a b =
     record {
       permits = refl;
@@ -104,7 +104,7 @@ fresh-tracks o a b =
     }
 
 -- A 7 moves nobody.
-seven-same : (e : Ledger) (c : Call) (r : Answer) → isSeven r ≡ true → entered e c r ≡ e
+seven-same : (e : Ledger) (c : Call) (r : Answer) → is_seven r ≡ true → entered e c r ≡ e
 unfolding enter
 seven-same e c r i =
     if-true _ e _ (lt-ltb (printed r).code 0x20 (omega (arith, eqb-true (printed r).code 7 i)))
@@ -119,12 +119,12 @@ module _ (k : ℕ) (k₁ : 1 ≤ k) (k₂ : k ≤ 32) where
 
   one-call : (h : Hub) (e : Ledger) (c : Call) → Account h e
       → Account (called h c).hub (entered e c (called h c).answer)
-  one-call h e c x = go (isSeven (called h c).answer) refl
+  one-call h e c x = go (is_seven (called h c).answer) refl
     where
       f : Follows k h x.queue c (look h c.party) (move_of h c)
       f = follows k h x.queue x.reached c k₁ k₂
 
-      go : (b : Bool) → isSeven (called h c).answer ≡ b
+      go : (b : Bool) → is_seven (called h c).answer ≡ b
           → Account (called h c).hub (entered e c (called h c).answer)
       go true i =
           record {
@@ -165,8 +165,8 @@ ring-sum o l g v s b w x y =
       sum-zero f (0 + o + PLACES) rest (λ t i j. ap at (v.beyond t (omega arith)) ∙ x),
       sum_same f z (0 + o) PLACES (λ t i j. ap at (v.within t (omega arith) (omega arith))),
       sum-rotate z PLACES (λ t. ap at (next-round l t)) (0 + o),
-      subst (λ (n : ℕ). sumFrom z 0 n ≡ weight at l) s
-          (sum-list at emptySeat l 0 z
+      subst (λ (n : ℕ). sum_from z 0 n ≡ weight at l) s
+          (sum-list at empty_seat l 0 z
           (λ j i. ap at (sym (read-index l (0 + j) j (small j (subst (λ (n : ℕ). j < n) s i)))))),
       weight-map w (λ (q : PlaceSlot). q.place) l,
     )
@@ -178,7 +178,7 @@ ring-sum o l g v s b w x y =
     f t = w (g t).place
 
     z : ℕ → ℕ
-    z t = w (readSeat l t).place
+    z t = w (read_seat l t).place
 
     rest : ℕ
     rest = TICKETS - (o + PLACES)
@@ -187,30 +187,30 @@ ring-sum o l g v s b w x y =
     small j i = omega arith
 
 pub ring-count : (k : ℕ) (h : Hub) (m : Queue) → Tracks k h m → (w : Place → ℕ)
-    → w Place.Empty ≡ 0 → w Place.Done ≡ 0 → cellSum w m ≡ weight w (places_of h.places)
+    → w Place.Empty ≡ 0 → w Place.Done ≡ 0 → cell_sum w m ≡ weight w (places_of h.places)
 ring-count k h m r w =
     ring-sum h.control.oldest h.places m.cells r.shows.window r.size
     (omega (arith, low (tracked r), near r.inv.tickets)) w
 
 -- The unserved waits are those that will draw a ticket and those that live with one.
-unserved-count : (l : List Phase) → count isUnserved l ≡ weight suspending l + weight live l
-unfolding pick isOneOf
+unserved-count : (l : List Phase) → count is_unserved l ≡ weight suspending l + weight live l
+unfolding pick is_one_of
 unserved-count l =
-    weight-same (λ f. bit (isUnserved f)) (λ f. suspending f + live f)
-    (every-phase (λ f. bit (isUnserved f) ≡ suspending f + live f) (λ t. omega arith)) l
+    weight-same (λ f. bit (is_unserved f)) (λ f. suspending f + live f)
+    (every-phase (λ f. bit (is_unserved f) ≡ suspending f + live f) (λ t. omega arith)) l
     ∙ weight-add suspending live l
 
 -- What the account of a schedule comes to.
 accounts : (k : ℕ) (h : Hub) (m : Queue) (e : Ledger) → Tracks k h m → Agrees e m
     → Accounts k e h
-unfolding isPlaceOf
+unfolding is_place_of
 accounts k h m e r a =
-    let bring : count (isOneOf (Phase.Resuming ∷ Phase.ResumingAt 0 ∷ [])) e.phases
+    let bring : count (is_one_of (Phase.Resuming ∷ Phase.ResumingAt 0 ∷ [])) e.phases
     ≡ sum resuming m =
     count-pick _ e.phases ∙ ap (weight resuming) a.replayed in
-    let decline : count (isOneOf (Phase.Refusing 0 ∷ [])) e.phases ≡ sum refusing m =
+    let decline : count (is_one_of (Phase.Refusing 0 ∷ [])) e.phases ≡ sum refusing m =
     count-pick _ e.phases ∙ ap (weight refusing) a.replayed in
-    let hold : count (isOneOf (Phase.Holding ∷ Phase.Releasing ∷ Phase.Fetching ∷ [])) e.phases
+    let hold : count (is_one_of (Phase.Holding ∷ Phase.Releasing ∷ Phase.Fetching ∷ [])) e.phases
     ≡ sum holding m =
     count-pick _ e.phases ∙ ap (weight holding) a.replayed in
     let whole = way-whole k m r.inv in
@@ -241,30 +241,30 @@ accounts k h m e r a =
             ap (weight suspending) a.replayed,
             ap (weight live) a.replayed,
           );
-      heldWhole = omega (arith, a.held);
-      permitsWhole = omega (arith, a.permits);
-      refusedWhole = omega (arith, a.refusals);
-      wayWhole = omega (arith, a.permits, a.refusals, bring, decline, whole);
-      phases = ap phasesOf r.shows.slots ∙ sym a.replayed;
+      held_whole = omega (arith, a.held);
+      permits_whole = omega (arith, a.permits);
+      refused_whole = omega (arith, a.refusals);
+      way_whole = omega (arith, a.permits, a.refusals, bring, decline, whole);
+      phases = ap phases_of r.shows.slots ∙ sym a.replayed;
       counter = ap (λ (f : Figures). f.counter) r.shows.figures ∙ sym a.counter;
       permits =
           omega (
             arith,
             a.permits,
-            ring-count k h m r permitCell refl refl,
+            ring-count k h m r permit_cell refl refl,
           );
       refusals =
           omega (
             arith,
             a.refusals,
-            ring-count k h m r refusedCell refl refl,
+            ring-count k h m r refused_cell refl refl,
           );
       holders = omega (arith, a.held, hold);
       most = omega (arith, a.held, held-most k m r.inv);
       calm = λ q p t i.
           let rest : Settled (phases m) = λ j. rest-settled _ (subst Calm a.replayed q j) in
-          let z : phaseIn (phases m) p ≡ Phase.Waiting t =
-          ap (λ (l : List Phase). phaseIn l p) (sym a.replayed) ∙ i in (
+          let z : phase_in (phases m) p ≡ Phase.Waiting t =
+          ap (λ (l : List Phase). phase_in l p) (sym a.replayed) ∙ i in (
             omega (arith, a.held, all_held k m r.inv rest p t z),
             all_more m.figures.resumed t (standing r.inv.tickets rest p t z) e.served a.served,
           );
@@ -310,11 +310,11 @@ every-record-fits o e cs =
 module _ (k : ℕ) (k₁ : 1 ≤ k) (k₂ : k ≤ 32) where
   refined : (h : Hub) (m : Queue) (cs : List Call) → Reached k h m
       → Shows (run h cs) (queue.run m (heard h cs))
-      × (withoutSevens (answers h cs) ≡ queue.answers m (heard h cs))
-  unfolding run answers heard withoutSevens queue.run queue.answers
+      × (without_sevens (answers h cs) ≡ queue.answers m (heard h cs))
+  unfolding run answers heard without_sevens queue.run queue.answers
   refined h m [] r = (r.tracks.shows, refl)
   refined h m (c ∷ cs) r =
-      go (isSeven (called h c).answer) refl
+      go (is_seven (called h c).answer) refl
       (λ e. refined (called h c).hub m cs
       (subst (λ (g : Hub). Reached k g m) (sym (f.seven e)) r))
       (λ e. refined (called h c).hub (queue.next m c) cs
@@ -327,12 +327,12 @@ module _ (k : ℕ) (k₁ : 1 ≤ k) (k₂ : k ≤ 32) where
       rest = heard (called h c).hub cs
 
       others : List Answer
-      others = withoutSevens (answers (called h c).hub cs)
+      others = without_sevens (answers (called h c).hub cs)
 
-      go : (b : Bool) → isSeven (called h c).answer ≡ b
-          → (isSeven (called h c).answer ≡ true
+      go : (b : Bool) → is_seven (called h c).answer ≡ b
+          → (is_seven (called h c).answer ≡ true
           → Shows (run (called h c).hub cs) (queue.run m rest) × (others ≡ queue.answers m rest))
-          → (isSeven (called h c).answer ≡ false
+          → (is_seven (called h c).answer ≡ false
           → Shows (run (called h c).hub cs) (queue.run (queue.next m c) rest)
           × (others ≡ queue.answers (queue.next m c) rest))
           → Shows (run (called h c).hub cs) (queue.run m (cond b rest (c ∷ rest)))
@@ -349,16 +349,16 @@ refines o e cs =
 
 -- What the record shows is what the ledger says.
 pub counts-add-up : CountsAddUp
-unfolding CountsAddUp countsOf Demand3
+unfolding CountsAddUp counts_of Demand3
 counts-add-up o i cs =
     let d = demand3 o i cs in
     let h = run (opening o).hub cs in
     let e = ledger (opened o) (entries (opening o).hub cs) in
-    let hold : count holds (phasesOf h.slots) ≡ count holds e.phases =
+    let hold : count holds (phases_of h.slots) ≡ count holds e.phases =
     ap (count holds) d.phases in
-    let bring : count resumes (phasesOf h.slots) ≡ count resumes e.phases =
+    let bring : count resumes (phases_of h.slots) ≡ count resumes e.phases =
     ap (count resumes) d.phases in
-    let decline : count refuses (phasesOf h.slots) ≡ count refuses e.phases =
+    let decline : count refuses (phases_of h.slots) ≡ count refuses e.phases =
     ap (count refuses) d.phases in (
       omega (
         arith,
@@ -369,7 +369,7 @@ counts-add-up o i cs =
         hold,
         bring,
         decline,
-        ap atCounter d.counter,
+        ap at_counter d.counter,
       ),
-      omega (arith, d.wayWhole, d.permits, d.refusals, bring, decline),
+      omega (arith, d.way_whole, d.permits, d.refusals, bring, decline),
     )

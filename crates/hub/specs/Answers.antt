@@ -14,25 +14,25 @@ plain c = record { code = c; woken = 0xFF; number = 0xFFFFFFFF }
 abbrev pub with_number : ℕ → ℕ → Printed
 with_number c t = record { code = c; woken = 0xFF; number = t }
 
-abbrev pub refusalCode : Refusal → ℕ
-refusalCode Refusal.Unfit = 1
-refusalCode Refusal.BadPermits = 2
-refusalCode Refusal.BadParties = 3
-refusalCode Refusal.NoSuchParty = 4
-refusalCode Refusal.NotFree = 5
-refusalCode Refusal.Exhausted = 6
-refusalCode Refusal.Full = 7
-refusalCode Refusal.AtRest = 8
-refusalCode Refusal.NotWaiting = 9
-refusalCode Refusal.NotCancellable = 10
-refusalCode Refusal.NotHolding = 11
-refusalCode Refusal.SameRadios = 14
-refusalCode Refusal.MiscountedKinds = 15
-refusalCode Refusal.UnknownKind = 16
-refusalCode Refusal.NoDesk = 17
+abbrev pub refusal_code : Refusal → ℕ
+refusal_code Refusal.Unfit = 1
+refusal_code Refusal.BadPermits = 2
+refusal_code Refusal.BadParties = 3
+refusal_code Refusal.NoSuchParty = 4
+refusal_code Refusal.NotFree = 5
+refusal_code Refusal.Exhausted = 6
+refusal_code Refusal.Full = 7
+refusal_code Refusal.AtRest = 8
+refusal_code Refusal.NotWaiting = 9
+refusal_code Refusal.NotCancellable = 10
+refusal_code Refusal.NotHolding = 11
+refusal_code Refusal.SameRadios = 14
+refusal_code Refusal.MiscountedKinds = 15
+refusal_code Refusal.UnknownKind = 16
+refusal_code Refusal.NoDesk = 17
 
 abbrev pub printed : Answer → Printed
-printed (Answer.Refused r) = plain (refusalCode r)
+printed (Answer.Refused r) = plain (refusal_code r)
 printed Answer.Opened = plain 0x1F
 printed Answer.Accepted = plain 0x20
 printed Answer.Acquired = plain 0x21

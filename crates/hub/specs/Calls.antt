@@ -16,15 +16,15 @@ use Rattle.hub.specs.Answers.{printed}
 use Rattle.hub.specs.Basics.{count}
 use Rattle.hub.specs.Fits.{fits}
 use Rattle.hub.specs.Look.{look}
-use Rattle.hub.specs.Phases.{byTicket, drawsTicket}
-use Rattle.hub.specs.Radios.{poolAfter}
-use Rattle.hub.specs.Record.{phasesOf, withFigures, withParts, withPlaces, withPool, withSlots, writeSlot}
-use Rattle.hub.specs.Ring.{PLACES, Ring, reclaimed, writeSeat}
-use Rattle.hub.specs.Table.{decide, withResumed}
+use Rattle.hub.specs.Phases.{by_ticket, draws_ticket}
+use Rattle.hub.specs.Radios.{pool_after}
+use Rattle.hub.specs.Record.{phases_of, with_figures, with_parts, with_places, with_pool, with_slots, write_slot}
+use Rattle.hub.specs.Ring.{PLACES, Ring, reclaimed, write_seat}
+use Rattle.hub.specs.Table.{decide, with_resumed}
 
 -- 7: the tickets issued, i of them, and those that may yet be drawn, fill the 256 places from o on.
-abbrev pub isFull : ℕ → ℕ → List PartySlot → Bool
-isFull o i l = leb (o + PLACES) (i + count drawsTicket (phasesOf l))
+abbrev pub is_full : ℕ → ℕ → List PartySlot → Bool
+is_full o i l = leb (o + PLACES) (i + count draws_ticket (phases_of l))
 
 -- 1, then 4, then the call's own.
 unfoldable pub checked : Bool → Bool → Move → Move
@@ -35,29 +35,29 @@ checked true true m = m
 abbrev pub move_of : Hub → Call → Move
 move_of h c =
     checked (fits h) (ltb c.party h.control.opening.parties)
-    (decide c.op (isFull h.control.oldest h.control.figures.issued h.slots) (look h c.party))
+    (decide c.op (is_full h.control.oldest h.control.figures.issued h.slots) (look h c.party))
 
 -- The slot of party p and the figures change.
 abbrev pub acted : Hub → ℕ → Change → Hub
-acted h p c = withSlots (writeSlot h.slots p c.slot) (withFigures c.figures h)
+acted h p c = with_slots (write_slot h.slots p c.slot) (with_figures c.figures h)
 
 -- The place of the ticket of a phase f becomes a.
 abbrev pub placed : Hub → Phase → PlaceSlot → Hub
-placed h f a = withPlaces (byTicket h.places (λ t. writeSeat h.places t a) f) h
+placed h f a = with_places (by_ticket h.places (λ t. write_seat h.places t a) f) h
 
 -- The slot of the waiter q becomes s.
 abbrev pub woken : Hub → ℕ → PartySlot → Hub
-woken h q s = withSlots (writeSlot h.slots q s) h
+woken h q s = with_slots (write_slot h.slots q s) h
 
 -- The tidying.
-abbrev pub ringOf : Hub → Ring
-ringOf h = record { resumed = h.control.figures.resumed; oldest = h.control.oldest; places = h.places }
+abbrev pub ring_of : Hub → Ring
+ring_of h = record { resumed = h.control.figures.resumed; oldest = h.control.oldest; places = h.places }
 
-abbrev pub withRing : Hub → Ring → Hub
-withRing h r = withParts (withResumed r.resumed h.control.figures) r.oldest r.places h.slots h.control.pool h
+abbrev pub with_ring : Hub → Ring → Hub
+with_ring h r = with_parts (with_resumed r.resumed h.control.figures) r.oldest r.places h.slots h.control.pool h
 
 unfoldable pub tidied : Hub → Hub
-tidied h = withRing h (reclaimed (ringOf h))
+tidied h = with_ring h (reclaimed (ring_of h))
 
 -- What a move answers.
 abbrev pub answer_of : Move → Answer
@@ -84,6 +84,6 @@ called h c =
     record {
       answer = answer_of m;
       hub =
-          withPool (poolAfter h.control.opening.named (printed (answer_of m)) c.party h.control.pool)
+          with_pool (pool_after h.control.opening.named (printed (answer_of m)) c.party h.control.pool)
           (apply h (look h c.party) m);
     }

@@ -10,97 +10,97 @@ use Rattle.hub.specs.declared.record.Phase.TheVariants.{SuspendingMarked, Ticket
 use Rattle.hub.specs.declared.record.Place.{Place}
 use Rattle.hub.specs.declared.record.Place.TheVariants.{Empty, Waiting as WaitedBy, Permit}
 use Rattle.hub.specs.declared.record.Place.TheVariants.{Cancelled, Refused}
-use Rattle.hub.specs.Basics.{all_from, all_of, implies, upTo32}
+use Rattle.hub.specs.Basics.{all_from, all_of, implies, up_to32}
 use Rattle.hub.specs.Look.{look}
-use Rattle.hub.specs.Opening.{allPassed, kindTests, radiosDiffer}
-use Rattle.hub.specs.Phases.{byWaiter, isFree, isOneOf, isPlaceOf, ofRadios, stands, ticketOf}
-use Rattle.hub.specs.Radios.{radiosIn, radiosOf, rearranged}
-use Rattle.hub.specs.Record.{PARTIES, MAX-BEGUN, read_slot}
+use Rattle.hub.specs.Opening.{all_passed, kind_tests, radios_differ}
+use Rattle.hub.specs.Phases.{by_waiter, is_free, is_one_of, is_place_of, of_radios, stands, ticket_of}
+use Rattle.hub.specs.Radios.{radios_in, radios_of, rearranged}
+use Rattle.hub.specs.Record.{PARTIES, MAX_BEGUN, read_slot}
 use Rattle.hub.specs.Ring.{PLACES, read_place}
 
 -- −32 to 32.
-unfoldable pub counterFits : ℤ → Bool
-counterFits (pos n) = leb n 32
-counterFits (negsuc n) = ltb n 32
+unfoldable pub counter_fits : ℤ → Bool
+counter_fits (pos n) = leb n 32
+counter_fits (negsuc n) = ltb n 32
 
 -- K and n, the figures and the oldest ticket o that has a place, clause by clause.
-abbrev pub figuresClauses : Opening → Figures → ℕ → List Bool
-figuresClauses x f o =
-    upTo32 x.permits
-    ∷ upTo32 x.parties
-    ∷ counterFits f.counter
-    ∷ leb f.begun MAX-BEGUN
-    ∷ leb f.issued MAX-BEGUN
-    ∷ leb f.resumed MAX-BEGUN
+abbrev pub figures_clauses : Opening → Figures → ℕ → List Bool
+figures_clauses x f o =
+    up_to32 x.permits
+    ∷ up_to32 x.parties
+    ∷ counter_fits f.counter
+    ∷ leb f.begun MAX_BEGUN
+    ∷ leb f.issued MAX_BEGUN
+    ∷ leb f.resumed MAX_BEGUN
     ∷ leb o f.issued
     ∷ leb o f.resumed
     ∷ leb f.issued (o + PLACES)
     ∷ leb f.resumed (o + PLACES)
     ∷ []
 
-unfoldable pub figuresFit : Opening → Figures → ℕ → Bool
-figuresFit x f o = all_of (figuresClauses x f o)
+unfoldable pub figures_fit : Opening → Figures → ℕ → Bool
+figures_fit x f o = all_of (figures_clauses x f o)
 
 -- Is t one of the 256 tickets from o on, and below e?
-unfoldable pub inWindow : ℕ → ℕ → ℕ → Bool
-inWindow o e t = leb o t && ltb t (o + PLACES) && ltb t e
+unfoldable pub in_window : ℕ → ℕ → ℕ → Bool
+in_window o e t = leb o t && ltb t (o + PLACES) && ltb t e
 
 -- A party's ticket is one of the 256, below the next to resume if handing, else below the next
 -- issued. Drawing one needs room.
-unfoldable pub ticketFits : Figures → ℕ → Phase → Bool
-ticketFits f o x =
+unfoldable pub ticket_fits : Figures → ℕ → Phase → Bool
+ticket_fits f o x =
     all_of
     (implies
-    (isOneOf
+    (is_one_of
     (Ticketed 0 ∷ TicketedMarked 0 ∷ Waiting 0 ∷ Aborting 0 ∷ Cancelling 0 ∷ Refusing 0 ∷ []) x)
-    (inWindow o f.issued (ticketOf x))
-    ∷ implies (isOneOf (ResumingAt 0 ∷ []) x) (inWindow o f.resumed (ticketOf x))
-    ∷ implies (isOneOf (Suspending ∷ SuspendingMarked ∷ []) x) (ltb f.issued (o + PLACES))
-    ∷ implies (isOneOf (Resuming ∷ []) x) (ltb f.resumed (o + PLACES))
+    (in_window o f.issued (ticket_of x))
+    ∷ implies (is_one_of (ResumingAt 0 ∷ []) x) (in_window o f.resumed (ticket_of x))
+    ∷ implies (is_one_of (Suspending ∷ SuspendingMarked ∷ []) x) (ltb f.issued (o + PLACES))
+    ∷ implies (is_one_of (Resuming ∷ []) x) (ltb f.resumed (o + PLACES))
     ∷ [])
 
 -- A place about to be acted on is in a state that the step table lists.
-unfoldable pub placeListed : Phase → Place → Bool
-placeListed x a =
+unfoldable pub place_listed : Phase → Place → Bool
+place_listed x a =
     all_of
-    (implies (isOneOf (Ticketed 0 ∷ TicketedMarked 0 ∷ []) x) (isPlaceOf (Empty ∷ Permit ∷ []) a)
-    ∷ implies (isOneOf (Cancelling 0 ∷ Refusing 0 ∷ []) x) (isPlaceOf (WaitedBy 0 ∷ Permit ∷ []) a)
-    ∷ implies (isOneOf (ResumingAt 0 ∷ []) x)
-    (isPlaceOf (Empty ∷ WaitedBy 0 ∷ Cancelled ∷ Refused ∷ []) a)
+    (implies (is_one_of (Ticketed 0 ∷ TicketedMarked 0 ∷ []) x) (is_place_of (Empty ∷ Permit ∷ []) a)
+    ∷ implies (is_one_of (Cancelling 0 ∷ Refusing 0 ∷ []) x) (is_place_of (WaitedBy 0 ∷ Permit ∷ []) a)
+    ∷ implies (is_one_of (ResumingAt 0 ∷ []) x)
+    (is_place_of (Empty ∷ WaitedBy 0 ∷ Cancelled ∷ Refused ∷ []) a)
     ∷ [])
 
 -- Parties from n up are free; tickets fit; places are listed; two phases fit on a hub with radios alone.
-unfoldable pub partyFits : Hub → ℕ → Bool
-partyFits h p =
+unfoldable pub party_fits : Hub → ℕ → Bool
+party_fits h p =
     let f = (read_slot h.slots p).phase in
-    (ltb p h.control.opening.parties || isFree f) && ticketFits h.control.figures h.control.oldest f
-    && placeListed f (look h p).seat.place && implies (ofRadios f) h.control.opening.named
+    (ltb p h.control.opening.parties || is_free f) && ticket_fits h.control.figures h.control.oldest f
+    && place_listed f (look h p).seat.place && implies (of_radios f) h.control.opening.named
 
-abbrev pub standsAt : Phase → ℕ → Bool
-standsAt f t = stands f && eqb (ticketOf f) t
+abbrev pub stands_at : Phase → ℕ → Bool
+stands_at f t = stands f && eqb (ticket_of f) t
 
 -- The party of a waiting place stands there, with that ticket.
-unfoldable pub placeFits : Hub → ℕ → Bool
-placeFits h t =
-    byWaiter true (λ q. standsAt (read_slot h.slots q).phase t) (read_place h.places t)
+unfoldable pub place_fits : Hub → ℕ → Bool
+place_fits h t =
+    by_waiter true (λ q. stands_at (read_slot h.slots q).phase t) (read_place h.places t)
 
 -- On a hub with radios: those of its opening are no two alike, and each of them is with one party, at
 -- one place, or stored.
-unfoldable pub radiosFit : Hub → Bool
-radiosFit h =
-    radiosDiffer h.control.opening
+unfoldable pub radios_fit : Hub → Bool
+radios_fit h =
+    radios_differ h.control.opening
     && implies h.control.opening.named
-    (rearranged (radiosIn h.slots h.places h.control.pool) (radiosOf h.control.opening))
+    (rearranged (radios_in h.slots h.places h.control.pool) (radios_of h.control.opening))
 
 -- A record whose kinds an opening is refused for does not fit.
-unfoldable pub kindsFit : Opening → Bool
-kindsFit o = allPassed (kindTests o)
+unfoldable pub kinds_fit : Opening → Bool
+kinds_fit o = all_passed (kind_tests o)
 
 -- All but the kinds: K, n and the figures, all 32 parties, the places of all 256 tickets, and the radios.
-unfoldable pub stateFits : Hub → Bool
-stateFits h =
-    figuresFit h.control.opening h.control.figures h.control.oldest && all_from (partyFits h) 0 PARTIES
-    && all_from (placeFits h) h.control.oldest PLACES && radiosFit h
+unfoldable pub state_fits : Hub → Bool
+state_fits h =
+    figures_fit h.control.opening h.control.figures h.control.oldest && all_from (party_fits h) 0 PARTIES
+    && all_from (place_fits h) h.control.oldest PLACES && radios_fit h
 
 unfoldable pub fits : Hub → Bool
-fits h = stateFits h && kindsFit h.control.opening
+fits h = state_fits h && kinds_fit h.control.opening

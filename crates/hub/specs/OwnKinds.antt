@@ -8,15 +8,15 @@ use Rattle.hub.specs.declared.opening.Opening.{Opening}
 use Rattle.hub.specs.declared.record.Hub.{Hub}
 use Rattle.hub.specs.declared.record.Outcome.{Outcome}
 use Rattle.hub.specs.Answers.{printed}
-use Rattle.hub.specs.Calls.{answer_of, apply, called, checked, isFull}
-use Rattle.hub.specs.Fits.{stateFits}
-use Rattle.hub.specs.Kinds.{builtIn, hasDesk, kindIn, kindsKnown}
-use Rattle.hub.specs.Look.{look, withKind}
-use Rattle.hub.specs.Opening.{linkTests, opening, openingIf}
-use Rattle.hub.specs.Radios.{poolAfter}
+use Rattle.hub.specs.Calls.{answer_of, apply, called, checked, is_full}
+use Rattle.hub.specs.Fits.{state_fits}
+use Rattle.hub.specs.Kinds.{built_in, has_desk, kind_in, kinds_known}
+use Rattle.hub.specs.Look.{look, with_kind}
+use Rattle.hub.specs.Opening.{link_tests, opening, opening_if}
+use Rattle.hub.specs.Radios.{pool_after}
 use Rattle.hub.specs.Schedule.{answers, run}
 use Rattle.hub.specs.Table.{decide}
-use Rattle.hub.specs.Record.{withPool}
+use Rattle.hub.specs.Record.{with_pool}
 
 -- No schedule changes the kinds.
 unfoldable pub KindsKept : Type 0
@@ -24,51 +24,51 @@ KindsKept = (h : Hub) (cs : List Call) → (run h cs).control.opening.kinds ≡ 
 
 -- The old table meets neither 16 nor 17.
 unfoldable pub OldTableFits : Type 0
-OldTableFits = (kindsKnown builtIn ≡ true) × (hasDesk builtIn ≡ true)
+OldTableFits = (kinds_known built_in ≡ true) × (has_desk built_in ≡ true)
 
 -- An opening with the built-in table, given or not.
 pub record WithoutKinds (o : Opening) : Type 0 where
-  pub kinds : o.kinds ≡ builtIn
+  pub kinds : o.kinds ≡ built_in
   pub counted : o.counted ≡ true
 
 -- Opening a hub was refused by 2, 3 and 14.
-abbrev pub openingBefore : Opening → Outcome
-openingBefore o = openingIf (linkTests o) o
+abbrev pub opening_before : Opening → Outcome
+opening_before o = opening_if (link_tests o) o
 
 -- A party's kind was that of the table, whatever kinds the record holds.
-abbrev pub lookBefore : Hub → ℕ → Sight
-lookBefore h p = withKind (kindIn builtIn p) (look h p)
+abbrev pub look_before : Hub → ℕ → Sight
+look_before h p = with_kind (kind_in built_in p) (look h p)
 
 -- A call by what was found of the record, and by what it looked at.
-abbrev pub calledBy : Bool → Sight → Hub → Call → Outcome
-calledBy fit s h c =
-    let full = isFull h.control.oldest h.control.figures.issued h.slots in
+abbrev pub called_by : Bool → Sight → Hub → Call → Outcome
+called_by fit s h c =
+    let full = is_full h.control.oldest h.control.figures.issued h.slots in
     let m = checked fit (ltb c.party h.control.opening.parties) (decide c.op full s) in
     record {
       answer = answer_of m;
-      hub = withPool (poolAfter h.control.opening.named (printed (answer_of m)) c.party h.control.pool) (apply h s m);
+      hub = with_pool (pool_after h.control.opening.named (printed (answer_of m)) c.party h.control.pool) (apply h s m);
     }
 
-unfoldable pub calledBefore : Hub → Call → Outcome
-calledBefore h c = calledBy (stateFits h) (lookBefore h c.party) h c
+unfoldable pub called_before : Hub → Call → Outcome
+called_before h c = called_by (state_fits h) (look_before h c.party) h c
 
 -- On every record with the built-in table, reached or not, a call is what it was.
 unfoldable pub CallsAsBefore : Type 0
-CallsAsBefore = (h : Hub) → WithoutKinds h.control.opening → (c : Call) → called h c ≡ calledBefore h c
+CallsAsBefore = (h : Hub) → WithoutKinds h.control.opening → (c : Call) → called h c ≡ called_before h c
 
-unfoldable pub answersBefore : Hub → List Call → List Answer
-answersBefore h [] = []
-answersBefore h (c ∷ cs) = (calledBefore h c).answer ∷ answersBefore (calledBefore h c).hub cs
+unfoldable pub answers_before : Hub → List Call → List Answer
+answers_before h [] = []
+answers_before h (c ∷ cs) = (called_before h c).answer ∷ answers_before (called_before h c).hub cs
 
-unfoldable pub runBefore : Hub → List Call → Hub
-runBefore h [] = h
-runBefore h (c ∷ cs) = runBefore (calledBefore h c).hub cs
+unfoldable pub run_before : Hub → List Call → Hub
+run_before h [] = h
+run_before h (c ∷ cs) = run_before (called_before h c).hub cs
 
 -- A hub opened without kinds is opened as it was, and answers and leaves over every schedule what it did.
 pub record LikeBefore (o : Opening) (cs : List Call) : Type 0 where
-  pub opened : opening o ≡ openingBefore o
-  pub answered : answers (opening o).hub cs ≡ answersBefore (openingBefore o).hub cs
-  pub left : run (opening o).hub cs ≡ runBefore (openingBefore o).hub cs
+  pub opened : opening o ≡ opening_before o
+  pub answered : answers (opening o).hub cs ≡ answers_before (opening_before o).hub cs
+  pub left : run (opening o).hub cs ≡ run_before (opening_before o).hub cs
 
 unfoldable pub AsBefore : Type 0
 AsBefore = (o : Opening) → WithoutKinds o → (cs : List Call) → LikeBefore o cs

@@ -12,8 +12,8 @@ use Rattle.hub.specs.declared.record.Place.TheVariants.{Cancelled, Refused, Done
 use Rattle.hub.specs.Basics.{among}
 
 -- What f makes of a phase's ticket; z for a phase that has none.
-abbrev pub byTicket : {A : Type 0} → A → (ℕ → A) → Phase → A
-byTicket z f =
+abbrev pub by_ticket : {A : Type 0} → A → (ℕ → A) → Phase → A
+by_ticket z f =
     elim [
       | Free ↦ z
       | Holding ↦ z
@@ -35,8 +35,8 @@ byTicket z f =
     ]
 
 -- A phase's ticket; 0 for a phase that has none.
-abbrev pub ticketOf : Phase → ℕ
-ticketOf = byTicket 0 (λ t. t)
+abbrev pub ticket_of : Phase → ℕ
+ticket_of = by_ticket 0 (λ t. t)
 
 -- The index of a phase in the list of phases.
 abbrev pub rank : Phase → ℕ
@@ -62,70 +62,70 @@ rank =
     ]
 
 -- Is a phase one of a list, whatever the tickets?
-unfoldable pub isOneOf : List Phase → Phase → Bool
-isOneOf l f = among (map rank l) (rank f)
+unfoldable pub is_one_of : List Phase → Phase → Bool
+is_one_of l f = among (map rank l) (rank f)
 
-abbrev pub isFree : Phase → Bool
-isFree = isOneOf (Free ∷ [])
+abbrev pub is_free : Phase → Bool
+is_free = is_one_of (Free ∷ [])
 
-abbrev pub isHolding : Phase → Bool
-isHolding = isOneOf (Holding ∷ [])
+abbrev pub is_holding : Phase → Bool
+is_holding = is_one_of (Holding ∷ [])
 
-abbrev pub isWaiting : Phase → Bool
-isWaiting = isOneOf (Waiting 0 ∷ [])
+abbrev pub is_waiting : Phase → Bool
+is_waiting = is_one_of (Waiting 0 ∷ [])
 
 -- Waiting, giving up, cancelling or refusing: its place is, or was, waiting with it.
 abbrev pub stands : Phase → Bool
-stands = isOneOf (Waiting 0 ∷ Aborting 0 ∷ Cancelling 0 ∷ Refusing 0 ∷ [])
+stands = is_one_of (Waiting 0 ∷ Aborting 0 ∷ Cancelling 0 ∷ Refusing 0 ∷ [])
 
 abbrev pub RESTING : List Phase
 RESTING = Free ∷ Holding ∷ Waiting 0 ∷ []
 
-abbrev pub atRest : Phase → Bool
-atRest = isOneOf RESTING
+abbrev pub at_rest : Phase → Bool
+at_rest = is_one_of RESTING
 
 -- A party holds a permit in phases holding, giving back and fetching.
 abbrev pub holds : Phase → Bool
-holds = isOneOf (Holding ∷ Releasing ∷ Fetching ∷ [])
+holds = is_one_of (Holding ∷ Releasing ∷ Fetching ∷ [])
 
 -- And has a radio, on a hub with radios, in these.
-abbrev pub WITH-RADIO : List Phase
-WITH-RADIO = Holding ∷ Releasing ∷ Storing ∷ Resuming ∷ ResumingAt 0 ∷ []
+abbrev pub WITH_RADIO : List Phase
+WITH_RADIO = Holding ∷ Releasing ∷ Storing ∷ Resuming ∷ ResumingAt 0 ∷ []
 
-abbrev pub hasRadio : Phase → Bool
-hasRadio = isOneOf WITH-RADIO
+abbrev pub has_radio : Phase → Bool
+has_radio = is_one_of WITH_RADIO
 
 -- Fetching and putting back are phases of a hub with radios alone.
-abbrev pub RADIO-PHASES : List Phase
-RADIO-PHASES = Fetching ∷ Storing ∷ []
+abbrev pub RADIO_PHASES : List Phase
+RADIO_PHASES = Fetching ∷ Storing ∷ []
 
-abbrev pub ofRadios : Phase → Bool
-ofRadios = isOneOf RADIO-PHASES
+abbrev pub of_radios : Phase → Bool
+of_radios = is_one_of RADIO_PHASES
 
 -- Asked or unnumbered: it may yet draw a ticket.
-abbrev pub drawsTicket : Phase → Bool
-drawsTicket = isOneOf (Acquiring ∷ Suspending ∷ AcquiringMarked ∷ SuspendingMarked ∷ [])
+abbrev pub draws_ticket : Phase → Bool
+draws_ticket = is_one_of (Acquiring ∷ Suspending ∷ AcquiringMarked ∷ SuspendingMarked ∷ [])
 
 -- Given up early: asked, unnumbered or numbered, with a mark. A mark is in these phases only.
-abbrev pub isMarked : Phase → Bool
-isMarked = isOneOf (AcquiringMarked ∷ SuspendingMarked ∷ TicketedMarked 0 ∷ [])
+abbrev pub is_marked : Phase → Bool
+is_marked = is_one_of (AcquiringMarked ∷ SuspendingMarked ∷ TicketedMarked 0 ∷ [])
 
 -- Unnumbered, numbered, waiting or giving up: its wait is neither served nor taken out at the counter.
-abbrev pub isUnserved : Phase → Bool
-isUnserved =
-    isOneOf
+abbrev pub is_unserved : Phase → Bool
+is_unserved =
+    is_one_of
     (Suspending ∷ Ticketed 0 ∷ Waiting 0 ∷ Aborting 0 ∷ SuspendingMarked ∷ TicketedMarked 0 ∷ [])
 
 -- Carrying or handing: it has a permit for a waiter.
 abbrev pub resumes : Phase → Bool
-resumes = isOneOf (Resuming ∷ ResumingAt 0 ∷ [])
+resumes = is_one_of (Resuming ∷ ResumingAt 0 ∷ [])
 
 abbrev pub refuses : Phase → Bool
-refuses = isOneOf (Refusing 0 ∷ [])
+refuses = is_one_of (Refusing 0 ∷ [])
 
 -- What f makes of the party that waits at a place; z where none does.
-abbrev pub byWaiter : {A : Type 0} → A → (ℕ → A) → Place → A
-byWaiter z f =
+abbrev pub by_waiter : {A : Type 0} → A → (ℕ → A) → Place → A
+by_waiter z f =
     elim [
       | Empty ↦ z
       | WaitedBy q ↦ f q
@@ -136,22 +136,22 @@ byWaiter z f =
     ]
 
 -- The index of a state in the list of states.
-abbrev pub placeRank : Place → ℕ
-placeRank =
+abbrev pub place_rank : Place → ℕ
+place_rank =
     elim [ Empty ↦ 0 | WaitedBy q ↦ 1 | Permit ↦ 2 | Cancelled ↦ 3 | Refused ↦ 4 | Done ↦ 5 ]
 
 -- Is a place in one of a list of states, whoever waits there?
-unfoldable pub isPlaceOf : List Place → Place → Bool
-isPlaceOf l a = among (map placeRank l) (placeRank a)
+unfoldable pub is_place_of : List Place → Place → Bool
+is_place_of l a = among (map place_rank l) (place_rank a)
 
-abbrev pub isPermit : Place → Bool
-isPermit = isPlaceOf (Permit ∷ [])
+abbrev pub is_permit : Place → Bool
+is_permit = is_place_of (Permit ∷ [])
 
-abbrev pub isCancelled : Place → Bool
-isCancelled = isPlaceOf (Cancelled ∷ [])
+abbrev pub is_cancelled : Place → Bool
+is_cancelled = is_place_of (Cancelled ∷ [])
 
 abbrev pub is_refused : Place → Bool
-is_refused = isPlaceOf (Refused ∷ [])
+is_refused = is_place_of (Refused ∷ [])
 
-abbrev pub isDone : Place → Bool
-isDone = isPlaceOf (Done ∷ [])
+abbrev pub is_done : Place → Bool
+is_done = is_place_of (Done ∷ [])

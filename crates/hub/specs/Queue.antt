@@ -18,12 +18,12 @@ use Rattle.hub.specs.declared.record.PlaceSlot.{PlaceSlot}
 use Rattle.hub.specs.declared.record.Pool.{Pool}
 use Rattle.hub.specs.Answers.{printed}
 use Rattle.hub.specs.Calls.{answer_of, checked}
-use Rattle.hub.specs.Look.{seenBy}
-use Rattle.hub.specs.Opening.{figuresAt, poolAt}
-use Rattle.hub.specs.Phases.{byTicket, isCancelled}
-use Rattle.hub.specs.Radios.{poolAfter}
-use Rattle.hub.specs.Record.{PARTIES, emptySeat, freeSlot, phasesOf, read_slot, withPlace, writeSlot}
-use Rattle.hub.specs.Table.{decide, withResumed}
+use Rattle.hub.specs.Look.{seen_by}
+use Rattle.hub.specs.Opening.{figures_at, pool_at}
+use Rattle.hub.specs.Phases.{by_ticket, is_cancelled}
+use Rattle.hub.specs.Radios.{pool_after}
+use Rattle.hub.specs.Record.{PARTIES, empty_seat, free_slot, phases_of, read_slot, with_place, write_slot}
+use Rattle.hub.specs.Table.{decide, with_resumed}
 
 pub record Queue : Type 0 where
   pub opening : Opening
@@ -33,28 +33,28 @@ pub record Queue : Type 0 where
   pub pool : Pool
 
 abbrev pub look : Queue → ℕ → Sight
-look m = seenBy (read_slot m.slots) m.cells m.figures m.opening m.pool
+look m = seen_by (read_slot m.slots) m.cells m.figures m.opening m.pool
 
 unfoldable pub write : (ℕ → PlaceSlot) → ℕ → PlaceSlot → ℕ → PlaceSlot
 write g t a u = cond (eqb u t) a (g u)
 
 -- The queue with other figures, cells, slots and radios.
-abbrev pub withParts : Figures → (ℕ → PlaceSlot) → List PartySlot → Pool → Queue → Queue
-withParts f g l q m = record { opening = m.opening; figures = f; cells = g; slots = l; pool = q }
+abbrev pub with_parts : Figures → (ℕ → PlaceSlot) → List PartySlot → Pool → Queue → Queue
+with_parts f g l q m = record { opening = m.opening; figures = f; cells = g; slots = l; pool = q }
 
 -- Cancelled cells at the next ticket to resume are skipped, at most n of them.
 abbrev pub skipped : Queue → Queue
 skipped m =
     let t = m.figures.resumed in
-    withParts (withResumed (t + 1) m.figures) (write m.cells t (withPlace Place.Done (m.cells t))) m.slots
+    with_parts (with_resumed (t + 1) m.figures) (write m.cells t (with_place Place.Done (m.cells t))) m.slots
     m.pool m
 
-abbrev pub canSkip : Queue → Bool
-canSkip m = isCancelled (m.cells m.figures.resumed).place
+abbrev pub can_skip : Queue → Bool
+can_skip m = is_cancelled (m.cells m.figures.resumed).place
 
 unfoldable pub skip : ℕ → Queue → Queue
 skip zero m = m
-skip (suc n) m = cond (canSkip m) (skip n (skipped m)) m
+skip (suc n) m = cond (can_skip m) (skip n (skipped m)) m
 
 -- A cancelled cell has a ticket that was issued: there are at most as many.
 abbrev pub tidied : Queue → Queue
@@ -62,13 +62,13 @@ tidied m = skip m.figures.issued m
 
 -- The same three changes as at the hub.
 abbrev pub acted : Queue → ℕ → Change → Queue
-acted m p c = withParts c.figures m.cells (writeSlot m.slots p c.slot) m.pool m
+acted m p c = with_parts c.figures m.cells (write_slot m.slots p c.slot) m.pool m
 
 abbrev pub placed : Queue → Phase → PlaceSlot → Queue
-placed m f a = withParts m.figures (byTicket m.cells (λ t. write m.cells t a) f) m.slots m.pool m
+placed m f a = with_parts m.figures (by_ticket m.cells (λ t. write m.cells t a) f) m.slots m.pool m
 
 abbrev pub woken : Queue → ℕ → PartySlot → Queue
-woken m q s = withParts m.figures m.cells (writeSlot m.slots q s) m.pool m
+woken m q s = with_parts m.figures m.cells (write_slot m.slots q s) m.pool m
 
 unfoldable pub apply : Queue → Sight → Move → Queue
 apply m s (Refuse r) = m
@@ -82,14 +82,14 @@ abbrev pub move_of : Queue → Call → Move
 move_of m c =
     checked true (ltb c.party m.opening.parties) (decide c.op false (look m c.party))
 
-abbrev pub withPool : Pool → Queue → Queue
-withPool q m = withParts m.figures m.cells m.slots q m
+abbrev pub with_pool : Pool → Queue → Queue
+with_pool q m = with_parts m.figures m.cells m.slots q m
 
 -- The radios move as at the hub.
 abbrev pub next : Queue → Call → Queue
 next m c =
     let v = move_of m c in
-    withPool (poolAfter m.opening.named (printed (answer_of v)) c.party m.pool)
+    with_pool (pool_after m.opening.named (printed (answer_of v)) c.party m.pool)
     (apply m (look m c.party) v)
 
 unfoldable pub run : Queue → List Call → Queue
@@ -104,15 +104,15 @@ unfoldable pub fresh : Opening → Queue
 fresh o =
     record {
       opening = o;
-      figures = figuresAt o;
-      cells = λ t. emptySeat;
-      slots = replicate PARTIES freeSlot;
-      pool = poolAt o;
+      figures = figures_at o;
+      cells = λ t. empty_seat;
+      slots = replicate PARTIES free_slot;
+      pool = pool_at o;
     }
 
 -- What the invariant looks at: everybody's phase, and the place of each ticket.
 abbrev pub phases : Queue → List Phase
-phases m = phasesOf m.slots
+phases m = phases_of m.slots
 
 abbrev pub places : Queue → ℕ → Place
 places m t = (m.cells t).place

@@ -6,8 +6,8 @@ use Rattle.hub.specs.declared.record.PlaceSlot.{PlaceSlot}
 use Rattle.hub.specs.declared.record.Pool.{Pool}
 use Rattle.hub.specs.Answers.{Printed}
 use Rattle.hub.specs.Basics.{all_from, among, count}
-use Rattle.hub.specs.Phases.{hasRadio, isPermit}
-use Rattle.hub.specs.Record.{phasesOf, places_of}
+use Rattle.hub.specs.Phases.{has_radio, is_permit}
+use Rattle.hub.specs.Record.{phases_of, places_of}
 use Rattle.hub.specs.Ring.{PLACES}
 
 -- How many radios the store has room for.
@@ -19,8 +19,8 @@ unfoldable pub padded : List ℕ → List ℕ
 padded l = take STORE (l ++ replicate STORE 0)
 
 -- The radios of an opening: the first K.
-unfoldable pub radiosOf : Opening → List ℕ
-radiosOf o = take o.permits (padded o.radios)
+unfoldable pub radios_of : Opening → List ℕ
+radios_of o = take o.permits (padded o.radios)
 
 -- No two are alike.
 unfoldable pub differ : List ℕ → Bool
@@ -37,20 +37,20 @@ rearranged l m =
     eqb (length l) (length m) && all_from (λ b. eqb (occurs b l) (occurs b m)) 0 256
 
 -- The radio with party p, and at the place of ticket t.
-unfoldable pub handOf : Pool → ℕ → ℕ
-handOf q p = get_or q.hands p 0
+unfoldable pub hand_of : Pool → ℕ → ℕ
+hand_of q p = get_or q.hands p 0
 
-unfoldable pub laidAt : Pool → ℕ → ℕ
-laidAt q t = get_or q.laid (t % PLACES) 0
+unfoldable pub laid_at : Pool → ℕ → ℕ
+laid_at q t = get_or q.laid (t % PLACES) 0
 
 -- The n radios of a ring from index i on.
-unfoldable pub ringFrom : List ℕ → ℕ → ℕ → List ℕ
-ringFrom l i zero = []
-ringFrom l i (suc n) = get_or l (i % STORE) 0 ∷ ringFrom l (suc i) n
+unfoldable pub ring_from : List ℕ → ℕ → ℕ → List ℕ
+ring_from l i zero = []
+ring_from l i (suc n) = get_or l (i % STORE) 0 ∷ ring_from l (suc i) n
 
 -- The stored radios, the first to be taken first.
-abbrev pub storedIn : Pool → List ℕ
-storedIn q = ringFrom q.store q.first q.stored
+abbrev pub stored_in : Pool → List ℕ
+stored_in q = ring_from q.store q.first q.stored
 
 -- The radios of those elements of a list that have one.
 unfoldable pub shown : {A : Type 0} → (A → Bool) → List A → List ℕ → List ℕ
@@ -59,14 +59,14 @@ shown has (x ∷ l) [] = []
 shown has (x ∷ l) (r ∷ rs) = cond (has x) (r ∷ shown has l rs) (shown has l rs)
 
 -- The radios with parties, at places and in the store.
-unfoldable pub radiosIn : List PartySlot → List PlaceSlot → Pool → List ℕ
-radiosIn slots places q =
-    shown hasRadio (phasesOf slots) q.hands
-    ++ (shown isPermit (places_of places) q.laid ++ storedIn q)
+unfoldable pub radios_in : List PartySlot → List PlaceSlot → Pool → List ℕ
+radios_in slots places q =
+    shown has_radio (phases_of slots) q.hands
+    ++ (shown is_permit (places_of places) q.laid ++ stored_in q)
 
 -- Radio r goes to party p, to the place of ticket t, to the store's end.
-abbrev pub handTo : ℕ → ℕ → Pool → Pool
-handTo p r q =
+abbrev pub hand_to : ℕ → ℕ → Pool → Pool
+hand_to p r q =
     record {
       hands = set q.hands p r;
       laid = q.laid;
@@ -75,8 +75,8 @@ handTo p r q =
       stored = q.stored;
     }
 
-abbrev pub layAt : ℕ → ℕ → Pool → Pool
-layAt t r q =
+abbrev pub lay_at : ℕ → ℕ → Pool → Pool
+lay_at t r q =
     record {
       hands = q.hands;
       laid = set q.laid (t % PLACES) r;
@@ -112,12 +112,12 @@ moved y p q =
     let c = y.code in
     let t = y.number in
     cond (eqb c 0x36) (fetch p q)
-    (cond (among (0x38 ∷ 0x2D ∷ []) c) (put_back (handOf q p) q)
-    (cond (among (0x29 ∷ 0x2B ∷ []) c) (layAt t (handOf q p) q)
-    (cond (among (0x25 ∷ 0x31 ∷ []) c) (handTo p (laidAt q t) q)
-    (cond (eqb c 0x2A) (handTo y.woken (handOf q p) q)
-    (cond (eqb c 0x33) (put_back (laidAt q t) q) q)))))
+    (cond (among (0x38 ∷ 0x2D ∷ []) c) (put_back (hand_of q p) q)
+    (cond (among (0x29 ∷ 0x2B ∷ []) c) (lay_at t (hand_of q p) q)
+    (cond (among (0x25 ∷ 0x31 ∷ []) c) (hand_to p (laid_at q t) q)
+    (cond (eqb c 0x2A) (hand_to y.woken (hand_of q p) q)
+    (cond (eqb c 0x33) (put_back (laid_at q t) q) q)))))
 
 -- Nothing moves on a hub without radios.
-unfoldable pub poolAfter : Bool → Printed → ℕ → Pool → Pool
-poolAfter named y p q = cond named (moved y p q) q
+unfoldable pub pool_after : Bool → Printed → ℕ → Pool → Pool
+pool_after named y p q = cond named (moved y p q) q

@@ -14,57 +14,57 @@ use Rattle.hub.specs.declared.record.Pool.{Pool}
 abbrev pub PARTIES : ℕ
 PARTIES = 32
 
-abbrev pub MAX-BEGUN : ℕ
-MAX-BEGUN = 1000000
+abbrev pub MAX_BEGUN : ℕ
+MAX_BEGUN = 1000000
 
 -- A slot at an opening; a slot with another phase, and all else as it was.
-abbrev pub freeSlot : PartySlot
-freeSlot = record { phase = Phase.Free }
+abbrev pub free_slot : PartySlot
+free_slot = record { phase = Phase.Free }
 
-abbrev pub withPhase : Phase → PartySlot → PartySlot
-withPhase x s = record { phase = x }
+abbrev pub with_phase : Phase → PartySlot → PartySlot
+with_phase x s = record { phase = x }
 
 -- The same of a place.
-abbrev pub emptySeat : PlaceSlot
-emptySeat = record { place = Place.Empty }
+abbrev pub empty_seat : PlaceSlot
+empty_seat = record { place = Place.Empty }
 
-abbrev pub withPlace : Place → PlaceSlot → PlaceSlot
-withPlace a s = record { place = a }
+abbrev pub with_place : Place → PlaceSlot → PlaceSlot
+with_place a s = record { place = a }
 
 -- A number past the 32 slots reads as free, and writing there changes nothing.
 unfoldable pub read_slot : List PartySlot → ℕ → PartySlot
-read_slot l p = get_or l p freeSlot
+read_slot l p = get_or l p free_slot
 
-unfoldable pub writeSlot : List PartySlot → ℕ → PartySlot → List PartySlot
-writeSlot l p s = set l p s
+unfoldable pub write_slot : List PartySlot → ℕ → PartySlot → List PartySlot
+write_slot l p s = set l p s
 
 -- Everybody's phase, in the order of the parties.
-abbrev pub phasesOf : List PartySlot → List Phase
-phasesOf l = map (λ s. s.phase) l
+abbrev pub phases_of : List PartySlot → List Phase
+phases_of l = map (λ s. s.phase) l
 
 abbrev pub places_of : List PlaceSlot → List Place
 places_of l = map (λ s. s.place) l
 
 -- A control block of these values; a record of these fields.
-abbrev pub controlOf : Opening → Figures → ℕ → Pool → Control
-controlOf opening figures oldest pool =
+abbrev pub control_of : Opening → Figures → ℕ → Pool → Control
+control_of opening figures oldest pool =
     record { opening = opening; figures = figures; oldest = oldest; pool = pool }
 
 abbrev pub of_fields : List PlaceSlot → List PartySlot → Control → Hub
 of_fields places slots control = record { places = places; slots = slots; control = control }
 
 -- The record with all that a call may change; with other figures, places, slots or radios, and all else as it was.
-abbrev pub withParts : Figures → ℕ → List PlaceSlot → List PartySlot → Pool → Hub → Hub
-withParts f o a l q h = of_fields a l (controlOf h.control.opening f o q)
+abbrev pub with_parts : Figures → ℕ → List PlaceSlot → List PartySlot → Pool → Hub → Hub
+with_parts f o a l q h = of_fields a l (control_of h.control.opening f o q)
 
-abbrev pub withFigures : Figures → Hub → Hub
-withFigures f h = withParts f h.control.oldest h.places h.slots h.control.pool h
+abbrev pub with_figures : Figures → Hub → Hub
+with_figures f h = with_parts f h.control.oldest h.places h.slots h.control.pool h
 
-abbrev pub withPlaces : List PlaceSlot → Hub → Hub
-withPlaces a h = of_fields a h.slots h.control
+abbrev pub with_places : List PlaceSlot → Hub → Hub
+with_places a h = of_fields a h.slots h.control
 
-abbrev pub withSlots : List PartySlot → Hub → Hub
-withSlots l h = of_fields h.places l h.control
+abbrev pub with_slots : List PartySlot → Hub → Hub
+with_slots l h = of_fields h.places l h.control
 
-abbrev pub withPool : Pool → Hub → Hub
-withPool q h = withParts h.control.figures h.control.oldest h.places h.slots q h
+abbrev pub with_pool : Pool → Hub → Hub
+with_pool q h = with_parts h.control.figures h.control.oldest h.places h.slots q h

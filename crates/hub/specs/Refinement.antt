@@ -12,16 +12,16 @@ use Rattle.hub.specs.Calls.{called}
 use Rattle.hub.specs.Opening.{opening}
 use Rattle.hub.specs.Queue.{Queue}
 use Rattle.hub.specs.Queue as queue
-use Rattle.hub.specs.Record.{emptySeat}
-use Rattle.hub.specs.Ring.{PLACES, readSeat}
+use Rattle.hub.specs.Record.{empty_seat}
+use Rattle.hub.specs.Ring.{PLACES, read_seat}
 use Rattle.hub.specs.Schedule.{run, answers}
 
 -- Places l, with oldest ticket o, are a window of the cells g: cells before it are done, those
 -- within it are the places, those beyond it are empty.
 pub record Window (o : ℕ) (l : List PlaceSlot) (g : ℕ → PlaceSlot) : Type 0 where
   pub before : (t : ℕ) → t < o → (g t).place ≡ Place.Done
-  pub within : (t : ℕ) → o ≤ t → t < o + PLACES → g t ≡ readSeat l t
-  pub beyond : (t : ℕ) → o + PLACES ≤ t → g t ≡ emptySeat
+  pub within : (t : ℕ) → o ≤ t → t < o + PLACES → g t ≡ read_seat l t
+  pub beyond : (t : ℕ) → o + PLACES ≤ t → g t ≡ empty_seat
 
 -- The record h shows the queue m.
 pub record Shows (h : Hub) (m : Queue) : Type 0 where
@@ -31,23 +31,23 @@ pub record Shows (h : Hub) (m : Queue) : Type 0 where
   pub window : Window h.control.oldest h.places m.cells
   pub pool : h.control.pool ≡ m.pool
 
-abbrev pub isSeven : Answer → Bool
-isSeven r = eqb (printed r).code 7
+abbrev pub is_seven : Answer → Bool
+is_seven r = eqb (printed r).code 7
 
 -- A schedule without the calls that are answered 7, and answers without the sevens.
 unfoldable pub heard : Hub → List Call → List Call
 heard h [] = []
 heard h (c ∷ cs) =
     let r = heard (called h c).hub cs in
-    cond (isSeven (called h c).answer) r (c ∷ r)
+    cond (is_seven (called h c).answer) r (c ∷ r)
 
-unfoldable pub withoutSevens : List Answer → List Answer
-withoutSevens [] = []
-withoutSevens (r ∷ rs) = let q = withoutSevens rs in cond (isSeven r) q (r ∷ q)
+unfoldable pub without_sevens : List Answer → List Answer
+without_sevens [] = []
+without_sevens (r ∷ rs) = let q = without_sevens rs in cond (is_seven r) q (r ∷ q)
 
 unfoldable pub Refines : Type 0
 Refines =
     (o : Opening) → (opening o).answer ≡ Answer.Opened → (cs : List Call)
     → let h = (opening o).hub in
     Shows (run h cs) (queue.run (queue.fresh o) (heard h cs))
-    × (withoutSevens (answers h cs) ≡ queue.answers (queue.fresh o) (heard h cs))
+    × (without_sevens (answers h cs) ≡ queue.answers (queue.fresh o) (heard h cs))

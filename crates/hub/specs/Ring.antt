@@ -3,22 +3,22 @@
 use Rattle.std.specs.Prelude.{ℕ, zero, suc, ◌+◌, ◌%◌, Bool, cond, false, ◌&&◌, List, ◌≡◌, ltb, length, get_or, set}
 use Rattle.hub.specs.declared.record.Place.{Place}
 use Rattle.hub.specs.declared.record.PlaceSlot.{PlaceSlot}
-use Rattle.hub.specs.Phases.{isCancelled, isDone}
-use Rattle.hub.specs.Record.{emptySeat, withPlace}
+use Rattle.hub.specs.Phases.{is_cancelled, is_done}
+use Rattle.hub.specs.Record.{empty_seat, with_place}
 
 -- How many tickets have a place.
 abbrev pub PLACES : ℕ
 PLACES = 256
 
 -- The place of ticket t is at t modulo 256.
-unfoldable pub readSeat : List PlaceSlot → ℕ → PlaceSlot
-readSeat l t = get_or l (t % PLACES) emptySeat
+unfoldable pub read_seat : List PlaceSlot → ℕ → PlaceSlot
+read_seat l t = get_or l (t % PLACES) empty_seat
 
-unfoldable pub writeSeat : List PlaceSlot → ℕ → PlaceSlot → List PlaceSlot
-writeSeat l t a = set l (t % PLACES) a
+unfoldable pub write_seat : List PlaceSlot → ℕ → PlaceSlot → List PlaceSlot
+write_seat l t a = set l (t % PLACES) a
 
 abbrev pub read_place : List PlaceSlot → ℕ → Place
-read_place l t = (readSeat l t).place
+read_place l t = (read_seat l t).place
 
 -- What the tidying looks at and moves.
 pub record Ring : Type 0 where
@@ -27,23 +27,23 @@ pub record Ring : Type 0 where
   pub places : List PlaceSlot
 
 -- Is the next ticket to resume within the 256, and its place cancelled?
-abbrev pub canSkip : Ring → Bool
-canSkip r =
-    ltb r.resumed (r.oldest + PLACES) && isCancelled (read_place r.places r.resumed)
+abbrev pub can_skip : Ring → Bool
+can_skip r =
+    ltb r.resumed (r.oldest + PLACES) && is_cancelled (read_place r.places r.resumed)
 
 -- Its place becomes done, and the next ticket is to be resumed.
 abbrev pub skipped : Ring → Ring
 skipped r =
-    let done = withPlace Place.Done (readSeat r.places r.resumed) in
+    let done = with_place Place.Done (read_seat r.places r.resumed) in
     record {
       resumed = r.resumed + 1;
       oldest = r.oldest;
-      places = writeSeat r.places r.resumed done;
+      places = write_seat r.places r.resumed done;
     }
 
 -- Is the oldest place done?
-abbrev pub canRetire : Ring → Bool
-canRetire r = isDone (read_place r.places r.oldest)
+abbrev pub can_retire : Ring → Bool
+can_retire r = is_done (read_place r.places r.oldest)
 
 -- It becomes empty, the place of ticket oldest + 256.
 abbrev pub retired : Ring → Ring
@@ -51,17 +51,17 @@ retired r =
     record {
       resumed = r.resumed;
       oldest = r.oldest + 1;
-      places = writeSeat r.places r.oldest emptySeat;
+      places = write_seat r.places r.oldest empty_seat;
     }
 
 -- While it can be skipped, at most n times; and while it can be retired.
 unfoldable pub skip : ℕ → Ring → Ring
 skip zero r = r
-skip (suc n) r = cond (canSkip r) (skip n (skipped r)) r
+skip (suc n) r = cond (can_skip r) (skip n (skipped r)) r
 
 unfoldable pub retire : ℕ → Ring → Ring
 retire zero r = r
-retire (suc n) r = cond (canRetire r) (retire n (retired r)) r
+retire (suc n) r = cond (can_retire r) (retire n (retired r)) r
 
 -- First the one loop to its end, then the other.
 abbrev pub reclaimed : Ring → Ring
@@ -71,4 +71,4 @@ reclaimed r = retire PLACES (skip PLACES r)
 unfoldable pub LoopsEnd : Type 0
 LoopsEnd =
     (r : Ring) → length r.places ≡ PLACES
-    → (canSkip (skip PLACES r) ≡ false) × (canRetire (retire PLACES r) ≡ false)
+    → (can_skip (skip PLACES r) ≡ false) × (can_retire (retire PLACES r) ≡ false)

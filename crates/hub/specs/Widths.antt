@@ -10,8 +10,8 @@ use Rattle.hub.specs.declared.record.Place.{Place}
 use Rattle.hub.specs.declared.record.Place.TheVariants.{Empty, Waiting as WaitedBy, Permit}
 use Rattle.hub.specs.declared.record.Place.TheVariants.{Cancelled, Refused, Done}
 use Rattle.hub.specs.Calls.{called}
-use Rattle.hub.specs.Phases.{byWaiter}
-use Rattle.hub.specs.Record.{emptySeat, withPlace, withPlaces}
+use Rattle.hub.specs.Phases.{by_waiter}
+use Rattle.hub.specs.Record.{empty_seat, with_place, with_places}
 
 -- How many parties there is room for: in 32 bits, and in a byte.
 abbrev pub WORD : ℕ
@@ -21,8 +21,8 @@ abbrev pub BYTE : ℕ
 BYTE = 256
 
 -- A place that was written where there is room for n parties: the party is kept modulo n.
-abbrev pub writtenIn : ℕ → Place → Place
-writtenIn n =
+abbrev pub written_in : ℕ → Place → Place
+written_in n =
     elim [
       | Empty ↦ Empty
       | WaitedBy q ↦ WaitedBy (q % n)
@@ -33,24 +33,24 @@ writtenIn n =
     ]
 
 -- The record, each of its places so.
-abbrev pub keptIn : ℕ → Hub → Hub
-keptIn n h = withPlaces (map (λ s. withPlace (writtenIn n s.place) s) h.places) h
+abbrev pub kept_in : ℕ → Hub → Hub
+kept_in n h = with_places (map (λ s. with_place (written_in n s.place) s) h.places) h
 
 -- A call on a board with such places: it reads them, and writes them.
-abbrev pub calledIn : ℕ → Hub → Call → Outcome
-calledIn n h c =
-    let o = called (keptIn n h) c in
-    record { answer = o.answer; hub = keptIn n o.hub }
+abbrev pub called_in : ℕ → Hub → Call → Outcome
+called_in n h c =
+    let o = called (kept_in n h) c in
+    record { answer = o.answer; hub = kept_in n o.hub }
 
 -- All places hold parties up to m.
 abbrev pub UpTo : ℕ → Hub → Type 0
-UpTo m h = (i : ℕ) → byWaiter true (λ q. leb q m) (get_or h.places i emptySeat).place ≡ true
+UpTo m h = (i : ℕ) → by_waiter true (λ q. leb q m) (get_or h.places i empty_seat).place ≡ true
 
 -- A call that answers and leaves with places of a byte what it did with places of 32 bits, and both times what
 -- the definition says; its record is again one of such parties, so that the next call is so too.
 pub record SameIn (h : Hub) (c : Call) : Type 0 where
-  pub word : calledIn WORD h c ≡ called h c
-  pub byte : calledIn BYTE h c ≡ called h c
+  pub word : called_in WORD h c ≡ called h c
+  pub byte : called_in BYTE h c ≡ called h c
   pub again : UpTo 255 (called h c).hub
 
 -- On every record whose places hold parties up to 255, each call is such a call.
@@ -59,4 +59,4 @@ SameCalls = (h : Hub) → UpTo 255 h → (c : Call) → SameIn h c
 
 -- A larger party can no longer be written.
 unfoldable pub NoLarger : Type 0
-NoLarger = (h : Hub) → UpTo 255 (keptIn BYTE h)
+NoLarger = (h : Hub) → UpTo 255 (kept_in BYTE h)

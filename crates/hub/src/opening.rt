@@ -1,7 +1,7 @@
 // An opening, and the record of a hub that was just opened: "The counter, signed, K at opening".
 
 ghost use Rattle.std.specs.Prelude.{◌≡◌};
-ghost use Rattle.hub.specs.Opening.{figuresAt, fresh, poolAt};
+ghost use Rattle.hub.specs.Opening.{figures_at, fresh, pool_at};
 
 use crate::record::{Control, Figures, Hub, Pool};
 use crate::slots::{empty_seat, free_slot};
@@ -18,7 +18,7 @@ pub struct Opening {
 }
 
 fn figures_at(o: Opening) -> Figures
-    ensures { result ≡ figuresAt o }
+    ensures { result ≡ figures_at o }
 {
     let permits = o.permits;
     Figures {
@@ -31,7 +31,7 @@ fn figures_at(o: Opening) -> Figures
 
 // All radios are stored, in the opening's order.
 fn pool_at(o: Opening) -> Pool
-    ensures { result ≡ poolAt o }
+    ensures { result ≡ pool_at o }
 {
     let radios = o.radios;
     Pool {

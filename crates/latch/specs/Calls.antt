@@ -5,8 +5,8 @@ use Rattle.hub.specs.declared.answers.Refusal.{Refusal}
 use Rattle.hub.specs.declared.record.Phase.{Phase}
 use Rattle.hub.specs.declared.record.PlaceSlot.{PlaceSlot}
 use Rattle.hub.specs.Basics.{count}
-use Rattle.hub.specs.Phases.{byTicket, drawsTicket}
-use Rattle.hub.specs.Ring.{PLACES, Ring, reclaimed, writeSeat}
+use Rattle.hub.specs.Phases.{by_ticket, draws_ticket}
+use Rattle.hub.specs.Ring.{PLACES, Ring, reclaimed, write_seat}
 use Rattle.latch.specs.declared.moves.LatchCall.{LatchCall}
 use Rattle.latch.specs.declared.moves.LatchSight.{LatchSight}
 use Rattle.latch.specs.declared.record.Latch.{Latch}
@@ -17,13 +17,13 @@ use Rattle.latch.specs.Look.{look}
 use Rattle.latch.specs.Moves.{Change}
 use Rattle.latch.specs.Moves.{Move}
 use Rattle.latch.specs.Moves.{Refuse, Act, Put, Wake}
-use Rattle.latch.specs.Record.{phasesOf, withFigures, withParts, withPlaces, withSlots, writeSlot}
-use Rattle.latch.specs.Table.{decide, withResumed}
+use Rattle.latch.specs.Record.{phases_of, with_figures, with_parts, with_places, with_slots, write_slot}
+use Rattle.latch.specs.Table.{decide, with_resumed}
 
 -- 7: the tickets issued, i of them, and those that may yet be drawn, by parties asked, raising or unnumbered,
 -- fill the 256 places from o on.
-abbrev pub isFull : ℕ → ℕ → List LatchSlot → Bool
-isFull o i l = leb (o + PLACES) (i + count drawsTicket (phasesOf l))
+abbrev pub is_full : ℕ → ℕ → List LatchSlot → Bool
+is_full o i l = leb (o + PLACES) (i + count draws_ticket (phases_of l))
 
 -- 1, then 4, then the call's own.
 unfoldable pub checked : Bool → Bool → Move → Move
@@ -34,29 +34,29 @@ checked true true m = m
 abbrev pub move_of : Latch → LatchCall → Move
 move_of h c =
     checked (fits h) (ltb c.party h.parties)
-    (decide c.op (isFull h.oldest h.figures.issued h.slots) (look h c.party))
+    (decide c.op (is_full h.oldest h.figures.issued h.slots) (look h c.party))
 
 -- The slot of party p and the figures change.
 abbrev pub acted : Latch → ℕ → Change → Latch
-acted h p c = withSlots (writeSlot h.slots p c.slot) (withFigures c.figures h)
+acted h p c = with_slots (write_slot h.slots p c.slot) (with_figures c.figures h)
 
 -- The place of the ticket of a phase f becomes a.
 abbrev pub placed : Latch → Phase → PlaceSlot → Latch
-placed h f a = withPlaces (byTicket h.places (λ t. writeSeat h.places t a) f) h
+placed h f a = with_places (by_ticket h.places (λ t. write_seat h.places t a) f) h
 
 -- The slot of the waiter q becomes s.
 abbrev pub woken : Latch → ℕ → LatchSlot → Latch
-woken h q s = withSlots (writeSlot h.slots q s) h
+woken h q s = with_slots (write_slot h.slots q s) h
 
 -- The tidying, as at the hub.
-abbrev pub ringOf : Latch → Ring
-ringOf h = record { resumed = h.figures.resumed; oldest = h.oldest; places = h.places }
+abbrev pub ring_of : Latch → Ring
+ring_of h = record { resumed = h.figures.resumed; oldest = h.oldest; places = h.places }
 
-abbrev pub withRing : Latch → Ring → Latch
-withRing h r = withParts (withResumed r.resumed h.figures) r.oldest r.places h.slots h
+abbrev pub with_ring : Latch → Ring → Latch
+with_ring h r = with_parts (with_resumed r.resumed h.figures) r.oldest r.places h.slots h
 
 unfoldable pub tidied : Latch → Latch
-tidied h = withRing h (reclaimed (ringOf h))
+tidied h = with_ring h (reclaimed (ring_of h))
 
 -- What a move answers.
 abbrev pub answer_of : Move → Answer

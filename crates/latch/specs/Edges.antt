@@ -2,15 +2,15 @@
 use Rattle.std.specs.Prelude.{ℕ, ◌≡◌, Bool, true, ◌&&◌, List, [], ◌∷◌, ◌++◌, eqb}
 use Rattle.hub.specs.Answers.{Printed, printed, plain, with_number}
 use Rattle.hub.specs.Basics.{count}
-use Rattle.edges.specs.Edges.{sameAnswer}
-use Rattle.hub.specs.Phases.{isWaiting}
+use Rattle.edges.specs.Edges.{same_answer}
+use Rattle.hub.specs.Phases.{is_waiting}
 use Rattle.latch.specs.declared.moves.LatchCall.{LatchCall}
 use Rattle.latch.specs.declared.moves.LatchOp.{LatchOp}
 use Rattle.latch.specs.declared.moves.LatchOp.TheVariants.{Await, Step, Cancel, CountDown}
 use Rattle.latch.specs.declared.record.Latch.{Latch}
 use Rattle.latch.specs.Calls.{called}
-use Rattle.latch.specs.Opening.{opening, startCode}
-use Rattle.latch.specs.Record.{phasesOf}
+use Rattle.latch.specs.Opening.{opening, start_code}
+use Rattle.latch.specs.Record.{phases_of}
 
 -- A step of a run: the count before the call, the call, and what it must answer.
 pub record Row : Type 0 where
@@ -123,8 +123,8 @@ dropped =
     ∷ [])
 
 -- 31 gives a hand-over.
-abbrev pub passedOn : List Row
-passedOn =
+abbrev pub passed_on : List Row
+passed_on =
     waits 1 0 0 ++ waits 1 1 1
     ++ (at 1 Cancel 0 (plain 0x20)
     ∷ at 1 Step 0 (plain 0x2E)
@@ -156,8 +156,8 @@ passed_by =
     ∷ [])
 
 -- The hand-over comes before the waiter.
-abbrev pub cameFirst : List Row
-cameFirst =
+abbrev pub came_first : List Row
+came_first =
     at 1 Await 0 (plain 0x20)
     ∷ at 1 Step 0 (plain 0x22)
     ∷ at 1 Step 0 (plain 0x22)
@@ -171,8 +171,8 @@ cameFirst =
     ∷ []
 
 -- Giving up early, party 0 in asked and party 1 in raising; where the wait would begin it is given up.
-abbrev pub cancelledEarly : List Row
-cancelledEarly =
+abbrev pub cancelled_early : List Row
+cancelled_early =
     at 2 Await 0 (plain 0x20)
     ∷ at 2 Cancel 0 (plain 0x20)
     ∷ at 2 Step 0 (plain 0x22)
@@ -228,10 +228,10 @@ edges =
     ∷ runs 1 3 withdrawn 0 0 0
     ∷ runs 1 3 refused 0 0 1
     ∷ runs 1 2 dropped 0 0 0
-    ∷ runs 1 3 passedOn 0 0 1
+    ∷ runs 1 3 passed_on 0 0 1
     ∷ runs 1 3 passed_by 0 0 1
-    ∷ runs 1 2 cameFirst 0 0 1
-    ∷ runs 2 2 cancelledEarly 0 2 0
+    ∷ runs 1 2 came_first 0 0 1
+    ∷ runs 2 2 cancelled_early 0 2 0
     ∷ runs 1 3 bounded 0 1 0
     ∷ runs 200 32 kinds 0 200 0
     ∷ []
@@ -239,20 +239,20 @@ edges =
 -- Does the run go so, from this record, and end with so many waiting, this count and these waiters?
 unfoldable pub goes : ℕ → ℕ → ℕ → Latch → List Row → Bool
 goes a c w h [] =
-    eqb (count isWaiting (phasesOf h.slots)) a && eqb h.figures.count c
+    eqb (count is_waiting (phases_of h.slots)) a && eqb h.figures.count c
     && eqb h.figures.waiters w
 goes a c w h (r ∷ rs) =
     let o = called h r.call in
-    eqb h.figures.count r.count && sameAnswer (printed o.answer) r.answer
+    eqb h.figures.count r.count && same_answer (printed o.answer) r.answer
     && goes a c w o.latch rs
 
-unfoldable pub holdsAt : Edge → Bool
-holdsAt (opens c n x) = eqb (startCode (opening c n).start) x
-holdsAt (runs c n rs a d w) = goes a d w (opening c n).latch rs
+unfoldable pub holds_at : Edge → Bool
+holds_at (opens c n x) = eqb (start_code (opening c n).start) x
+holds_at (runs c n rs a d w) = goes a d w (opening c n).latch rs
 
-unfoldable pub allHold : List Edge → Bool
-allHold [] = true
-allHold (e ∷ es) = holdsAt e && allHold es
+unfoldable pub all_hold : List Edge → Bool
+all_hold [] = true
+all_hold (e ∷ es) = holds_at e && all_hold es
 
 unfoldable pub EdgesHold : Type 0
-EdgesHold = allHold edges ≡ true
+EdgesHold = all_hold edges ≡ true

@@ -5,21 +5,21 @@ use Rattle.hub.specs.declared.answers.Answer.{Answer}
 use Rattle.hub.specs.declared.record.Phase.{Phase}
 use Rattle.hub.specs.declared.record.Place.{Place}
 use Rattle.hub.specs.declared.record.PlaceSlot.{PlaceSlot}
-use Rattle.hub.specs.Phases.{byTicket, isCancelled}
+use Rattle.hub.specs.Phases.{by_ticket, is_cancelled}
 use Rattle.hub.specs.Queue.{write}
-use Rattle.hub.specs.Record.{PARTIES, emptySeat, withPlace}
+use Rattle.hub.specs.Record.{PARTIES, empty_seat, with_place}
 use Rattle.latch.specs.declared.moves.LatchCall.{LatchCall}
 use Rattle.latch.specs.declared.moves.LatchSight.{LatchSight}
 use Rattle.latch.specs.declared.record.LatchFigures.{LatchFigures}
 use Rattle.latch.specs.declared.record.LatchSlot.{LatchSlot}
 use Rattle.latch.specs.Calls.{answer_of, checked}
-use Rattle.latch.specs.Look.{seenBy}
+use Rattle.latch.specs.Look.{seen_by}
 use Rattle.latch.specs.Moves.{Change}
 use Rattle.latch.specs.Moves.{Move}
 use Rattle.latch.specs.Moves.{Refuse, Act, Put, Wake}
-use Rattle.latch.specs.Opening.{figuresAt}
-use Rattle.latch.specs.Record.{freeSlot, phasesOf, read_slot, writeSlot}
-use Rattle.latch.specs.Table.{decide, withResumed}
+use Rattle.latch.specs.Opening.{figures_at}
+use Rattle.latch.specs.Record.{free_slot, phases_of, read_slot, write_slot}
+use Rattle.latch.specs.Table.{decide, with_resumed}
 
 pub record Queue : Type 0 where
   pub parties : ℕ
@@ -28,24 +28,24 @@ pub record Queue : Type 0 where
   pub slots : List LatchSlot
 
 abbrev pub look : Queue → ℕ → LatchSight
-look m = seenBy (read_slot m.slots) m.cells m.figures
+look m = seen_by (read_slot m.slots) m.cells m.figures
 
 -- The queue with other figures, cells and slots.
-abbrev pub withParts : LatchFigures → (ℕ → PlaceSlot) → List LatchSlot → Queue → Queue
-withParts f g l m = record { parties = m.parties; figures = f; cells = g; slots = l }
+abbrev pub with_parts : LatchFigures → (ℕ → PlaceSlot) → List LatchSlot → Queue → Queue
+with_parts f g l m = record { parties = m.parties; figures = f; cells = g; slots = l }
 
 -- Cancelled cells at the next ticket to resume are skipped, at most n of them.
 abbrev pub skipped : Queue → Queue
 skipped m =
     let t = m.figures.resumed in
-    withParts (withResumed (t + 1) m.figures) (write m.cells t (withPlace Place.Done (m.cells t))) m.slots m
+    with_parts (with_resumed (t + 1) m.figures) (write m.cells t (with_place Place.Done (m.cells t))) m.slots m
 
-abbrev pub canSkip : Queue → Bool
-canSkip m = isCancelled (m.cells m.figures.resumed).place
+abbrev pub can_skip : Queue → Bool
+can_skip m = is_cancelled (m.cells m.figures.resumed).place
 
 unfoldable pub skip : ℕ → Queue → Queue
 skip zero m = m
-skip (suc n) m = cond (canSkip m) (skip n (skipped m)) m
+skip (suc n) m = cond (can_skip m) (skip n (skipped m)) m
 
 -- A cancelled cell has a ticket that was issued: there are at most as many.
 abbrev pub tidied : Queue → Queue
@@ -53,13 +53,13 @@ tidied m = skip m.figures.issued m
 
 -- The same three changes as at the latch.
 abbrev pub acted : Queue → ℕ → Change → Queue
-acted m p c = withParts c.figures m.cells (writeSlot m.slots p c.slot) m
+acted m p c = with_parts c.figures m.cells (write_slot m.slots p c.slot) m
 
 abbrev pub placed : Queue → Phase → PlaceSlot → Queue
-placed m f a = withParts m.figures (byTicket m.cells (λ t. write m.cells t a) f) m.slots m
+placed m f a = with_parts m.figures (by_ticket m.cells (λ t. write m.cells t a) f) m.slots m
 
 abbrev pub woken : Queue → ℕ → LatchSlot → Queue
-woken m q s = withParts m.figures m.cells (writeSlot m.slots q s) m
+woken m q s = with_parts m.figures m.cells (write_slot m.slots q s) m
 
 unfoldable pub apply : Queue → LatchSight → Move → Queue
 apply m s (Refuse r) = m
@@ -87,14 +87,14 @@ unfoldable pub fresh : ℕ → ℕ → Queue
 fresh c n =
     record {
       parties = n;
-      figures = figuresAt c;
-      cells = λ t. emptySeat;
-      slots = replicate PARTIES freeSlot;
+      figures = figures_at c;
+      cells = λ t. empty_seat;
+      slots = replicate PARTIES free_slot;
     }
 
 -- What the invariant looks at: everybody's phase, and the place of each ticket.
 abbrev pub phases : Queue → List Phase
-phases m = phasesOf m.slots
+phases m = phases_of m.slots
 
 abbrev pub places : Queue → ℕ → Place
 places m t = (m.cells t).place

@@ -7,38 +7,38 @@ use Rattle.latch.specs.declared.record.LatchFigures.{LatchFigures}
 use Rattle.latch.specs.declared.record.LatchSlot.{LatchSlot}
 
 -- A slot whose party neither raises nor has a hand-over left; raising, with a mark or without; with h hand-overs left.
-abbrev pub inPhase : Phase → LatchSlot
-inPhase x = record { phase = x; raising = false; left = 0 }
+abbrev pub in_phase : Phase → LatchSlot
+in_phase x = record { phase = x; raising = false; left = 0 }
 
-abbrev pub toRaise : Phase → LatchSlot
-toRaise x = record { phase = x; raising = true; left = 0 }
+abbrev pub to_raise : Phase → LatchSlot
+to_raise x = record { phase = x; raising = true; left = 0 }
 
-abbrev pub withLeft : Phase → ℕ → LatchSlot
-withLeft x h = record { phase = x; raising = false; left = h }
+abbrev pub with_left : Phase → ℕ → LatchSlot
+with_left x h = record { phase = x; raising = false; left = h }
 
 -- The phase alone changes.
-abbrev pub withPhase : Phase → LatchSlot → LatchSlot
-withPhase x s = record { phase = x; raising = s.raising; left = s.left }
+abbrev pub with_phase : Phase → LatchSlot → LatchSlot
+with_phase x s = record { phase = x; raising = s.raising; left = s.left }
 
 -- A slot at an opening.
-abbrev pub freeSlot : LatchSlot
-freeSlot = inPhase Phase.Free
+abbrev pub free_slot : LatchSlot
+free_slot = in_phase Phase.Free
 
 -- Carrying while hand-overs are left, else free.
-abbrev pub carryOn : ℕ → LatchSlot
-carryOn zero = freeSlot
-carryOn (suc h) = withLeft Phase.Resuming (suc h)
+abbrev pub carry_on : ℕ → LatchSlot
+carry_on zero = free_slot
+carry_on (suc h) = with_left Phase.Resuming (suc h)
 
 -- A number past the 32 slots reads as free, and writing there changes nothing.
 unfoldable pub read_slot : List LatchSlot → ℕ → LatchSlot
-read_slot l p = get_or l p freeSlot
+read_slot l p = get_or l p free_slot
 
-unfoldable pub writeSlot : List LatchSlot → ℕ → LatchSlot → List LatchSlot
-writeSlot l p s = set l p s
+unfoldable pub write_slot : List LatchSlot → ℕ → LatchSlot → List LatchSlot
+write_slot l p s = set l p s
 
 -- Everybody's phase, in the order of the parties.
-abbrev pub phasesOf : List LatchSlot → List Phase
-phasesOf l = map (λ s. s.phase) l
+abbrev pub phases_of : List LatchSlot → List Phase
+phases_of l = map (λ s. s.phase) l
 
 -- A record of these fields.
 abbrev pub of_fields : ℕ → LatchFigures → ℕ → List PlaceSlot → List LatchSlot → Latch
@@ -52,14 +52,14 @@ of_fields parties figures oldest places slots =
     }
 
 -- The record with all that a call may change; with other figures, places or slots, and all else as it was.
-abbrev pub withParts : LatchFigures → ℕ → List PlaceSlot → List LatchSlot → Latch → Latch
-withParts f o a l h = of_fields h.parties f o a l
+abbrev pub with_parts : LatchFigures → ℕ → List PlaceSlot → List LatchSlot → Latch → Latch
+with_parts f o a l h = of_fields h.parties f o a l
 
-abbrev pub withFigures : LatchFigures → Latch → Latch
-withFigures f h = withParts f h.oldest h.places h.slots h
+abbrev pub with_figures : LatchFigures → Latch → Latch
+with_figures f h = with_parts f h.oldest h.places h.slots h
 
-abbrev pub withPlaces : List PlaceSlot → Latch → Latch
-withPlaces a h = withParts h.figures h.oldest a h.slots h
+abbrev pub with_places : List PlaceSlot → Latch → Latch
+with_places a h = with_parts h.figures h.oldest a h.slots h
 
-abbrev pub withSlots : List LatchSlot → Latch → Latch
-withSlots l h = withParts h.figures h.oldest h.places l h
+abbrev pub with_slots : List LatchSlot → Latch → Latch
+with_slots l h = with_parts h.figures h.oldest h.places l h

@@ -1,8 +1,8 @@
 // Opening a latch with N and n, and refusals 3 and 18.
 
 ghost use Rattle.std.specs.Prelude.{◌≡◌};
-ghost use Rattle.latch.specs.Opening.{figuresAt, fresh, notOpened, opening, startCode, upTo200};
-ghost use Rattle.latch.specs.Record.{freeSlot};
+ghost use Rattle.latch.specs.Opening.{figures_at, fresh, not_opened, opening, start_code, up_to200};
+ghost use Rattle.latch.specs.Record.{free_slot};
 
 use crate::record::{Latch, LatchFigures, LatchSlot};
 use hub::record::Phase;
@@ -24,7 +24,7 @@ pub struct LatchOpening {
 }
 
 pub fn free_slot() -> LatchSlot
-    ensures { result ≡ freeSlot }
+    ensures { result ≡ free_slot }
 {
     LatchSlot {
         phase: Phase::Free,
@@ -34,7 +34,7 @@ pub fn free_slot() -> LatchSlot
 }
 
 fn figures_at(count: u8) -> LatchFigures
-    ensures { result ≡ figuresAt count }
+    ensures { result ≡ figures_at count }
 {
     LatchFigures {
         count: count as u32,
@@ -64,7 +64,7 @@ impl Latch {
 
 // A refused opening makes no record: what it hands back is one that refuses every call.
 fn refused(why: Start) -> LatchOpening
-    ensures { result ≡ notOpened why }
+    ensures { result ≡ not_opened why }
 {
     LatchOpening {
         start: why,
@@ -73,7 +73,7 @@ fn refused(why: Start) -> LatchOpening
 }
 
 fn up_to_200(n: u8) -> bool
-    ensures { result ≡ upTo200 n }
+    ensures { result ≡ up_to200 n }
 {
     if n < 1 {
         return false;
@@ -84,7 +84,7 @@ fn up_to_200(n: u8) -> bool
 // Opens a latch.
 pub fn open_latch(count: u8, parties: u8) -> LatchOpening
     ensures { (result ≡ opening count parties)
-        × (startCode result.start ≡ startCode (opening count parties).start) }
+        × (start_code result.start ≡ start_code (opening count parties).start) }
 {
     if !up_to_32(parties) {
         return refused(Start::BadParties);

@@ -6,7 +6,7 @@ mod wire; // calls and answers as bytes
 
 ghost use Rattle.std.specs.Prelude.{◌≡◌, ◌*◌, ◌≤◌, length};
 ghost use Rattle.latch.specs.Schedule.{run};
-ghost use Rattle.latchbatch.specs.Batch.{Lasting, answered, callsIn};
+ghost use Rattle.latchbatch.specs.Batch.{Lasting, answered, calls_in};
 
 use crate::wire::{op_at, party_at, put_at};
 use hub::answers::{Answer, Refusal};
@@ -28,7 +28,7 @@ pub fn answer_calls(latch: Latch, calls: &[u8], count: usize, out: &mut [u8]) ->
     requires lasting { Lasting latch }
     requires count_in_bounds { 2 * count ≤ length calls.now }
     requires count_in_bounds_2 { 7 * count ≤ length out.old }
-    ensures { (result ≡ run latch (callsIn count calls.now))
+    ensures { (result ≡ run latch (calls_in count calls.now))
         × (out.new ≡ answered latch count calls.now out.old) }
 {
     let parties = latch.parties;

@@ -3,7 +3,7 @@
 ghost use Rattle.std.specs.Prelude.{◌≡◌, ◌*◌, ◌+◌, ◌≤◌, length};
 ghost use Rattle.hub.specs.Answers.{printed};
 ghost use Rattle.encoding.specs.Frame.{frame_of};
-ghost use Rattle.latchbatch.specs.Batch.{call_at, op_of, withReply};
+ghost use Rattle.latchbatch.specs.Batch.{call_at, op_of, with_reply};
 
 use encoding::answer::{print_of, put};
 use hub::answers::Answer;
@@ -44,7 +44,7 @@ pub(crate) fn party_at(calls: &[u8], i: usize) -> u8
 // The answer to call i, in its place.
 pub(crate) fn put_at(out: &mut [u8], i: usize, party: u8, answer: Answer)
     requires { 7 * i + 7 ≤ length out.old }
-    ensures { out.new ≡ withReply i (frame_of party (printed answer)) out.old }
+    ensures { out.new ≡ with_reply i (frame_of party (printed answer)) out.old }
 {
     let at = 7 * i;
     let end = at + 7;

@@ -1,7 +1,7 @@
 // What a call does, whichever it is.
 
 ghost use Rattle.std.specs.Prelude.{◌≡◌};
-ghost use Rattle.latcheffect.specs.Effect.{effectBy};
+ghost use Rattle.latcheffect.specs.Effect.{effect_by};
 ghost use Rattle.latcheffect.specs.Small.{Small};
 
 use crate::others::{decide_await, decide_cancel, decide_count_down};
@@ -12,7 +12,7 @@ use latcheffect::effect::LatchEffect;
 // `full`: is there no place for one more ticket? Only an await looks at it.
 pub fn decide_by(op: LatchOp, full: bool, s: LatchSight) -> LatchEffect
     requires { Small s }
-    ensures { result ≡ effectBy op full s }
+    ensures { result ≡ effect_by op full s }
 {
     match op {
         LatchOp::Step => decide_step(s),

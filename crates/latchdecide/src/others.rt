@@ -1,7 +1,7 @@
 // The other calls: await, give up and count down.
 
 ghost use Rattle.std.specs.Prelude.{◌≡◌, false, eqb};
-ghost use Rattle.hub.specs.Phases.{isWaiting};
+ghost use Rattle.hub.specs.Phases.{is_waiting};
 ghost use Rattle.latch.specs.declared.moves.LatchOp.{LatchOp};
 ghost use Rattle.latch.specs.Table.{cancel, decide};
 ghost use Rattle.latcheffect.specs.Effect.{effect_of};
@@ -52,7 +52,7 @@ fn cancel_to(can: bool, next: Phase, s: LatchSight) -> LatchEffect
 
 // Before it waits a give-up is remembered, once.
 fn cancel_early(s: LatchSight) -> LatchEffect
-    requires { isWaiting s.slot.phase ≡ false }
+    requires { is_waiting s.slot.phase ≡ false }
     ensures { result ≡ effect_of (decide LatchOp.Cancel false s) s }
 {
     let slot = s.slot;

@@ -11,10 +11,10 @@ use Rattle.hub.specs.declared.answers.Answer.{Answer}
 use Rattle.hub.specs.declared.record.Phase.{Phase}
 use Rattle.hub.specs.Answers.{printed}
 use Rattle.hub.specs.Basics.{bit}
-use Rattle.hub.specs.Phases.{atRest, isOneOf}
-use Rattle.hub.specs.Record.{PARTIES, emptySeat}
-use Rattle.hub.specs.Refinement.{isSeven, withoutSevens}
-use Rattle.hub.specs.Ring.{PLACES, readSeat}
+use Rattle.hub.specs.Phases.{at_rest, is_one_of}
+use Rattle.hub.specs.Record.{PARTIES, empty_seat}
+use Rattle.hub.specs.Refinement.{is_seven, without_sevens}
+use Rattle.hub.specs.Ring.{PLACES, read_seat}
 use Rattle.hub.proofs.Laws.Bools.{if-true, second}
 use Rattle.hub.proofs.Laws.Lists.{weight-replicate}
 use Rattle.hub.proofs.Invariant.Weights.{drawing, pick}
@@ -26,9 +26,9 @@ use Rattle.latch.specs.declared.record.Latch.{Latch}
 use Rattle.latch.specs.declared.record.LatchSlot.{LatchSlot}
 use Rattle.latch.specs.Calls.{answer_of, called, checked, move_of}
 use Rattle.latched.specs.Claims.{NobodyEarly, NobodyLeft, NoneEarly, NoStepRefused, ReachedFits}
-use Rattle.latched.specs.Claims.{lets_go, stepBy}
-use Rattle.latch.specs.Ledger.{Ledger, countIn, enter, isDown, ledger, opened, slotIn, succeeded}
-use Rattle.latch.specs.Look.{look, seenBy}
+use Rattle.latched.specs.Claims.{lets_go, step_by}
+use Rattle.latch.specs.Ledger.{Ledger, count_in, enter, is_down, ledger, opened, slot_in, succeeded}
+use Rattle.latch.specs.Look.{look, seen_by}
 use Rattle.latch.specs.Moves.{Move}
 use Rattle.latch.specs.Moves.{Refuse, Act, Put, Wake}
 use Rattle.latch.specs.Opening.{fresh, opening}
@@ -39,7 +39,7 @@ use Rattle.latch.specs.Schedule.{run, answers, entries}
 use Rattle.latch.specs.Table.{decide}
 use Rattle.latch.proofs.Laws.Opening.{in-range}
 use Rattle.latched.proofs.Invariant.Rest.{nobody-waits}
-use Rattle.latched.proofs.Invariant.Rows.{Good, isListed}
+use Rattle.latched.proofs.Invariant.Rows.{Good, is_listed}
 use Rattle.latched.proofs.Invariant.Schedules.{Agrees, entered, move-good, next-good}
 use Rattle.latched.proofs.Invariant.Schedules.{fresh-inv, fresh-agrees}
 use Rattle.latched.proofs.Window.Shown.{Tracks, look-same}
@@ -48,7 +48,7 @@ use Rattle.latched.proofs.Window.Followed.{Follows, follows}
 
 -- A fresh record shows a fresh queue.
 fresh-tracks : (c n : ℕ) → 1 ≤ n → n ≤ PARTIES → c ≤ 200 → Tracks (fresh c n) (queue.fresh c n)
-unfolding fresh queue.fresh readSeat pick isOneOf
+unfolding fresh queue.fresh read_seat pick is_one_of
 fresh-tracks c n a b d =
     record {
       size = refl;
@@ -68,29 +68,29 @@ fresh-tracks c n a b d =
           };
     }
   where
-    bare : (n i : ℕ) → get_or (replicate n emptySeat) i emptySeat ≡ emptySeat
+    bare : (n i : ℕ) → get_or (replicate n empty_seat) i empty_seat ≡ empty_seat
     bare zero i = refl
     bare (suc n) zero = refl
     bare (suc n) (suc i) = bare n i
 
 -- A 7 moves nobody, and lets nobody go.
-seven-same : (e : Ledger) (c : LatchCall) (r : Answer) → isSeven r ≡ true → entered e c r ≡ e
+seven-same : (e : Ledger) (c : LatchCall) (r : Answer) → is_seven r ≡ true → entered e c r ≡ e
 unfolding enter
 seven-same e c r i =
     if-true _ e _ (lt-ltb (printed r).code 0x20 (omega (arith, eqb-true (printed r).code 7 i)))
 
-seven-keeps : (r : Answer) → isSeven r ≡ true → bit (lets_go (printed r).code) ≡ 0
+seven-keeps : (r : Answer) → is_seven r ≡ true → bit (lets_go (printed r).code) ≡ 0
 seven-keeps r i = ap (λ (x : ℕ). bit (lets_go x)) (eqb-true (printed r).code 7 i)
 
 -- No refusal is a count-down.
-no-down : (x : ℕ) → x < 0x20 → bit (isDown x) ≡ 0
+no-down : (x : ℕ) → x < 0x20 → bit (is_down x) ≡ 0
 no-down x i =
     ap₂ (λ (a b : Bool). bit (a || (b || false))) (ne_eqb x 0x26 (omega arith))
     (ne_eqb x 0x27 (omega arith))
 
 -- The ledger's count-downs are those of the entries.
 downs-after : (e : Ledger) (c : LatchCall) (r : Answer)
-    → (entered e c r).downs ≡ e.downs + bit (isDown (printed r).code)
+    → (entered e c r).downs ≡ e.downs + bit (is_down (printed r).code)
 unfolding enter
 downs-after e c r = go (ltb (printed r).code 0x20) refl
   where
@@ -98,7 +98,7 @@ downs-after e c r = go (ltb (printed r).code 0x20) refl
     none d k z = omega arith
 
     go : (b : Bool) → ltb (printed r).code 0x20 ≡ b
-        → (cond b e (succeeded c.op c.party (printed r) e)).downs ≡ e.downs + bit (isDown (printed r).code)
+        → (cond b e (succeeded c.op c.party (printed r) e)).downs ≡ e.downs + bit (is_down (printed r).code)
     go false i = refl
     go true i = none e.downs _ (no-down (printed r).code (ltb-true (printed r).code 0x20 i))
 
@@ -112,15 +112,15 @@ module _ (c : ℕ) where
   -- One call, and that nobody is let go by it before the mark.
   one-call : (h : Latch) (e : Ledger) (x : LatchCall) → Account h e
       → Account (called h x).latch (entered e x (called h x).answer)
-      × (bit (lets_go (printed (called h x).answer).code) ≤ 1 - countIn c e)
-  one-call h e x a = go (isSeven (called h x).answer) refl
+      × (bit (lets_go (printed (called h x).answer).code) ≤ 1 - count_in c e)
+  one-call h e x a = go (is_seven (called h x).answer) refl
     where
       f : Follows h a.queue x (look h x.party) (move_of h x)
       f = follows h a.queue a.tracks x
 
-      go : (b : Bool) → isSeven (called h x).answer ≡ b
+      go : (b : Bool) → is_seven (called h x).answer ≡ b
           → Account (called h x).latch (entered e x (called h x).answer)
-          × (bit (lets_go (printed (called h x).answer).code) ≤ 1 - countIn c e)
+          × (bit (lets_go (printed (called h x).answer).code) ≤ 1 - count_in c e)
       go true i = (
         record {
           queue = a.queue;
@@ -197,9 +197,9 @@ nobody-left c n o cs =
       waiters = ap (λ f. f.waiters) x.tracks.shows.figures ∙ sym a.waiters;
       released = λ z rest p t i.
           nobody-waits x.queue x.tracks.inv
-          (λ q. sym (ap (λ (l : List LatchSlot). atRest (slotIn l q).phase) a.replayed) ∙ rest q)
+          (λ q. sym (ap (λ (l : List LatchSlot). at_rest (slot_in l q).phase) a.replayed) ∙ rest q)
           (sym a.count ∙ z) p t
-          (sym (ap (λ (l : List LatchSlot). (slotIn l p).phase) a.replayed) ∙ i);
+          (sym (ap (λ (l : List LatchSlot). (slot_in l p).phase) a.replayed) ∙ i);
     }
 
 pub every-record-fits : ReachedFits
@@ -207,10 +207,10 @@ unfolding ReachedFits
 every-record-fits c n o cs = let x = schedule c n o cs in reached-fits _ x.queue x.tracks
 
 -- A good move refuses the step of no busy party.
-granted : (m : Queue) (p : ℕ) (f : Phase) (v : Move) → atRest f ≡ false → Good LatchOp.Step p m f v
+granted : (m : Queue) (p : ℕ) (f : Phase) (v : Move) → at_rest f ≡ false → Good LatchOp.Step p m f v
     → ltb (printed (answer_of v)).code 0x20 ≡ false
 granted m p f (Refuse r) b g =
-    let y : true ≡ false = sym (second (isListed (Refuse r)) _ g) ∙ b in
+    let y : true ≡ false = sym (second (is_listed (Refuse r)) _ g) ∙ b in
     let z : ◌≡◌ {A = ℕ} 0 1 = cc in let w : ⊥ = omega arith in absurd w
 granted m p f (Act c) b g = g.reports.success
 granted m p f (Put a c) b g = g.reports.success
@@ -218,7 +218,7 @@ granted m p f (Wake q s a c) b g = g.reports.success
 
 -- A step of the record is the queue's.
 step_same : (h : Latch) (m : Queue) (p : ℕ) → Tracks h m
-    → move_of h (stepBy p) ≡ queue.move_of m (stepBy p)
+    → move_of h (step_by p) ≡ queue.move_of m (step_by p)
 unfolding decide
 step_same h m p r = λ i.
     checked (reached-fits h m r i) (ltb p (r.shows.parties i))
@@ -230,19 +230,19 @@ no-step-refused c n o cs p b =
     let x = schedule c n o cs in
     let h = run (opening c n).latch cs in
     ap (λ (v : Move). ltb (printed (answer_of v)).code 0x20) (step_same h x.queue p x.tracks)
-    ∙ granted x.queue p _ (queue.move_of x.queue (stepBy p))
-    (sym (ap (λ (s : LatchSight). atRest s.slot.phase) (look-same h x.queue x.tracks p))
-    ∙ unfold seenBy in b)
-    (move-good c x.queue x.tracks.inv (stepBy p) _ refl)
+    ∙ granted x.queue p _ (queue.move_of x.queue (step_by p))
+    (sym (ap (λ (s : LatchSight). at_rest s.slot.phase) (look-same h x.queue x.tracks p))
+    ∙ unfold seen_by in b)
+    (move-good c x.queue x.tracks.inv (step_by p) _ refl)
 
 -- The queue on the calls that were heard gives the other answers, and the record shows it.
 refined : (h : Latch) (m : Queue) (cs : List LatchCall) → Tracks h m
     → Shows (run h cs) (queue.run m (heard h cs))
-    × (withoutSevens (answers h cs) ≡ queue.answers m (heard h cs))
-unfolding run answers heard withoutSevens queue.run queue.answers
+    × (without_sevens (answers h cs) ≡ queue.answers m (heard h cs))
+unfolding run answers heard without_sevens queue.run queue.answers
 refined h m [] r = (r.shows, refl)
 refined h m (c ∷ cs) r =
-    go (isSeven (called h c).answer) refl
+    go (is_seven (called h c).answer) refl
     (λ e. refined (called h c).latch m cs
     (subst (λ (g : Latch). Tracks g m) (sym (f.seven e)) r))
     (λ e. refined (called h c).latch (queue.next m c) cs (f.alike e).0)
@@ -254,12 +254,12 @@ refined h m (c ∷ cs) r =
     rest = heard (called h c).latch cs
 
     others : List Answer
-    others = withoutSevens (answers (called h c).latch cs)
+    others = without_sevens (answers (called h c).latch cs)
 
-    go : (b : Bool) → isSeven (called h c).answer ≡ b
-        → (isSeven (called h c).answer ≡ true
+    go : (b : Bool) → is_seven (called h c).answer ≡ b
+        → (is_seven (called h c).answer ≡ true
         → Shows (run (called h c).latch cs) (queue.run m rest) × (others ≡ queue.answers m rest))
-        → (isSeven (called h c).answer ≡ false
+        → (is_seven (called h c).answer ≡ false
         → Shows (run (called h c).latch cs) (queue.run (queue.next m c) rest)
         × (others ≡ queue.answers (queue.next m c) rest))
         → Shows (run (called h c).latch cs) (queue.run m (cond b rest (c ∷ rest)))

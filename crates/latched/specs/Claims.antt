@@ -3,7 +3,7 @@ use Rattle.std.specs.Prelude.{ℕ, ◌+◌, ◌-◌, ◌≡◌, Bool, true, fals
 use Rattle.hub.specs.declared.record.Phase.{Phase}
 use Rattle.hub.specs.Answers.{printed}
 use Rattle.hub.specs.Basics.{among, bit}
-use Rattle.hub.specs.Phases.{atRest}
+use Rattle.hub.specs.Phases.{at_rest}
 use Rattle.latch.specs.declared.moves.LatchCall.{LatchCall}
 use Rattle.latch.specs.declared.moves.LatchOp.{LatchOp}
 use Rattle.latch.specs.declared.opening.Start.{Start}
@@ -11,7 +11,7 @@ use Rattle.latch.specs.declared.record.Latch.{Latch}
 use Rattle.latch.specs.declared.record.LatchSlot.{LatchSlot}
 use Rattle.latch.specs.Calls.{called}
 use Rattle.latch.specs.Fits.{fits}
-use Rattle.latch.specs.Ledger.{Ledger, countIn, isDown, ledger, opened, slotIn}
+use Rattle.latch.specs.Ledger.{Ledger, count_in, is_down, ledger, opened, slot_in}
 use Rattle.latch.specs.Opening.{opening}
 use Rattle.latch.specs.Record.{read_slot}
 use Rattle.latch.specs.Schedule.{Entry, run, entries}
@@ -30,24 +30,24 @@ unfoldable pub NoneEarly : ℕ → ℕ → List Entry → Type 0
 NoneEarly c d [] = Unit {0}
 NoneEarly c d (x ∷ xs) =
     (lets_go x.answer.code ≡ true → c - d ≡ 0)
-    × NoneEarly c (d + bit (isDown x.answer.code)) xs
+    × NoneEarly c (d + bit (is_down x.answer.code)) xs
 
 unfoldable pub NobodyEarly : Type 0
 NobodyEarly = OnSchedules (λ c n cs. NoneEarly c 0 (entries (opening c n).latch cs))
 
 -- Everybody is at rest.
 abbrev pub Calm : List LatchSlot → Type 0
-Calm l = (p : ℕ) → atRest (slotIn l p).phase ≡ true
+Calm l = (p : ℕ) → at_rest (slot_in l p).phase ≡ true
 
 -- What holds of N = c, a ledger e and the record h that the schedule left.
 pub record Accounts (c : ℕ) (e : Ledger) (h : Latch) : Type 0 where
   -- The record shows what the calls and answers tell.
   pub slots : h.slots ≡ e.slots
-  pub count : h.figures.count ≡ countIn c e
+  pub count : h.figures.count ≡ count_in c e
   pub waiters : h.figures.waiters ≡ e.waiters
   -- With everyone at rest after the count is 0, nobody waits.
-  pub released : countIn c e ≡ 0 → Calm e.slots → (p t : ℕ)
-      → (slotIn e.slots p).phase ≡ Phase.Waiting t → ⊥
+  pub released : count_in c e ≡ 0 → Calm e.slots → (p t : ℕ)
+      → (slot_in e.slots p).phase ≡ Phase.Waiting t → ⊥
 
 unfoldable pub NobodyLeft : Type 0
 NobodyLeft =
@@ -60,14 +60,14 @@ unfoldable pub ReachedFits : Type 0
 ReachedFits = OnSchedules (λ c n cs. fits (run (opening c n).latch cs) ≡ true)
 
 -- No busy party's step is refused, by a code below 20.
-abbrev pub stepBy : ℕ → LatchCall
-stepBy p = record { op = LatchOp.Step; party = p }
+abbrev pub step_by : ℕ → LatchCall
+step_by p = record { op = LatchOp.Step; party = p }
 
 abbrev pub Busy : Latch → ℕ → Type 0
-Busy h p = atRest (read_slot h.slots p).phase ≡ false
+Busy h p = at_rest (read_slot h.slots p).phase ≡ false
 
 unfoldable pub NoStepRefused : Type 0
 NoStepRefused =
     OnSchedules (λ c n cs.
     let h = run (opening c n).latch cs in
-    (p : ℕ) → Busy h p → ltb (printed (called h (stepBy p)).answer).code 0x20 ≡ false)
+    (p : ℕ) → Busy h p → ltb (printed (called h (step_by p)).answer).code 0x20 ≡ false)

@@ -1,7 +1,7 @@
 -- On the calls that are not answered 7 the latch answers as the unbounded queue does, and its record is a window
 -- of the queue.
 use Rattle.std.specs.Prelude.{◌≡◌, cond, List, [], ◌∷◌}
-use Rattle.hub.specs.Refinement.{Window, isSeven, withoutSevens}
+use Rattle.hub.specs.Refinement.{Window, is_seven, without_sevens}
 use Rattle.latch.specs.declared.moves.LatchCall.{LatchCall}
 use Rattle.latch.specs.declared.record.Latch.{Latch}
 use Rattle.latch.specs.Calls.{called}
@@ -23,11 +23,11 @@ unfoldable pub heard : Latch → List LatchCall → List LatchCall
 heard h [] = []
 heard h (c ∷ cs) =
     let r = heard (called h c).latch cs in
-    cond (isSeven (called h c).answer) r (c ∷ r)
+    cond (is_seven (called h c).answer) r (c ∷ r)
 
 unfoldable pub Refines : Type 0
 Refines =
     OnSchedules (λ c n cs.
     let h = (opening c n).latch in
     Shows (run h cs) (queue.run (queue.fresh c n) (heard h cs))
-    × (withoutSevens (answers h cs) ≡ queue.answers (queue.fresh c n) (heard h cs)))
+    × (without_sevens (answers h cs) ≡ queue.answers (queue.fresh c n) (heard h cs)))

@@ -40,5 +40,5 @@ effect_of (Put a c) s = flat PARTIES s.waiter a c
 effect_of (Wake q x a c) s = flat q x a c
 
 -- What is decided of a call. It is shut: whoever calls the code need not carry the four forms along.
-unfoldable pub effectBy : LatchOp → Bool → LatchSight → LatchEffect
-effectBy o full s = effect_of (decide o full s) s
+unfoldable pub effect_by : LatchOp → Bool → LatchSight → LatchEffect
+effect_by o full s = effect_of (decide o full s) s

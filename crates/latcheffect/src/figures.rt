@@ -1,12 +1,12 @@
 // The figures with one of them changed, each made anew, as those of the hub.
 
 ghost use Rattle.std.specs.Prelude.{◌≡◌};
-ghost use Rattle.latch.specs.Table.{withBegun, withCount, withIssued, withResumed, withWaiters};
+ghost use Rattle.latch.specs.Table.{with_begun, with_count, with_issued, with_resumed, with_waiters};
 
 use latch::record::LatchFigures;
 
 pub fn with_count(count: u32, f: LatchFigures) -> LatchFigures
-    ensures { result ≡ withCount count f }
+    ensures { result ≡ with_count count f }
 {
     LatchFigures {
         count,
@@ -18,7 +18,7 @@ pub fn with_count(count: u32, f: LatchFigures) -> LatchFigures
 }
 
 pub fn with_waiters(waiters: u32, f: LatchFigures) -> LatchFigures
-    ensures { result ≡ withWaiters waiters f }
+    ensures { result ≡ with_waiters waiters f }
 {
     LatchFigures {
         count: f.count,
@@ -30,7 +30,7 @@ pub fn with_waiters(waiters: u32, f: LatchFigures) -> LatchFigures
 }
 
 pub fn with_issued(issued: u32, f: LatchFigures) -> LatchFigures
-    ensures { result ≡ withIssued issued f }
+    ensures { result ≡ with_issued issued f }
 {
     LatchFigures {
         count: f.count,
@@ -42,7 +42,7 @@ pub fn with_issued(issued: u32, f: LatchFigures) -> LatchFigures
 }
 
 pub fn with_resumed(resumed: u32, f: LatchFigures) -> LatchFigures
-    ensures { result ≡ withResumed resumed f }
+    ensures { result ≡ with_resumed resumed f }
 {
     LatchFigures {
         count: f.count,
@@ -54,7 +54,7 @@ pub fn with_resumed(resumed: u32, f: LatchFigures) -> LatchFigures
 }
 
 pub fn with_begun(begun: u32, f: LatchFigures) -> LatchFigures
-    ensures { result ≡ withBegun begun f }
+    ensures { result ≡ with_begun begun f }
 {
     LatchFigures {
         count: f.count,

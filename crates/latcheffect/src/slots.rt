@@ -1,14 +1,14 @@
 // What a slot is made of. Only these functions and `free_slot` name its fields.
 
 ghost use Rattle.std.specs.Prelude.{◌≡◌, ◌-◌};
-ghost use Rattle.latch.specs.Record.{carryOn, inPhase, toRaise, withLeft, withPhase};
+ghost use Rattle.latch.specs.Record.{carry_on, in_phase, to_raise, with_left, with_phase};
 
 use hub::record::Phase;
 use latch::opening::free_slot;
 use latch::record::LatchSlot;
 
 pub fn in_phase(phase: Phase) -> LatchSlot
-    ensures { result ≡ inPhase phase }
+    ensures { result ≡ in_phase phase }
 {
     LatchSlot {
         phase,
@@ -18,7 +18,7 @@ pub fn in_phase(phase: Phase) -> LatchSlot
 }
 
 pub fn to_raise(phase: Phase) -> LatchSlot
-    ensures { result ≡ toRaise phase }
+    ensures { result ≡ to_raise phase }
 {
     LatchSlot {
         phase,
@@ -28,7 +28,7 @@ pub fn to_raise(phase: Phase) -> LatchSlot
 }
 
 pub fn with_left(phase: Phase, left: u32) -> LatchSlot
-    ensures { result ≡ withLeft phase left }
+    ensures { result ≡ with_left phase left }
 {
     LatchSlot {
         phase,
@@ -39,7 +39,7 @@ pub fn with_left(phase: Phase, left: u32) -> LatchSlot
 
 // The phase alone changes.
 pub fn with_phase(phase: Phase, slot: LatchSlot) -> LatchSlot
-    ensures { result ≡ withPhase phase slot }
+    ensures { result ≡ with_phase phase slot }
 {
     LatchSlot {
         phase,
@@ -60,7 +60,7 @@ pub fn less_one(n: u32) -> u32
 
 // Of a party that used one of its hand-overs: carrying while some are left, else free.
 pub fn used_one(left: u32) -> LatchSlot
-    ensures { result ≡ carryOn (left - 1) }
+    ensures { result ≡ carry_on (left - 1) }
 {
     let rest = less_one(left);
     if rest == 0 {

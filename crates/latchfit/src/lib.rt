@@ -2,11 +2,11 @@
 // places are the hub's to check.
 
 ghost use Rattle.std.specs.Prelude.{◌≡◌, ◌&&◌, ◌≤◌};
-ghost use Rattle.hub.specs.Basics.{upTo32};
-ghost use Rattle.hub.specs.Fits.{placeListed};
-ghost use Rattle.hub.specs.Phases.{isOneOf};
-ghost use Rattle.latch.specs.Fits.{HUB-ONLY, figuresFit, slotFits, ticketFits};
-ghost use Rattle.latchfit.specs.Tickets.{ticketsOf};
+ghost use Rattle.hub.specs.Basics.{up_to32};
+ghost use Rattle.hub.specs.Fits.{place_listed};
+ghost use Rattle.hub.specs.Phases.{is_one_of};
+ghost use Rattle.latch.specs.Fits.{HUB_ONLY, figures_fit, slot_fits, ticket_fits};
+ghost use Rattle.latchfit.specs.Tickets.{tickets_of};
 
 use clauses::{party_fits, waiter_fits};
 use hub::record::{Figures, Hub, Phase, Place};
@@ -16,7 +16,7 @@ use phases::{of_radios, ticket};
 
 // n, the figures and the oldest ticket that has a place, clause by clause.
 fn figures_fit(parties: u8, figures: LatchFigures, oldest: u32) -> bool
-    ensures { result ≡ figuresFit parties figures oldest }
+    ensures { result ≡ figures_fit parties figures oldest }
 {
     if !up_to_32(parties) {
         return false;
@@ -49,7 +49,7 @@ fn figures_fit(parties: u8, figures: LatchFigures, oldest: u32) -> bool
 }
 
 fn left_fits(left: u32) -> bool
-    ensures { result ≡ upTo32 left }
+    ensures { result ≡ up_to32 left }
 {
     if left < 1 {
         return false;
@@ -59,7 +59,7 @@ fn left_fits(left: u32) -> bool
 
 // Is it a phase that no party of a latch has: holding, or one of radios?
 fn hub_only(phase: Phase) -> bool
-    ensures { result ≡ isOneOf HUB-ONLY phase }
+    ensures { result ≡ is_one_of HUB_ONLY phase }
 {
     let Phase::Holding = phase else {
         return of_radios(phase);
@@ -69,7 +69,7 @@ fn hub_only(phase: Phase) -> bool
 
 // No phase is the hub's alone; whoever carries or hands has 1 to 32 hand-overs left.
 fn slot_fits(slot: LatchSlot) -> bool
-    ensures { result ≡ slotFits slot }
+    ensures { result ≡ slot_fits slot }
 {
     let phase = slot.phase;
     if hub_only(phase) {
@@ -83,7 +83,7 @@ fn slot_fits(slot: LatchSlot) -> bool
 
 // The figures that a ticket is checked by, as the hub has them.
 fn tickets_of(figures: LatchFigures) -> Figures
-    ensures { result ≡ ticketsOf figures }
+    ensures { result ≡ tickets_of figures }
 {
     Figures {
         counter: 0,
@@ -96,8 +96,8 @@ fn tickets_of(figures: LatchFigures) -> Figures
 // The clauses of one of the n parties, over its slot and what lies at the place of its ticket.
 fn member_fits(slot: LatchSlot, place: Place, figures: LatchFigures, oldest: u32) -> bool
     requires { oldest ≤ 1000000 }
-    ensures { result ≡ slotFits slot && ticketFits figures oldest slot.phase
-        && placeListed slot.phase place }
+    ensures { result ≡ slot_fits slot && ticket_fits figures oldest slot.phase
+        && place_listed slot.phase place }
 {
     if !slot_fits(slot) {
         return false;

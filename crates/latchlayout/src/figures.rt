@@ -1,15 +1,15 @@
 // The numbers in front of a record: n, the figures, and the first ticket that has a place.
 
 ghost use Rattle.std.specs.Prelude.{◌≡◌, length};
-ghost use Rattle.latchlayout.specs.Read.{figuresIn};
-ghost use Rattle.latchlayout.specs.Written.{figureBytes};
+ghost use Rattle.latchlayout.specs.Read.{figures_in};
+ghost use Rattle.latchlayout.specs.Written.{figure_bytes};
 
 use cells::number::{four_numbers, number_at, put_bytes_at, wide};
 use latch::record::{Latch, LatchFigures};
 
 pub(crate) fn figures_of(bytes: &[u8]) -> LatchFigures
     requires { length bytes.now ≡ 1523 }
-    ensures { result ≡ figuresIn bytes.now }
+    ensures { result ≡ figures_in bytes.now }
 {
     let count = wide(bytes[1]);
     let waiters = wide(bytes[2]);
@@ -26,7 +26,7 @@ pub(crate) fn figures_of(bytes: &[u8]) -> LatchFigures
 }
 
 pub(crate) fn figure_bytes(latch: Latch) -> [u8; 19]
-    ensures { result ≡ figureBytes latch }
+    ensures { result ≡ figure_bytes latch }
 {
     let mut out = [0u8; 19];
     let figures = latch.figures;

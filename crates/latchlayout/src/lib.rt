@@ -5,8 +5,8 @@ mod figures; // the numbers in front
 mod parties; // phases, hand-overs left and marks
 
 ghost use Rattle.std.specs.Prelude.{◌≡◌, length};
-ghost use Rattle.latchlayout.specs.Read.{recordIn};
-ghost use Rattle.latchlayout.specs.Written.{recordBytes};
+ghost use Rattle.latchlayout.specs.Read.{record_in};
+ghost use Rattle.latchlayout.specs.Written.{record_bytes};
 
 use cells::cell::{place_bytes, places_at};
 use cells::number::{number_at, put_bytes_at, put_few};
@@ -16,7 +16,7 @@ use parties::{lefts_of, marks_of, phase_bytes, slots_of};
 
 pub fn record_of(bytes: &[u8]) -> Latch
     requires { length bytes.now ≡ 1523 }
-    ensures { result ≡ recordIn bytes.now }
+    ensures { result ≡ record_in bytes.now }
 {
     let figures = figures_of(bytes);
     let oldest = number_at(bytes, 15);
@@ -32,7 +32,7 @@ pub fn record_of(bytes: &[u8]) -> Latch
 }
 
 pub fn record_bytes(latch: Latch) -> [u8; 1523]
-    ensures { result ≡ recordBytes latch }
+    ensures { result ≡ record_bytes latch }
 {
     let mut out = [0u8; 1523];
     let figures = figure_bytes(latch);

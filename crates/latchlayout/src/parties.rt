@@ -2,8 +2,8 @@
 
 ghost use Rattle.std.specs.Prelude.{◌<◌, ◌%◌, cond, ◌≡◌, length};
 ghost use Rattle.hub.specs.Phases.{resumes};
-ghost use Rattle.latchlayout.specs.Read.{slotIn, slotsIn};
-ghost use Rattle.latchlayout.specs.Written.{leftBytes, markBytes, nameOf, phaseBytes};
+ghost use Rattle.latchlayout.specs.Read.{slot_in, slots_in};
+ghost use Rattle.latchlayout.specs.Written.{left_bytes, mark_bytes, name_of, phase_bytes};
 
 use cells::number::{number_at, put_cell, wide};
 use cells::phase::{mark_of, marked, phase_name, phase_named};
@@ -14,7 +14,7 @@ use phases::{of_radios, ticket};
 
 fn slot_of(bytes: &[u8], p: usize) -> LatchSlot
     requires { (length bytes.now ≡ 1523) × (p < 32) }
-    ensures { result ≡ slotIn bytes.now p }
+    ensures { result ≡ slot_in bytes.now p }
 {
     let name = bytes[1299 + 5 * p] % 15;
     let phase = phase_named(name, number_at(bytes, 1300 + 5 * p));
@@ -29,7 +29,7 @@ fn slot_of(bytes: &[u8], p: usize) -> LatchSlot
 
 pub(crate) fn slots_of(bytes: &[u8]) -> [LatchSlot; 32]
     requires { length bytes.now ≡ 1523 }
-    ensures { result ≡ slotsIn bytes.now }
+    ensures { result ≡ slots_in bytes.now }
 {
     let free = free_slot();
     let mut slots = [free; 32];
@@ -52,7 +52,7 @@ fn asked_name(raising: bool) -> u8
 
 // The phases of radios are written as holding, which fits no more than they do.
 fn name_of(phase: Phase, raising: bool) -> u8
-    ensures { result ≡ nameOf phase raising }
+    ensures { result ≡ name_of phase raising }
 {
     if of_radios(phase) {
         return 1;
@@ -75,7 +75,7 @@ fn left_of(phase: Phase, left: u32) -> u8
 
 fn put_phases(out: &mut [u8], slots: [LatchSlot; 32])
     requires { length out.old ≡ 160 }
-    ensures { out.new ≡ phaseBytes slots }
+    ensures { out.new ≡ phase_bytes slots }
 {
     let mut p: usize = 0;
     while p < 32 {
@@ -93,7 +93,7 @@ fn put_phases(out: &mut [u8], slots: [LatchSlot; 32])
 }
 
 pub(crate) fn phase_bytes(slots: [LatchSlot; 32]) -> [u8; 160]
-    ensures { result ≡ phaseBytes slots }
+    ensures { result ≡ phase_bytes slots }
 {
     let mut out = [0u8; 160];
     put_phases(&mut out, slots);
@@ -101,7 +101,7 @@ pub(crate) fn phase_bytes(slots: [LatchSlot; 32]) -> [u8; 160]
 }
 
 pub(crate) fn lefts_of(slots: [LatchSlot; 32]) -> [u8; 32]
-    ensures { result ≡ leftBytes slots }
+    ensures { result ≡ left_bytes slots }
 {
     let mut lefts = [0u8; 32];
     let mut p: usize = 0;
@@ -115,7 +115,7 @@ pub(crate) fn lefts_of(slots: [LatchSlot; 32]) -> [u8; 32]
 }
 
 pub(crate) fn marks_of(slots: [LatchSlot; 32]) -> [u8; 32]
-    ensures { result ≡ markBytes slots }
+    ensures { result ≡ mark_bytes slots }
 {
     let mut marks = [0u8; 32];
     let mut p: usize = 0;

@@ -2,8 +2,8 @@
 use Rattle.std.specs.Prelude.{Bool, false}
 use Rattle.latch.specs.declared.moves.LatchOp.{LatchOp}
 
-abbrev pub fullFor : LatchOp → Bool → Bool
-fullFor LatchOp.Await full = full
-fullFor LatchOp.Step full = false
-fullFor LatchOp.Cancel full = false
-fullFor LatchOp.CountDown full = false
+abbrev pub full_for : LatchOp → Bool → Bool
+full_for LatchOp.Await full = full
+full_for LatchOp.Step full = false
+full_for LatchOp.Cancel full = false
+full_for LatchOp.CountDown full = false

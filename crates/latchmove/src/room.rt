@@ -2,10 +2,10 @@
 
 ghost use Rattle.std.specs.Prelude.{◌≡◌, ◌≤◌};
 ghost use Rattle.hub.specs.Basics.{bit, count};
-ghost use Rattle.hub.specs.Phases.{drawsTicket};
-ghost use Rattle.latch.specs.Calls.{isFull};
-ghost use Rattle.latch.specs.Record.{phasesOf};
-ghost use Rattle.latchmove.specs.Room.{fullFor};
+ghost use Rattle.hub.specs.Phases.{draws_ticket};
+ghost use Rattle.latch.specs.Calls.{is_full};
+ghost use Rattle.latch.specs.Record.{phases_of};
+ghost use Rattle.latchmove.specs.Room.{full_for};
 
 use hub::record::{Hub, Phase};
 use latch::moves::LatchOp;
@@ -13,7 +13,7 @@ use latch::record::LatchSlot;
 
 // 1 if a party of this phase, asked, raising or unnumbered, may yet draw a ticket.
 fn drawing(phase: Phase) -> u32
-    ensures { result ≡ bit (drawsTicket phase) }
+    ensures { result ≡ bit (draws_ticket phase) }
 {
     match phase {
         Phase::Acquiring | Phase::Suspending | Phase::AcquiringMarked | Phase::SuspendingMarked =>
@@ -23,7 +23,7 @@ fn drawing(phase: Phase) -> u32
 }
 
 pub fn count_drawing(slots: [LatchSlot; 32]) -> u32
-    ensures { (result ≡ count drawsTicket (phasesOf slots)) × (result ≤ 32) }
+    ensures { (result ≡ count draws_ticket (phases_of slots)) × (result ≤ 32) }
 {
     let mut n: u32 = 0;
     let mut p: usize = 0;
@@ -38,7 +38,7 @@ pub fn count_drawing(slots: [LatchSlot; 32]) -> u32
 
 fn is_full(oldest: u32, issued: u32, slots: [LatchSlot; 32]) -> bool
     requires { (oldest ≤ 1000000) × (issued ≤ 1000000) }
-    ensures { result ≡ isFull oldest issued slots }
+    ensures { result ≡ is_full oldest issued slots }
 {
     let drawn = count_drawing(slots);
     oldest + Hub::PLACES <= issued + drawn
@@ -48,7 +48,7 @@ fn is_full(oldest: u32, issued: u32, slots: [LatchSlot; 32]) -> bool
 // slots are not handed on.
 pub fn full_for(op: LatchOp, oldest: u32, issued: u32, slots: [LatchSlot; 32]) -> bool
     requires { (oldest ≤ 1000000) × (issued ≤ 1000000) }
-    ensures { result ≡ fullFor op (isFull oldest issued slots) }
+    ensures { result ≡ full_for op (is_full oldest issued slots) }
 {
     let LatchOp::Await = op else {
         return false;

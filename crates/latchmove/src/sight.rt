@@ -1,10 +1,10 @@
 // What a call looks at, from what lies in the arrays.
 
 ghost use Rattle.std.specs.Prelude.{◌≡◌, cond, ◌%◌, ltb};
-ghost use Rattle.hub.specs.Phases.{byTicket, ticketOf};
+ghost use Rattle.hub.specs.Phases.{by_ticket, ticket_of};
 ghost use Rattle.hub.specs.Record.{PARTIES};
 ghost use Rattle.hub.specs.Ring.{PLACES};
-ghost use Rattle.latch.specs.Record.{freeSlot};
+ghost use Rattle.latch.specs.Record.{free_slot};
 
 use hub::record::{Hub, PlaceSlot};
 use latch::opening::free_slot;
@@ -13,7 +13,7 @@ use phases::{has_ticket, ticket};
 
 // Where the place of a party's ticket lies in the ring; 0 if it has none.
 pub fn seat_index(slot: LatchSlot) -> usize
-    ensures { result ≡ ticketOf slot.phase % PLACES }
+    ensures { result ≡ ticket_of slot.phase % PLACES }
 {
     let phase = slot.phase;
     (ticket(phase) % Hub::PLACES) as usize
@@ -21,7 +21,7 @@ pub fn seat_index(slot: LatchSlot) -> usize
 
 // A place for a party that has a ticket, another for one that has none.
 pub fn by_ticket(slot: LatchSlot, seat: PlaceSlot, otherwise: PlaceSlot) -> PlaceSlot
-    ensures { result ≡ byTicket otherwise (λ t. seat) slot.phase }
+    ensures { result ≡ by_ticket otherwise (λ t. seat) slot.phase }
 {
     let phase = slot.phase;
     if has_ticket(phase) {
@@ -32,7 +32,7 @@ pub fn by_ticket(slot: LatchSlot, seat: PlaceSlot, otherwise: PlaceSlot) -> Plac
 
 // The slot of party q, which is the one at hand if there is such a party; free past the slots.
 pub fn slot_within(q: u32, near: LatchSlot) -> LatchSlot
-    ensures { result ≡ cond (ltb q PARTIES) near freeSlot }
+    ensures { result ≡ cond (ltb q PARTIES) near free_slot }
 {
     if q < 32 {
         return near;

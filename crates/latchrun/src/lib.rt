@@ -2,10 +2,10 @@
 // What holds of every schedule of a latch holds of these answers.
 
 ghost use Rattle.std.specs.Prelude.{◌≡◌};
-ghost use Rattle.latch.specs.Opening.{startCode};
-ghost use Rattle.run.specs.Bytes.{wellFormed};
+ghost use Rattle.latch.specs.Opening.{start_code};
+ghost use Rattle.run.specs.Bytes.{well_formed};
 ghost use Rattle.latchrun.specs.Bytes.{is_call};
-ghost use Rattle.latchrun.specs.Run.{ranCode, run_of};
+ghost use Rattle.latchrun.specs.Run.{ran_code, run_of};
 
 use latch::opening::{Start, open_latch};
 use latchbatch::answer_calls;
@@ -21,7 +21,7 @@ pub enum LatchRan {
 
 // Is each pair of bytes a call?
 fn well_formed(calls: &[u8]) -> bool
-    ensures { result ≡ wellFormed is_call calls.now }
+    ensures { result ≡ well_formed is_call calls.now }
 {
     let total = calls.len() / 2;
     if calls.len() % 2 == 1 {
@@ -65,7 +65,7 @@ pub fn run_latch(count: u8, parties: u8, calls: &[u8], out: &mut [u8]) -> LatchR
 }
 
 fn start_code(start: Start) -> u8
-    ensures { result ≡ startCode start }
+    ensures { result ≡ start_code start }
 {
     match start {
         Start::BadParties => 3,
@@ -75,7 +75,7 @@ fn start_code(start: Start) -> u8
 }
 
 fn ran_code(ran: LatchRan) -> u8
-    ensures { result ≡ ranCode ran }
+    ensures { result ≡ ran_code ran }
 {
     match ran {
         LatchRan::NotOpened(start) => start_code(start),
@@ -89,7 +89,7 @@ fn ran_code(ran: LatchRan) -> u8
 // room.
 #[unsafe(no_mangle)]
 pub extern "C" fn latch_run(count: u8, parties: u8, calls: &[u8], out: &mut [u8]) -> u8
-    ensures { (result ≡ ranCode (run_of count parties calls.now out.old).ran)
+    ensures { (result ≡ ran_code (run_of count parties calls.now out.old).ran)
         × (out.new ≡ (run_of count parties calls.now out.old).out) }
 {
     let ran = run_latch(count, parties, calls, out);

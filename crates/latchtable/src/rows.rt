@@ -1,8 +1,8 @@
 // The step table, a row a function.
 
 ghost use Rattle.std.specs.Prelude.{◌≡◌, ◌≤◌};
-ghost use Rattle.hub.specs.Phases.{isWaiting};
-ghost use Rattle.latch.specs.Table.{bringsToZero, done, resumeWaiter, stepAcquiring, stepIn, stepTicketed};
+ghost use Rattle.hub.specs.Phases.{is_waiting};
+ghost use Rattle.latch.specs.Table.{brings_to_zero, done, resume_waiter, step_acquiring, step_in, step_ticketed};
 ghost use Rattle.latcheffect.specs.Effect.{effect_of};
 
 use hub::answers::{Answer, Refusal};
@@ -18,7 +18,7 @@ use latcheffect::slots::{in_phase, less_one, to_raise, used_one, with_left};
 // Asked, or raising; `phase` is its own, and `next` unnumbered, both with or without a mark.
 pub fn step_acquiring(phase: Phase, next: Phase, s: LatchSight) -> LatchEffect
     requires { s.figures.waiters ≤ 32 }
-    ensures { result ≡ effect_of (stepAcquiring phase next (done s.figures) s.slot.raising s) s }
+    ensures { result ≡ effect_of (step_acquiring phase next (done s.figures) s.slot.raising s) s }
 {
     let figures = s.figures;
     let raising = s.slot.raising;
@@ -34,7 +34,7 @@ pub fn step_acquiring(phase: Phase, next: Phase, s: LatchSight) -> LatchEffect
 
 pub fn step_suspending(s: LatchSight) -> LatchEffect
     requires { s.figures.issued ≤ 1000000 }
-    ensures { result ≡ effect_of (stepIn Phase.Suspending s) s }
+    ensures { result ≡ effect_of (step_in Phase.Suspending s) s }
 {
     let figures = s.figures;
     let t = figures.issued;
@@ -49,7 +49,7 @@ pub fn step_suspending(s: LatchSight) -> LatchEffect
 
 pub fn step_suspending_marked(s: LatchSight) -> LatchEffect
     requires { s.figures.issued ≤ 1000000 }
-    ensures { result ≡ effect_of (stepIn Phase.SuspendingMarked s) s }
+    ensures { result ≡ effect_of (step_in Phase.SuspendingMarked s) s }
 {
     let figures = s.figures;
     let t = figures.issued;
@@ -71,7 +71,7 @@ fn waited_by(party: u8) -> Place
 
 // `next`: waiting, or giving up if there is a mark.
 pub fn step_ticketed(next: Phase, t: u32, s: LatchSight) -> LatchEffect
-    ensures { result ≡ effect_of (stepTicketed next t s.seat.place s) s }
+    ensures { result ≡ effect_of (step_ticketed next t s.seat.place s) s }
 {
     let seat = s.seat;
     let place = seat.place;
@@ -83,7 +83,7 @@ pub fn step_ticketed(next: Phase, t: u32, s: LatchSight) -> LatchEffect
 }
 
 fn brings_to_zero(figures: LatchFigures) -> bool
-    ensures { result ≡ bringsToZero figures }
+    ensures { result ≡ brings_to_zero figures }
 {
     if figures.count != 1 {
         return false;
@@ -92,7 +92,7 @@ fn brings_to_zero(figures: LatchFigures) -> bool
 }
 
 pub fn step_releasing(s: LatchSight) -> LatchEffect
-    ensures { result ≡ effect_of (stepIn Phase.Releasing s) s }
+    ensures { result ≡ effect_of (step_in Phase.Releasing s) s }
 {
     let figures = s.figures;
     if brings_to_zero(figures) {
@@ -105,7 +105,7 @@ pub fn step_releasing(s: LatchSight) -> LatchEffect
 
 pub fn step_resuming(s: LatchSight) -> LatchEffect
     requires { s.figures.resumed ≤ 1000000 }
-    ensures { result ≡ effect_of (stepIn Phase.Resuming s) s }
+    ensures { result ≡ effect_of (step_in Phase.Resuming s) s }
 {
     let figures = s.figures;
     let t = figures.resumed;
@@ -120,7 +120,7 @@ pub fn step_resuming(s: LatchSight) -> LatchEffect
 
 // The waiter is woken, or has given up and is left the hand-over.
 fn resume_waiter(q: u32, t: u32, s: LatchSight) -> LatchEffect
-    ensures { result ≡ effect_of (resumeWaiter (isWaiting s.waiter.phase) q t s) s }
+    ensures { result ≡ effect_of (resume_waiter (is_waiting s.waiter.phase) q t s) s }
 {
     let waiter = s.waiter;
     let phase = waiter.phase;
@@ -136,7 +136,7 @@ fn resume_waiter(q: u32, t: u32, s: LatchSight) -> LatchEffect
 }
 
 pub fn step_resuming_at(t: u32, s: LatchSight) -> LatchEffect
-    ensures { result ≡ effect_of (stepIn (Phase.ResumingAt t) s) s }
+    ensures { result ≡ effect_of (step_in (Phase.ResumingAt t) s) s }
 {
     let seat = s.seat;
     let place = seat.place;
@@ -159,7 +159,7 @@ pub fn step_resuming_at(t: u32, s: LatchSight) -> LatchEffect
 
 // One waiter less; after the mark a hand-over is on its way to it.
 pub fn step_aborting(t: u32, s: LatchSight) -> LatchEffect
-    ensures { result ≡ effect_of (stepIn (Phase.Aborting t) s) s }
+    ensures { result ≡ effect_of (step_in (Phase.Aborting t) s) s }
 {
     let figures = s.figures;
     let fewer = with_waiters(less_one(figures.waiters), figures);
@@ -170,7 +170,7 @@ pub fn step_aborting(t: u32, s: LatchSight) -> LatchEffect
 }
 
 pub fn step_cancelling(t: u32, s: LatchSight) -> LatchEffect
-    ensures { result ≡ effect_of (stepIn (Phase.Cancelling t) s) s }
+    ensures { result ≡ effect_of (step_in (Phase.Cancelling t) s) s }
 {
     let seat = s.seat;
     let place = seat.place;
@@ -189,7 +189,7 @@ pub fn step_cancelling(t: u32, s: LatchSight) -> LatchEffect
 }
 
 pub fn step_refusing(t: u32, s: LatchSight) -> LatchEffect
-    ensures { result ≡ effect_of (stepIn (Phase.Refusing t) s) s }
+    ensures { result ≡ effect_of (step_in (Phase.Refusing t) s) s }
 {
     let seat = s.seat;
     let place = seat.place;

@@ -1,8 +1,8 @@
 // The numbers in front of a record: K, n, the figures, and the first ticket that has a place.
 
 ghost use Rattle.std.specs.Prelude.{◌≡◌, length};
-ghost use Rattle.layout.specs.Read.{figuresIn, signed};
-ghost use Rattle.layout.specs.Written.{figureBytes};
+ghost use Rattle.layout.specs.Read.{figures_in, signed};
+ghost use Rattle.layout.specs.Written.{figure_bytes};
 
 use cells::number::{four_numbers, number_at, number_bytes, put_bytes_at};
 use encoding::signed::twos_complement;
@@ -21,7 +21,7 @@ fn signed(n: u32) -> i32
 
 pub(crate) fn figures_of(bytes: &[u8]) -> Figures
     requires { length bytes.now ≡ 1881 }
-    ensures { result ≡ figuresIn bytes.now }
+    ensures { result ≡ figures_in bytes.now }
 {
     let counter = signed(number_at(bytes, 2));
     let issued = number_at(bytes, 6);
@@ -36,7 +36,7 @@ pub(crate) fn figures_of(bytes: &[u8]) -> Figures
 }
 
 pub(crate) fn figure_bytes(hub: Hub) -> [u8; 22]
-    ensures { result ≡ figureBytes hub }
+    ensures { result ≡ figure_bytes hub }
 {
     let mut out = [0u8; 22];
     let figures = hub.control.figures;

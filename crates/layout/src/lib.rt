@@ -5,8 +5,8 @@ mod figures; // the numbers in front
 mod parties; // phases and marks
 
 ghost use Rattle.std.specs.Prelude.{◌≡◌, length};
-ghost use Rattle.layout.specs.Read.{recordIn};
-ghost use Rattle.layout.specs.Written.{recordBytes};
+ghost use Rattle.layout.specs.Read.{record_in};
+ghost use Rattle.layout.specs.Written.{record_bytes};
 
 use cells::cell::{place_bytes, places_at};
 use cells::number::{number_at, put_bytes_at, put_few};
@@ -17,7 +17,7 @@ use radiobytes::{opening_of, pool_of, radio_bytes};
 
 pub fn record_of(bytes: &[u8]) -> Hub
     requires { length bytes.now ≡ 1881 }
-    ensures { result ≡ recordIn bytes.now }
+    ensures { result ≡ record_in bytes.now }
 {
     let opening = opening_of(bytes);
     let figures = figures_of(bytes);
@@ -39,7 +39,7 @@ pub fn record_of(bytes: &[u8]) -> Hub
 }
 
 pub fn record_bytes(hub: Hub) -> [u8; 1881]
-    ensures { result ≡ recordBytes hub }
+    ensures { result ≡ record_bytes hub }
 {
     let mut out = [0u8; 1881];
     let figures = figure_bytes(hub);

@@ -1,8 +1,8 @@
 // The parties of a record: 32 cells, a phase and a ticket each, and 32 marks apart from them.
 
 ghost use Rattle.std.specs.Prelude.{◌<◌, ◌≡◌, length};
-ghost use Rattle.layout.specs.Read.{slotIn, slotsIn};
-ghost use Rattle.layout.specs.Written.{markBytes, phaseBytes};
+ghost use Rattle.layout.specs.Read.{slot_in, slots_in};
+ghost use Rattle.layout.specs.Written.{mark_bytes, phase_bytes};
 
 use cells::number::{number_at, put_cell};
 use cells::phase::{mark_of, marked, phase_name, phase_named};
@@ -12,7 +12,7 @@ use phases::ticket;
 
 fn slot_of(bytes: &[u8], p: usize) -> PartySlot
     requires { (length bytes.now ≡ 1881) × (p < 32) }
-    ensures { result ≡ slotIn bytes.now p }
+    ensures { result ≡ slot_in bytes.now p }
 {
     let name = bytes[1302 + 5 * p] % 14;
     let phase = phase_named(name, number_at(bytes, 1303 + 5 * p));
@@ -21,7 +21,7 @@ fn slot_of(bytes: &[u8], p: usize) -> PartySlot
 
 pub(crate) fn slots_of(bytes: &[u8]) -> [PartySlot; 32]
     requires { length bytes.now ≡ 1881 }
-    ensures { result ≡ slotsIn bytes.now }
+    ensures { result ≡ slots_in bytes.now }
 {
     let free = free_slot();
     let mut slots = [free; 32];
@@ -35,7 +35,7 @@ pub(crate) fn slots_of(bytes: &[u8]) -> [PartySlot; 32]
 
 fn put_phases(out: &mut [u8], slots: [PartySlot; 32])
     requires { length out.old ≡ 160 }
-    ensures { out.new ≡ phaseBytes slots }
+    ensures { out.new ≡ phase_bytes slots }
 {
     let mut p: usize = 0;
     while p < 32 {
@@ -49,7 +49,7 @@ fn put_phases(out: &mut [u8], slots: [PartySlot; 32])
 }
 
 pub(crate) fn phase_bytes(slots: [PartySlot; 32]) -> [u8; 160]
-    ensures { result ≡ phaseBytes slots }
+    ensures { result ≡ phase_bytes slots }
 {
     let mut out = [0u8; 160];
     put_phases(&mut out, slots);
@@ -57,7 +57,7 @@ pub(crate) fn phase_bytes(slots: [PartySlot; 32]) -> [u8; 160]
 }
 
 pub(crate) fn marks_of(slots: [PartySlot; 32]) -> [u8; 32]
-    ensures { result ≡ markBytes slots }
+    ensures { result ≡ mark_bytes slots }
 {
     let mut marks = [0u8; 32];
     let mut p: usize = 0;

@@ -6,20 +6,20 @@ use Rattle.hub.specs.Answers.{Printed, plain, printed}
 use Rattle.hub.specs.Basics.{count}
 use Rattle.hub.specs.Calls.{called}
 use Rattle.hub.specs.Opening.{fresh, nobody, opening}
-use Rattle.hub.specs.Phases.{holds, isWaiting}
-use Rattle.hub.specs.Record.{phasesOf}
+use Rattle.hub.specs.Phases.{holds, is_waiting}
+use Rattle.hub.specs.Record.{phases_of}
 use Rattle.hub.specs.Schedule.{Entry}
-use Rattle.encoding.specs.Form.{Form, asText, inForm}
-use Rattle.encoding.specs.Frame.{frame_of, twosComplement}
+use Rattle.encoding.specs.Form.{Form, as_text, in_form}
+use Rattle.encoding.specs.Frame.{frame_of, twos_complement}
 use Rattle.encoding.specs.Hex.{text_of}
-use Rattle.line.specs.Requests.{Request, malformed, toOpen, toCall, requestOf}
+use Rattle.line.specs.Requests.{Request, malformed, to_open, to_call, request_of}
 
 -- Before an opening there is no record; one with no permits stands for that.
 abbrev pub unopened : Hub
 unopened = fresh nobody
 
-abbrev pub isOpen : Hub → Bool
-isOpen h = leb 1 h.control.opening.permits
+abbrev pub is_open : Hub → Bool
+is_open h = leb 1 h.control.opening.permits
 
 -- What a line is answered.
 pub record Reply : Type 0 where
@@ -27,8 +27,8 @@ pub record Reply : Type 0 where
   pub answer : Printed
 
 -- What a bystander sees of a call, as it is replied.
-abbrev pub replyOf : Entry → Reply
-replyOf e = record { party = e.call.party; answer = e.answer }
+abbrev pub reply_of : Entry → Reply
+reply_of e = record { party = e.call.party; answer = e.answer }
 
 -- A reply, and the record that it leaves.
 pub record Response : Type 0 where
@@ -40,23 +40,23 @@ abbrev pub reported : ℕ → Outcome → Response
 reported p o = record { reply = record { party = p; answer = printed o.answer }; hub = o.hub }
 
 -- A line that is refused by c, for party p.
-abbrev pub turnedDown : ℕ → ℕ → Hub → Response
-turnedDown p c h = record { reply = record { party = p; answer = plain c }; hub = h }
+abbrev pub turned_down : ℕ → ℕ → Hub → Response
+turned_down p c h = record { reply = record { party = p; answer = plain c }; hub = h }
 
 -- On a hub that is open: 12, then 13, then the call's own.
-unfoldable pub whenOpen : Hub → Request → Response
-whenOpen h malformed = turnedDown 0xFF 12 h
-whenOpen h (toOpen o) = turnedDown 0xFF 13 h
-whenOpen h (toCall c) = reported c.party (called h c)
+unfoldable pub when_open : Hub → Request → Response
+when_open h malformed = turned_down 0xFF 12 h
+when_open h (to_open o) = turned_down 0xFF 13 h
+when_open h (to_call c) = reported c.party (called h c)
 
 -- Before an opening: 12, then 13, then the opening's own. A refused one makes no record.
-unfoldable pub beforeOpen : Request → Response
-beforeOpen malformed = turnedDown 0xFF 12 unopened
-beforeOpen (toCall c) = turnedDown c.party 13 unopened
-beforeOpen (toOpen o) = reported 0xFF (opening o)
+unfoldable pub before_open : Request → Response
+before_open malformed = turned_down 0xFF 12 unopened
+before_open (to_call c) = turned_down c.party 13 unopened
+before_open (to_open o) = reported 0xFF (opening o)
 
 unfoldable pub respond : Hub → Request → Response
-respond h r = cond (isOpen h) (whenOpen h r) (beforeOpen r)
+respond h r = cond (is_open h) (when_open h r) (before_open r)
 
 -- The replies to requests from a record on, and the record that they leave.
 unfoldable pub replies : Hub → List Request → List Reply
@@ -68,24 +68,24 @@ after h [] = h
 after h (r ∷ rs) = after (respond h r).hub rs
 
 -- Replies as they are written, in a form.
-abbrev pub replyIn : Form → Reply → List ℕ
-replyIn form r = inForm form (frame_of r.party r.answer)
+abbrev pub reply_in : Form → Reply → List ℕ
+reply_in form r = in_form form (frame_of r.party r.answer)
 
 unfoldable pub rendered : Form → List Reply → List ℕ
 rendered form [] = []
-rendered form (r ∷ rs) = replyIn form r ++ rendered form rs
+rendered form (r ∷ rs) = reply_in form r ++ rendered form rs
 
-abbrev pub repliesIn : Form → Hub → List Request → List ℕ
-repliesIn form h rs = rendered form (replies h rs)
+abbrev pub replies_in : Form → Hub → List Request → List ℕ
+replies_in form h rs = rendered form (replies h rs)
 
 -- What follows the last end mark: a line left without its own counts, but nothing is no line.
-abbrev pub leftOver : List ℕ → List (List ℕ)
-leftOver [] = []
-leftOver (x ∷ l) = (x ∷ l) ∷ []
+abbrev pub left_over : List ℕ → List (List ℕ)
+left_over [] = []
+left_over (x ∷ l) = (x ∷ l) ∷ []
 
 -- The lines of an input, of which l is what is read of the first. A line ends with 0A.
 unfoldable pub lines_from : List ℕ → List ℕ → List (List ℕ)
-lines_from l [] = leftOver l
+lines_from l [] = left_over l
 lines_from l (c ∷ cs) = cond (eqb c 0x0A) (l ∷ lines_from [] cs) (lines_from (l ++ (c ∷ [])) cs)
 
 abbrev pub lines_of : List ℕ → List (List ℕ)
@@ -95,13 +95,13 @@ lines_of = lines_from []
 -- counter in two's complement.
 abbrev pub closing : Hub → List ℕ
 closing h =
-    let phases = phasesOf h.slots in
+    let phases = phases_of h.slots in
     text_of
     (frame_of (count holds phases)
-    (record { code = 0x7E; woken = count isWaiting phases; number = twosComplement h.control.figures.counter }))
+    (record { code = 0x7E; woken = count is_waiting phases; number = twos_complement h.control.figures.counter }))
 
 -- The whole output.
-unfoldable pub outputOf : List ℕ → List ℕ
-outputOf input =
-    let rs = map requestOf (lines_of input) in
-    repliesIn asText unopened rs ++ closing (after unopened rs)
+unfoldable pub output_of : List ℕ → List ℕ
+output_of input =
+    let rs = map request_of (lines_of input) in
+    replies_in as_text unopened rs ++ closing (after unopened rs)

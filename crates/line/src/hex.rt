@@ -1,11 +1,11 @@
 // Hexadecimal digits: either case of letter is read, capitals are written.
 
 ghost use Rattle.std.specs.Prelude.{◌≡◌, ◌≤◌};
-ghost use Rattle.encoding.specs.Hex.{byte_of, digitOf};
+ghost use Rattle.encoding.specs.Hex.{byte_of, digit_of};
 
 // The value of a digit; 16 for a character that is none.
 fn digit(c: u8) -> u8
-    ensures value { result ≡ digitOf c }
+    ensures value { result ≡ digit_of c }
     ensures small { result ≤ 16 }
 {
     if c < 0x30 {

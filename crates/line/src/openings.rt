@@ -2,14 +2,14 @@
 
 ghost use Rattle.std.specs.Prelude.{◌≡◌, true};
 ghost use Rattle.hub.specs.Radios.{padded};
-ghost use Rattle.line.specs.Requests.{frameSize, givenKinds, isOpening, requested, toOpen};
+ghost use Rattle.line.specs.Requests.{frame_size, given_kinds, is_opening, requested, to_open};
 
 use hub::opening::Opening;
 use openhub::kinds::built_in;
 
 // How many bytes an opening of this code has without kinds; 0 for a code that is none.
 fn frame_size(code: u8, permits: u8) -> usize
-    ensures { result ≡ frameSize code permits }
+    ensures { result ≡ frame_size code permits }
 {
     if code == 0x01 {
         return 3;
@@ -21,7 +21,7 @@ fn frame_size(code: u8, permits: u8) -> usize
 }
 
 pub fn is_opening_frame(bytes: &[u8]) -> bool
-    ensures { result ≡ isOpening (requested bytes.now) }
+    ensures { result ≡ is_opening (requested bytes.now) }
 {
     if bytes.len() < 3 {
         return false;
@@ -48,7 +48,7 @@ fn padded(part: &[u8]) -> [u8; 32]
 
 // An opening that is given kinds, those that are here.
 fn given_kinds(kinds: &[u8], o: Opening) -> Opening
-    ensures { result ≡ givenKinds kinds.now o }
+    ensures { result ≡ given_kinds kinds.now o }
 {
     if kinds.len() == 0 {
         return o;
@@ -68,8 +68,8 @@ fn given_kinds(kinds: &[u8], o: Opening) -> Opening
 
 // What a frame that is an opening asks for.
 pub fn opening_in(bytes: &[u8]) -> Opening
-    requires { isOpening (requested bytes.now) ≡ true }
-    ensures { toOpen result ≡ requested bytes.now }
+    requires { is_opening (requested bytes.now) ≡ true }
+    ensures { to_open result ≡ requested bytes.now }
 {
     let code = bytes[0];
     let permits = bytes[1];

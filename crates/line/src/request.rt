@@ -1,7 +1,7 @@
 // What a line asks. Refusal 12 is for every line that is neither a call nor an opening.
 
 ghost use Rattle.std.specs.Prelude.{◌≡◌, true, ◌≤◌, length, take};
-ghost use Rattle.line.specs.Requests.{headerOf, isOpening, malformed, requestOf, spelledBy, toOpen};
+ghost use Rattle.line.specs.Requests.{header_of, is_opening, malformed, request_of, spelled_by, to_open};
 
 use crate::hex::hex_byte;
 use crate::openings::{is_opening_frame, opening_in};
@@ -22,7 +22,7 @@ pub const MALFORMED: u8 = 0x00; // a line that asks nothing
 pub const OPENING: u8 = 0x01; // an opening, whatever it asks for
 
 pub(crate) fn malformed() -> Header
-    ensures { result ≡ headerOf malformed }
+    ensures { result ≡ header_of malformed }
 {
     Header {
         code: MALFORMED,
@@ -33,7 +33,7 @@ pub(crate) fn malformed() -> Header
 // A line of four characters: a call, or malformed.
 fn call_in(line: &[u8]) -> Header
     requires { length line.now ≡ 4 }
-    ensures { result ≡ headerOf (requestOf line.now) }
+    ensures { result ≡ header_of (request_of line.now) }
 {
     let code = hex_byte(line);
     if code < 0x10 {
@@ -55,8 +55,8 @@ fn call_in(line: &[u8]) -> Header
 // The bytes that a line spells, and how many; none if it is unreadable.
 fn decode(line: &[u8], bytes: &mut [u8]) -> usize
     requires { length bytes.old ≡ 80 }
-    ensures value { (result ≡ length (spelledBy line.now))
-        × (take result bytes.new ≡ spelledBy line.now) }
+    ensures value { (result ≡ length (spelled_by line.now))
+        × (take result bytes.new ≡ spelled_by line.now) }
     ensures small { result ≤ 80 }
 {
     if LONGEST < line.len() {
@@ -81,7 +81,7 @@ fn decode(line: &[u8], bytes: &mut [u8]) -> usize
 
 // A line is an opening if its bytes are the frame of one.
 fn is_opening(line: &[u8]) -> bool
-    ensures { result ≡ isOpening (requestOf line.now) }
+    ensures { result ≡ is_opening (request_of line.now) }
 {
     let mut bytes = [0u8; 80];
     let total = decode(line, &mut bytes);
@@ -90,8 +90,8 @@ fn is_opening(line: &[u8]) -> bool
 
 // What a line that is an opening asks for.
 pub fn read_opening(line: &[u8]) -> Opening
-    requires { isOpening (requestOf line.now) ≡ true }
-    ensures { toOpen result ≡ requestOf line.now }
+    requires { is_opening (request_of line.now) ≡ true }
+    ensures { to_open result ≡ request_of line.now }
 {
     let mut bytes = [0u8; 80];
     let total = decode(line, &mut bytes);
@@ -100,7 +100,7 @@ pub fn read_opening(line: &[u8]) -> Opening
 
 // A line of four characters may be a call, and no other.
 pub fn read_header(line: &[u8]) -> Header
-    ensures { result ≡ headerOf (requestOf line.now) }
+    ensures { result ≡ header_of (request_of line.now) }
 {
     if line.len() == 4 {
         return call_in(line);

@@ -2,7 +2,7 @@
 
 ghost use Rattle.std.specs.Prelude.{◌≡◌, [], ◌∷◌};
 ghost use Rattle.encoding.specs.Hex.{byte_of};
-ghost use Rattle.line.specs.Requests.{headerOf, requestOf};
+ghost use Rattle.line.specs.Requests.{header_of, request_of};
 ghost use Rattle.encoding.specs.Tables.{Values};
 
 use crate::request::{Header, malformed};
@@ -49,7 +49,7 @@ fn byte_by(values: &[u16; 256], a: u8, b: u8) -> u32
 // What a line of these four characters asks: a call, or nothing.
 pub fn call_by(values: &[u16; 256], a: u8, b: u8, c: u8, d: u8) -> Header
     requires { Values values.now }
-    ensures { result ≡ headerOf (requestOf (a ∷ b ∷ c ∷ d ∷ [])) }
+    ensures { result ≡ header_of (request_of (a ∷ b ∷ c ∷ d ∷ [])) }
 {
     let code = byte_by(values, a, b);
     if code < 0x10 {

@@ -1,7 +1,7 @@
 // The kind of each party: the built-in table, and what is asked of a house's own.
 
 ghost use Rattle.std.specs.Prelude.{◌≡◌};
-ghost use Rattle.hub.specs.Kinds.{builtIn, hasDesk, kindIn, kindsKnown};
+ghost use Rattle.hub.specs.Kinds.{built_in, has_desk, kind_in, kinds_known};
 
 // 0 desk, 1 door, 2 replacement, 3 battery round.
 const KINDS: [u8; 32] = [
@@ -9,14 +9,14 @@ const KINDS: [u8; 32] = [
 ];
 
 pub fn built_in() -> [u8; 32]
-    ensures { result ≡ builtIn }
+    ensures { result ≡ built_in }
 {
     KINDS
 }
 
 // The kind of a party; past the table, a desk.
 pub fn kind_in(kinds: [u8; 32], party: u8) -> u8
-    ensures { result ≡ kindIn kinds party }
+    ensures { result ≡ kind_in kinds party }
 {
     let p = party as usize;
     if p < 32 {
@@ -27,7 +27,7 @@ pub fn kind_in(kinds: [u8; 32], party: u8) -> u8
 
 // Is none above 3? Every one is asked, so that the compiler asks many at once.
 pub fn kinds_known(kinds: [u8; 32]) -> bool
-    ensures { result ≡ kindsKnown kinds }
+    ensures { result ≡ kinds_known kinds }
 {
     let mut known = true;
     let mut i: usize = 0;
@@ -43,7 +43,7 @@ pub fn kinds_known(kinds: [u8; 32]) -> bool
 
 // Is one of them 0?
 pub fn has_desk(kinds: [u8; 32]) -> bool
-    ensures { result ≡ hasDesk kinds }
+    ensures { result ≡ has_desk kinds }
 {
     let mut found = false;
     let mut i: usize = 0;

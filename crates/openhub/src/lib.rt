@@ -4,9 +4,9 @@ pub mod kinds; // the kind of each party
 
 ghost use Rattle.std.specs.Prelude.{◌≡◌, ◌≤◌, ◌<◌, take};
 ghost use Rattle.hub.specs.Answers.{printed};
-ghost use Rattle.hub.specs.Basics.{upTo32};
-ghost use Rattle.hub.specs.Fits.{kindsFit};
-ghost use Rattle.hub.specs.Opening.{kindTests, notOpened, opening, openingIf, radiosDiffer, sized};
+ghost use Rattle.hub.specs.Basics.{up_to32};
+ghost use Rattle.hub.specs.Fits.{kinds_fit};
+ghost use Rattle.hub.specs.Opening.{kind_tests, not_opened, opening, opening_if, radios_differ, sized};
 ghost use Rattle.hub.specs.Radios.{differ};
 
 use hub::answers::{Answer, Refusal};
@@ -30,7 +30,7 @@ pub fn sized(permits: u8, parties: u8) -> Opening
 
 // A refused opening makes no record: what it hands back is one that refuses every call.
 fn refused(why: Refusal) -> Outcome
-    ensures { result ≡ notOpened why }
+    ensures { result ≡ not_opened why }
 {
     Outcome {
         answer: Answer::Refused(why),
@@ -40,7 +40,7 @@ fn refused(why: Refusal) -> Outcome
 
 // 1 to 32, as K and n are.
 pub fn up_to_32(n: u8) -> bool
-    ensures { result ≡ upTo32 n }
+    ensures { result ≡ up_to32 n }
 {
     if n < 1 {
         return false;
@@ -76,7 +76,7 @@ fn differ(radios: [u8; 32], count: usize) -> bool
 // Are no two radios of an opening alike?
 pub fn radios_differ(o: Opening) -> bool
     requires { o.permits ≤ 32 }
-    ensures { result ≡ radiosDiffer o }
+    ensures { result ≡ radios_differ o }
 {
     if !o.named {
         return true;
@@ -87,7 +87,7 @@ pub fn radios_differ(o: Opening) -> bool
 
 // What the kinds of an opening are answered: 15, 16, 17, or that it is opened.
 fn kinds_answer(o: Opening) -> Answer
-    ensures { result ≡ (openingIf (kindTests o) o).answer }
+    ensures { result ≡ (opening_if (kind_tests o) o).answer }
 {
     if !o.counted {
         return Answer::Refused(Refusal::MiscountedKinds);
@@ -104,7 +104,7 @@ fn kinds_answer(o: Opening) -> Answer
 
 // Do the kinds of a record fit?
 pub fn kinds_fit(o: Opening) -> bool
-    ensures { result ≡ kindsFit o }
+    ensures { result ≡ kinds_fit o }
 {
     if !o.counted {
         return false;

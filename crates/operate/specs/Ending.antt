@@ -2,11 +2,11 @@
 use Rattle.std.specs.Prelude.{List, ℕ}
 use Rattle.hub.specs.declared.record.Outcome.{Outcome}
 use Rattle.line.specs.Requests.{Request}
-use Rattle.run.specs.Run.{Ended, endFramed, endFrom}
-use Rattle.perform.specs.Bytes.{answersWritten, isOperationCode}
+use Rattle.run.specs.Run.{Ended, end_framed, end_from}
+use Rattle.perform.specs.Bytes.{answers_written, is_operation_code}
 
-abbrev pub operatedFrom : Outcome → List ℕ → List ℕ → Ended
-operatedFrom = endFrom isOperationCode 3 answersWritten
+abbrev pub operated_from : Outcome → List ℕ → List ℕ → Ended
+operated_from = end_from is_operation_code 3 answers_written
 
-abbrev pub operatedFramed : Request → List ℕ → List ℕ → Ended
-operatedFramed = endFramed operatedFrom
+abbrev pub operated_framed : Request → List ℕ → List ℕ → Ended
+operated_framed = end_framed operated_from

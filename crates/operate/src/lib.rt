@@ -2,9 +2,9 @@
 
 ghost use Rattle.std.specs.Prelude.{◌≡◌};
 ghost use Rattle.line.specs.Requests.{requested};
-ghost use Rattle.perform.specs.Bytes.{isOperationCode};
-ghost use Rattle.run.specs.Bytes.{wellFormed};
-ghost use Rattle.operate.specs.Ending.{operatedFramed};
+ghost use Rattle.perform.specs.Bytes.{is_operation_code};
+ghost use Rattle.run.specs.Bytes.{well_formed};
+ghost use Rattle.operate.specs.Ending.{operated_framed};
 
 use encoding::answer::print_of;
 use line::openings::{is_opening_frame, opening_in};
@@ -12,7 +12,7 @@ use openhub::open_hub;
 use perform::perform_operations;
 
 fn is_operation(code: u8) -> bool
-    ensures { result ≡ isOperationCode code }
+    ensures { result ≡ is_operation_code code }
 {
     if code == 0x10 {
         return true;
@@ -25,7 +25,7 @@ fn is_operation(code: u8) -> bool
 
 // Is each pair of bytes an operation?
 fn well_formed(operations: &[u8]) -> bool
-    ensures { result ≡ wellFormed isOperationCode operations.now }
+    ensures { result ≡ well_formed is_operation_code operations.now }
 {
     let total = operations.len() / 2;
     if operations.len() % 2 == 1 {
@@ -46,9 +46,9 @@ fn well_formed(operations: &[u8]) -> bool
 #[unsafe(no_mangle)]
 pub extern "C" fn hub_operate(opening: &[u8], operations: &[u8], out: &mut [u8]) -> u8
     ensures { (result
-        ≡ (operatedFramed (requested opening.now) operations.now out.old).result)
+        ≡ (operated_framed (requested opening.now) operations.now out.old).result)
         × (out.new
-        ≡ (operatedFramed (requested opening.now) operations.now out.old).out) }
+        ≡ (operated_framed (requested opening.now) operations.now out.old).out) }
 {
     if !is_opening_frame(opening) {
         return 12;

@@ -22,17 +22,17 @@ use Rattle.hub.specs.declared.record.Place.TheVariants.{Empty, Waiting as Waited
 use Rattle.hub.specs.declared.record.Place.TheVariants.{Cancelled, Refused, Done}
 use Rattle.hub.specs.declared.record.PlaceSlot.{PlaceSlot}
 use Rattle.hub.specs.Basics.{bit, count, weight}
-use Rattle.hub.specs.Calls.{apply, called, placed, ringOf, tidied}
+use Rattle.hub.specs.Calls.{apply, called, placed, ring_of, tidied}
 use Rattle.hub.specs.Calm.{rests}
 use Rattle.hub.specs.Demand3.{ReachedFits}
 use Rattle.hub.specs.Fits.{fits}
-use Rattle.hub.specs.Ledger.{phaseIn}
+use Rattle.hub.specs.Ledger.{phase_in}
 use Rattle.hub.specs.Moves.{Move, Refuse, Tell, Act, Put, Wake}
 use Rattle.hub.specs.Opening.{fresh, opening}
-use Rattle.hub.specs.Phases.{RESTING, atRest, hasRadio, isCancelled, isDone, isHolding, isOneOf, isPlaceOf, isWaiting, ticketOf}
+use Rattle.hub.specs.Phases.{RESTING, at_rest, has_radio, is_cancelled, is_done, is_holding, is_one_of, is_place_of, is_waiting, ticket_of}
 use Rattle.hub.specs.Queue.{Queue, phases, places}
-use Rattle.hub.specs.Record.{phasesOf, places_of, read_slot}
-use Rattle.hub.specs.Ring.{PLACES, read_place, writeSeat}
+use Rattle.hub.specs.Record.{phases_of, places_of, read_slot}
+use Rattle.hub.specs.Ring.{PLACES, read_place, write_seat}
 use Rattle.hub.specs.Schedule.{run}
 use Rattle.hub.proofs.Demand3.{every-record-fits, ring-count, schedule, start}
 use Rattle.hub.proofs.Invariant.Held.{held-most}
@@ -40,11 +40,11 @@ use Rattle.hub.proofs.Invariant.Keep.{Inv, permits}
 use Rattle.hub.proofs.Invariant.Rest.{Settled, idle, no-permits, rest-settled, standing}
 use Rattle.hub.proofs.Invariant.Tickets.{mine, resumed-most}
 use Rattle.hub.proofs.Invariant.Weights.{down, hand, holding, least, live, lt-le, lt_no, lt_yes, most, one}
-use Rattle.hub.proofs.Invariant.Weights.{own, permitCell, pick, refusedCell, refusing, resuming, same}
+use Rattle.hub.proofs.Invariant.Weights.{own, permit_cell, pick, refused_cell, refusing, resuming, same}
 use Rattle.hub.proofs.Invariant.Weights.{same-eq, same_self, served, spent, stage, stage-own, stand-own}
-use Rattle.hub.proofs.Invariant.Weights.{TICKETS, cellSum, sum, suspending, up}
+use Rattle.hub.proofs.Invariant.Weights.{TICKETS, cell_sum, sum, suspending, up}
 use Rattle.hub.proofs.Laws.Lists.{weight-le, weight-one, weight-scale}
-use Rattle.hub.proofs.Laws.Phases.{by-ticket, each_of, ticketed, waiterOf}
+use Rattle.hub.proofs.Laws.Phases.{by-ticket, each_of, ticketed, waiter_of}
 use Rattle.hub.proofs.Laws.Seats.{fresh-seat, read_mapped, written-size}
 use Rattle.hub.proofs.Window.Tracked.{has-place, high, low}
 use Rattle.hub.proofs.Window.Shown.{Reached, tracked, read_same}
@@ -53,16 +53,16 @@ use Rattle.operations.proofs.Rest.{AtRest}
 use Rattle.operations.proofs.Ring.{Tidy, reclaimed-tidy}
 
 -- Every record reached is tidy: an opening is, and whatever is not left as it was ends with the tidying.
-module _ (h : Hub) (s : Sight) (e : Tidy (ringOf h)) where
+module _ (h : Hub) (s : Sight) (e : Tidy (ring_of h)) where
   placed-size : (f : Phase) (a : PlaceSlot) → length (placed h f a).places ≡ PLACES
   placed-size f a =
-      ap length (by-ticket h.places (λ t. writeSeat h.places t a) f) ∙ go (ticketed f)
+      ap length (by-ticket h.places (λ t. write_seat h.places t a) f) ∙ go (ticketed f)
     where
-      go : (b : Bool) → length (cond b (writeSeat h.places (ticketOf f) a) h.places) ≡ PLACES
-      go true = written-size h.places e.size (ticketOf f) a
+      go : (b : Bool) → length (cond b (write_seat h.places (ticket_of f) a) h.places) ≡ PLACES
+      go true = written-size h.places e.size (ticket_of f) a
       go false = e.size
 
-  applied-tidy : (m : Move) → Tidy (ringOf (apply h s m))
+  applied-tidy : (m : Move) → Tidy (ring_of (apply h s m))
   unfolding apply tidied
   applied-tidy (Refuse r) = e
   applied-tidy (Tell y) = e
@@ -70,18 +70,18 @@ module _ (h : Hub) (s : Sight) (e : Tidy (ringOf h)) where
   applied-tidy (Put a c) = reclaimed-tidy _ (placed-size s.slot.phase a)
   applied-tidy (Wake q x a c) = reclaimed-tidy _ (placed-size s.slot.phase a)
 
-run-tidy : (h : Hub) (cs : List Call) → Tidy (ringOf h) → Tidy (ringOf (run h cs))
+run-tidy : (h : Hub) (cs : List Call) → Tidy (ring_of h) → Tidy (ring_of (run h cs))
 unfolding run
 run-tidy h [] e = e
 run-tidy h (c ∷ cs) e = run-tidy (called h c).hub cs (applied-tidy h _ e _)
 
-fresh-tidy : (o : Opening) → Tidy (ringOf (fresh o))
-unfolding fresh isPlaceOf
+fresh-tidy : (o : Opening) → Tidy (ring_of (fresh o))
+unfolding fresh is_place_of
 fresh-tidy o =
     record {
       size = refl;
-      unskipped = ap (λ (s : PlaceSlot). isCancelled s.place) (fresh-seat 0);
-      unretired = ap (λ (s : PlaceSlot). isDone s.place) (fresh-seat 0);
+      unskipped = ap (λ (s : PlaceSlot). is_cancelled s.place) (fresh-seat 0);
+      unretired = ap (λ (s : PlaceSlot). is_done s.place) (fresh-seat 0);
     }
 
 -- Calls after calls.
@@ -115,18 +115,18 @@ module _ {A : Type 0} (f : A → ℕ) (d : A) where
 
 -- What holds of each of the three phases at rest.
 pub resting : (P : Phase → Type 0) → P Free → P Holding → ((t : ℕ) → P (Waiting t))
-    → (f : Phase) → atRest f ≡ true → P f
+    → (f : Phase) → at_rest f ≡ true → P f
 resting P a b c = each_of P RESTING (λ t. (a, (b, (c t, tt))))
 
 -- Whoever owns a ticket and is at rest waits with it.
-owner-waits : (t : ℕ) (f : Phase) → atRest f ≡ true → 1 ≤ own t f → f ≡ Waiting t
-unfolding pick isOneOf
+owner-waits : (t : ℕ) (f : Phase) → at_rest f ≡ true → 1 ≤ own t f → f ≡ Waiting t
+unfolding pick is_one_of
 owner-waits t =
     resting (λ f. 1 ≤ own t f → f ≡ Waiting t) (λ i. (let z : ⊥ = omega arith in absurd z))
     (λ i. (let z : ⊥ = omega arith in absurd z)) (λ u i. ap Waiting (same-eq u t (omega arith)))
 
 -- What a cell has to be.
-waited-cell : (a : Place) → 3 ≤ most a → a ≡ WaitedBy (waiterOf a)
+waited-cell : (a : Place) → 3 ≤ most a → a ≡ WaitedBy (waiter_of a)
 waited-cell Empty i = let z : ⊥ = omega arith in absurd z
 waited-cell (WaitedBy q) i = refl
 waited-cell Permit i = let z : ⊥ = omega arith in absurd z
@@ -135,7 +135,7 @@ waited-cell Refused i = let z : ⊥ = omega arith in absurd z
 waited-cell Done i = let z : ⊥ = omega arith in absurd z
 
 empty-cell : (a : Place) → spent a + served a + least a ≡ 0 → a ≡ Empty
-unfolding isPlaceOf
+unfolding is_place_of
 empty-cell Empty i = refl
 empty-cell (WaitedBy q) i = let z : ⊥ = omega arith in absurd z
 empty-cell Permit i = let z : ⊥ = omega arith in absurd z
@@ -143,8 +143,8 @@ empty-cell Cancelled i = let z : ⊥ = omega arith in absurd z
 empty-cell Refused i = let z : ⊥ = omega arith in absurd z
 empty-cell Done i = let z : ⊥ = omega arith in absurd z
 
-done-cell : (a : Place) → 1 ≤ served a → permitCell a ≡ 0 → a ≡ Done
-unfolding isPlaceOf
+done-cell : (a : Place) → 1 ≤ served a → permit_cell a ≡ 0 → a ≡ Done
+unfolding is_place_of
 done-cell Empty i j = let z : ⊥ = omega arith in absurd z
 done-cell (WaitedBy q) i j = let z : ⊥ = omega arith in absurd z
 done-cell Permit i j = let z : ⊥ = omega arith in absurd z
@@ -152,8 +152,8 @@ done-cell Cancelled i j = let z : ⊥ = omega arith in absurd z
 done-cell Refused i j = let z : ⊥ = omega arith in absurd z
 done-cell Done i j = refl
 
-cancelled-cell : (a : Place) → 1 ≤ spent a → served a ≡ 0 → refusedCell a ≡ 0 → a ≡ Cancelled
-unfolding isPlaceOf
+cancelled-cell : (a : Place) → 1 ≤ spent a → served a ≡ 0 → refused_cell a ≡ 0 → a ≡ Cancelled
+unfolding is_place_of
 cancelled-cell Empty i j k = let z : ⊥ = omega arith in absurd z
 cancelled-cell (WaitedBy q) i j k = let z : ⊥ = omega arith in absurd z
 cancelled-cell Permit i j k = let z : ⊥ = omega arith in absurd z
@@ -161,7 +161,7 @@ cancelled-cell Cancelled i j k = refl
 cancelled-cell Refused i j k = let z : ⊥ = omega arith in absurd z
 cancelled-cell Done i j k = let z : ⊥ = omega arith in absurd z
 
-module _ (k : ℕ) (h : Hub) (m : Queue) (r : Reached k h m) (tidy : Tidy (ringOf h))
+module _ (k : ℕ) (h : Hub) (m : Queue) (r : Reached k h m) (tidy : Tidy (ring_of h))
     (calm : (p : ℕ) → rests h p ≡ true) where
   abbrev inv : Inv k m
   inv = r.tracks.inv
@@ -172,11 +172,11 @@ module _ (k : ℕ) (h : Hub) (m : Queue) (r : Reached k h m) (tidy : Tidy (ringO
   abbrev resumed : ℕ
   resumed = m.figures.resumed
 
-  at-ease : (p : ℕ) → atRest (phaseIn (phases m) p) ≡ true
-  at-ease p = ap atRest (sym (read_same k h m r.tracks p)) ∙ calm p
+  at-ease : (p : ℕ) → at_rest (phase_in (phases m) p) ≡ true
+  at-ease p = ap at_rest (sym (read_same k h m r.tracks p)) ∙ calm p
 
   rest : Settled (phases m)
-  rest p = rest-settled (phaseIn (phases m) p) (at-ease p)
+  rest p = rest-settled (phase_in (phases m) p) (at-ease p)
 
   -- the figures of both
   fig : {A : Type 0} (w : Figures → A) → w h.control.figures ≡ w m.figures
@@ -195,14 +195,14 @@ module _ (k : ℕ) (h : Hub) (m : Queue) (r : Reached k h m) (tidy : Tidy (ringO
   no-hands : (t : ℕ) → sum (hand t) m ≡ 0
   no-hands t = idle inv.tickets rest (ResumingAt 0 ∷ []) (λ u. same u t) refl
 
-  permits-none : cellSum permitCell m ≡ 0
+  permits-none : cell_sum permit_cell m ≡ 0
   permits-none = no-permits inv.tickets rest
 
   -- Nor was one refused that is still to come.
-  refused_none : cellSum refusedCell m ≡ 0
+  refused_none : cell_sum refused_cell m ≡ 0
   refused_none = go m.figures.counter refl
     where
-      go : (c : ℤ) → m.figures.counter ≡ c → cellSum refusedCell m ≡ 0
+      go : (c : ℤ) → m.figures.counter ≡ c → cell_sum refused_cell m ≡ 0
       go (pos n) e =
           omega (
             arith,
@@ -234,7 +234,7 @@ module _ (k : ℕ) (h : Hub) (m : Queue) (r : Reached k h m) (tidy : Tidy (ringO
   drawn = omega (arith, resumed-most inv.tickets, no-suspending)
 
   -- So no place holds or refuses one.
-  no_place : (w : Place → ℕ) → w Empty ≡ 0 → w Done ≡ 0 → cellSum w m ≡ 0 → (t : ℕ)
+  no_place : (w : Place → ℕ) → w Empty ≡ 0 → w Done ≡ 0 → cell_sum w m ≡ 0 → (t : ℕ)
       → h.control.oldest ≤ t → t < h.control.oldest + PLACES → w (places m t) ≡ 0
   no_place w x y z t a b =
       omega (
@@ -252,7 +252,7 @@ module _ (k : ℕ) (h : Hub) (m : Queue) (r : Reached k h m) (tidy : Tidy (ringO
       ap (λ (s : PlaceSlot). s.place) (sym (r.tracks.shows.window.within t i j)) ∙ e
 
   oldest : h.control.oldest ≡ resumed
-  unfolding isPlaceOf
+  unfolding is_place_of
   oldest = go (dec_le resumed h.control.oldest)
     where
       go : Dec (resumed ≤ h.control.oldest) → h.control.oldest ≡ resumed
@@ -265,15 +265,15 @@ module _ (k : ℕ) (h : Hub) (m : Queue) (r : Reached k h m) (tidy : Tidy (ringO
             no-hands h.control.oldest,
             lt_yes h.control.oldest resumed (omega arith),
           ))
-          (no_place permitCell refl refl permits-none h.control.oldest (omega arith) (omega arith)) in
+          (no_place permit_cell refl refl permits-none h.control.oldest (omega arith) (omega arith)) in
           let y : true ≡ false =
-          sym (ap isDone (place-cell h.control.oldest Done (omega arith) (omega arith) c)) ∙ tidy.unretired in
+          sym (ap is_done (place-cell h.control.oldest Done (omega arith) (omega arith) c)) ∙ tidy.unretired in
           let z : ◌≡◌ {A = ℕ} 0 1 = cc in let w : ⊥ = omega arith in absurd w
 
   -- The party that waits with ticket t, and its place.
-  waits : (p t : ℕ) → phaseIn (phases m) p ≡ Waiting t
+  waits : (p t : ℕ) → phase_in (phases m) p ≡ Waiting t
       → (places m t ≡ WaitedBy p) × (resumed ≤ t) × (t < issued) × (h.control.oldest ≤ t) × (t < h.control.oldest + PLACES)
-  unfolding pick isOneOf
+  unfolding pick is_one_of
   waits p t e = (
     cell ∙ ap WaitedBy same-party,
     standing inv.tickets rest p t e,
@@ -282,7 +282,7 @@ module _ (k : ℕ) (h : Hub) (m : Queue) (r : Reached k h m) (tidy : Tidy (ringO
     place.1,
   )
     where
-      owns : 1 ≤ own t (phaseIn (phases m) p)
+      owns : 1 ≤ own t (phase_in (phases m) p)
       owns = omega (arith, ap (own t) e, same_self t)
 
       stood : (weight (stage t) (phases m) ≡ stage t (Waiting t)) × (t < issued) × (t < TICKETS)
@@ -292,7 +292,7 @@ module _ (k : ℕ) (h : Hub) (m : Queue) (r : Reached k h m) (tidy : Tidy (ringO
       place = has-place (tracked r.tracks) p t (omega (arith, owns))
 
       q : ℕ
-      q = waiterOf (places m t)
+      q = waiter_of (places m t)
 
       cell : places m t ≡ WaitedBy q
       cell = waited-cell (places m t) (omega (arith, stood.0, same_self t, (inv.tickets.at t).high))
@@ -301,26 +301,26 @@ module _ (k : ℕ) (h : Hub) (m : Queue) (r : Reached k h m) (tidy : Tidy (ringO
       same-party =
           weight-only (own t) Free refl (phases m) q p
           (omega (arith, (inv.tickets.at t).owned, lt-le t issued))
-          (omega (arith, inv.tickets.named t q cell, stand-own t (phaseIn (phases m) q))) owns
+          (omega (arith, inv.tickets.named t q cell, stand-own t (phase_in (phases m) q))) owns
 
   -- A ticket of the line has an owner, who waits, or is cancelled.
   line : (t : ℕ) → resumed ≤ t → t < issued
-      → (places m t ≡ Cancelled) ⊎ ((p : ℕ) × (phaseIn (phases m) p ≡ Waiting t))
+      → (places m t ≡ Cancelled) ⊎ ((p : ℕ) × (phase_in (phases m) p ≡ Waiting t))
   line t a b = go (dec_le 1 (sum (own t) m))
     where
       below : t < h.control.oldest + PLACES
       below = omega (arith, high (tracked r.tracks))
 
       go : Dec (1 ≤ sum (own t) m)
-          → (places m t ≡ Cancelled) ⊎ ((p : ℕ) × (phaseIn (phases m) p ≡ Waiting t))
+          → (places m t ≡ Cancelled) ⊎ ((p : ℕ) × (phase_in (phases m) p ≡ Waiting t))
       go (yes i) =
           let p = weight-some (own t) Free (phases m) i in
-          inr (p.0, owner-waits t (phaseIn (phases m) p.0) (at-ease p.0) p.1)
+          inr (p.0, owner-waits t (phase_in (phases m) p.0) (at-ease p.0) p.1)
       go (no i) =
           inl (cancelled-cell (places m t)
           (omega (arith, (inv.tickets.at t).owned, lt_yes t issued b))
           (omega (arith, (inv.tickets.at t).handed, lt_no t resumed a))
-          (unfold isPlaceOf in no_place refusedCell refl refl refused_none t (omega (arith, oldest)) below))
+          (unfold is_place_of in no_place refused_cell refl refl refused_none t (omega (arith, oldest)) below))
 
   spare : places m issued ≡ Empty
   spare =
@@ -333,38 +333,38 @@ module _ (k : ℕ) (h : Hub) (m : Queue) (r : Reached k h m) (tidy : Tidy (ringO
         lt_no issued issued (omega arith),
         lt_no issued resumed drawn,
         weight-scale 1 3 (stage issued) (own issued) Free (phases m)
-            (λ j i. omega (arith, stage-own issued (phaseIn (phases m) j))),
+            (λ j i. omega (arith, stage-own issued (phase_in (phases m) j))),
       ))
 
   -- Weights that agree on the three phases at rest sum up to the same.
   sum_alike : (w v : Phase → ℕ) → w Free ≡ v Free → w Holding ≡ v Holding
       → ((t : ℕ) → w (Waiting t) ≡ v (Waiting t))
-      → weight w (phasesOf h.slots) ≡ sum v m
+      → weight w (phases_of h.slots) ≡ sum v m
   sum_alike w v a b c =
       omega (
         arith,
-        ap (λ (l : List PartySlot). weight w (phasesOf l)) r.tracks.shows.slots,
+        ap (λ (l : List PartySlot). weight w (phases_of l)) r.tracks.shows.slots,
         weight-le w v Free (phases m) (λ j i. omega (arith, each j)),
         weight-le v w Free (phases m) (λ j i. omega (arith, each j)),
       )
     where
-      each : (j : ℕ) → w (phaseIn (phases m) j) ≡ v (phaseIn (phases m) j)
-      each j = resting (λ f. w f ≡ v f) a b c (phaseIn (phases m) j) (at-ease j)
+      each : (j : ℕ) → w (phase_in (phases m) j) ≡ v (phase_in (phases m) j)
+      each j = resting (λ f. w f ≡ v f) a b c (phase_in (phases m) j) (at-ease j)
 
-  holders : count isHolding (phasesOf h.slots) ≡ sum holding m
-  unfolding pick isOneOf
-  holders = sum_alike (λ f. bit (isHolding f)) holding refl refl (λ t. refl)
+  holders : count is_holding (phases_of h.slots) ≡ sum holding m
+  unfolding pick is_one_of
+  holders = sum_alike (λ f. bit (is_holding f)) holding refl refl (λ t. refl)
 
-  waiters : count isWaiting (phasesOf h.slots) ≡ sum live m
-  unfolding pick isOneOf
-  waiters = sum_alike (λ f. bit (isWaiting f)) live refl refl (λ t. refl)
+  waiters : count is_waiting (phases_of h.slots) ≡ sum live m
+  unfolding pick is_one_of
+  waiters = sum_alike (λ f. bit (is_waiting f)) live refl refl (λ t. refl)
 
-  radios : count hasRadio (phasesOf h.slots) ≡ sum holding m
-  unfolding pick isOneOf
-  radios = sum_alike (λ f. bit (hasRadio f)) holding refl refl (λ t. refl)
+  radios : count has_radio (phases_of h.slots) ≡ sum holding m
+  unfolding pick is_one_of
+  radios = sum_alike (λ f. bit (has_radio f)) holding refl refl (λ t. refl)
 
   stored : h.control.opening.named ≡ true → h.control.pool.stored ≡ up h.control.figures.counter
-  unfolding isPlaceOf
+  unfolding is_place_of
   stored e =
       omega (
         arith,
@@ -372,13 +372,13 @@ module _ (k : ℕ) (h : Hub) (m : Queue) (r : Reached k h m) (tidy : Tidy (ringO
         r.tracks.permits,
         radios,
         held,
-        ring-count k h m r.tracks permitCell refl refl,
+        ring-count k h m r.tracks permit_cell refl refl,
         permits-none,
         fig (λ f. up f.counter),
       )
 
   -- As the record shows it.
-  shown : (p : ℕ) (f : Phase) → (read_slot h.slots p).phase ≡ f → phaseIn (phases m) p ≡ f
+  shown : (p : ℕ) (f : Phase) → (read_slot h.slots p).phase ≡ f → phase_in (phases m) p ≡ f
   shown p f e = sym (read_same k h m r.tracks p) ∙ e
 
   pub all-at-rest : ((cs : List Call) → fits (run h cs) ≡ true) → AtRest h
@@ -426,18 +426,18 @@ module _ (k : ℕ) (h : Hub) (m : Queue) (r : Reached k h m) (tidy : Tidy (ringO
           ⊎ ((p : ℕ) × ((read_slot h.slots p).phase ≡ Waiting t))
       in-line t a b = go (line t a b)
         where
-          go : (places m t ≡ Cancelled) ⊎ ((p : ℕ) × (phaseIn (phases m) p ≡ Waiting t))
+          go : (places m t ≡ Cancelled) ⊎ ((p : ℕ) × (phase_in (phases m) p ≡ Waiting t))
               → (read_place h.places t ≡ Cancelled)
               ⊎ ((p : ℕ) × ((read_slot h.slots p).phase ≡ Waiting t))
           go (inl e) =
               inl (place-cell t Cancelled (omega (arith, oldest)) (omega (arith, high (tracked r.tracks))) e)
           go (inr p) = inr (p.0, read_same k h m r.tracks p.0 ∙ p.1)
 
-pub at_rest : OnRest AtRest
+pub at_rest_lem : OnRest AtRest
 unfolding ReachedFits
-at_rest o e cs calm =
+at_rest_lem o e cs calm =
     let x = schedule o e cs in
     all-at-rest o.permits (run (opening o).hub cs) x.queue x.reached
     (run-tidy (opening o).hub cs
-    (subst (λ (h : Hub). Tidy (ringOf h)) (sym (start o e).hub) (fresh-tidy o)))
+    (subst (λ (h : Hub). Tidy (ring_of h)) (sym (start o e).hub) (fresh-tidy o)))
     calm (λ ds. ap fits (run_more (opening o).hub cs ds) ∙ every-record-fits o e (cs ++ ds))

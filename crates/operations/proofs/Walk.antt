@@ -13,44 +13,44 @@ use Rattle.hub.specs.declared.record.Hub.{Hub}
 use Rattle.hub.specs.declared.record.Outcome.{Outcome}
 use Rattle.hub.specs.Answers.{Printed, printed}
 use Rattle.hub.specs.Calls.{called}
-use Rattle.hub.specs.Calm.{rests, stepBy}
+use Rattle.hub.specs.Calm.{rests, step_by}
 use Rattle.hub.specs.Schedule.{entries, run}
 use Rattle.hub.proofs.Laws.Bools.{if-false, if-true}
 use Rattle.operations.specs.declared.Operated.{Operated}
-use Rattle.operations.specs.Operation.{MOST-STEPS, operated, stepsFrom, steps_of, turnsDown, wokenIn}
+use Rattle.operations.specs.Operation.{MOST_STEPS, operated, steps_from, steps_of, turns_down, woken_in}
 
 -- Party p steps from one record to another, with these answers.
 pub data Walk : ℕ → Hub → List Answer → Hub → Type 0 where
   stop : {p : ℕ} {h : Hub} → rests h p ≡ true → Walk p h [] h
   walk : {p : ℕ} {h h₁ h₂ : Hub} {y : Answer} {ys : List Answer} → rests h p ≡ false
-      → called h (stepBy p) ≡ record { answer = y; hub = h₁ } → Walk p h₁ ys h₂
+      → called h (step_by p) ≡ record { answer = y; hub = h₁ } → Walk p h₁ ys h₂
       → Walk p h (y ∷ ys) h₂
 
 -- Whom these answers show as woken.
-abbrev pub wokenBy : List Answer → ℕ
-wokenBy [] = 0xFF
-wokenBy (y ∷ ys) = cond (eqb (printed y).woken 0xFF) (wokenBy ys) (printed y).woken
+abbrev pub woken_by : List Answer → ℕ
+woken_by [] = 0xFF
+woken_by (y ∷ ys) = cond (eqb (printed y).woken 0xFF) (woken_by ys) (printed y).woken
 
 -- What a list of calls comes to.
 record Steps (h : Hub) (ys : List Answer) (h' : Hub) (cs : List Call) : Type 0 where
   left : run h cs ≡ h'
   many : length cs ≡ length ys
-  woken : wokenIn (entries h cs) ≡ wokenBy ys
+  woken : woken_in (entries h cs) ≡ woken_by ys
 
 none : (h : Hub) → Steps h [] h []
-unfolding run entries wokenIn
+unfolding run entries woken_in
 none h = record { left = refl; many = refl; woken = refl }
 
 one-step : (n p : ℕ) (h h₁ h₂ : Hub) (y : Answer) (ys : List Answer)
-    → called h (stepBy p) ≡ record { answer = y; hub = h₁ } → Steps h₁ ys h₂ (steps_of n h₁ p)
-    → Steps h (y ∷ ys) h₂ (stepBy p ∷ steps_of n (called h (stepBy p)).hub p)
-unfolding run entries wokenIn
+    → called h (step_by p) ≡ record { answer = y; hub = h₁ } → Steps h₁ ys h₂ (steps_of n h₁ p)
+    → Steps h (y ∷ ys) h₂ (step_by p ∷ steps_of n (called h (step_by p)).hub p)
+unfolding run entries woken_in
 one-step n p h h₁ h₂ y ys e s =
     record {
       left = ap (λ (o : Outcome). run o.hub (steps_of n o.hub p)) e ∙ s.left;
       many = ap (λ (o : Outcome). suc (length (steps_of n o.hub p))) e ∙ ap suc s.many;
       woken =
-          ap (λ (o : Outcome). then o.answer (wokenIn (entries o.hub (steps_of n o.hub p)))) e
+          ap (λ (o : Outcome). then o.answer (woken_in (entries o.hub (steps_of n o.hub p)))) e
           ∙ ap (then y) s.woken;
     }
   where
@@ -73,20 +73,20 @@ module _ (h : Hub) (c : Call) (y : Answer) (h₁ : Hub) (e : called h c ≡ reco
     (q : (printed y).woken ≡ 0xFF) where
   from : Outcome → Operated
   from o =
-      let cs = stepsFrom o c.party in
+      let cs = steps_from o c.party in
       record {
         answer = o.answer;
         woken =
-            cond (eqb (printed o.answer).woken 0xFF) (wokenIn (entries o.hub cs))
+            cond (eqb (printed o.answer).woken 0xFF) (woken_in (entries o.hub cs))
             (printed o.answer).woken;
         steps = length cs;
         hub = run o.hub cs;
       }
 
   operated-from : {h₂ : Hub} {ys : List Answer}
-      → Steps h₁ ys h₂ (stepsFrom (record { answer = y; hub = h₁ }) c.party)
-      → operated h c ≡ record { answer = y; woken = wokenBy ys; steps = length ys; hub = h₂ }
-  unfolding operated run entries wokenIn from
+      → Steps h₁ ys h₂ (steps_from (record { answer = y; hub = h₁ }) c.party)
+      → operated h c ≡ record { answer = y; woken = woken_by ys; steps = length ys; hub = h₂ }
+  unfolding operated run entries woken_in from
   operated-from s =
       ap from e
       ∙ (λ j.
@@ -102,17 +102,17 @@ module _ (h : Hub) (c : Call) (y : Answer) (h₁ : Hub) (e : called h c ≡ reco
 -- Its call is accepted, and then the walk;
 pub operated-by : (h : Hub) (c : Call) (y : Answer) {h₁ h₂ : Hub} {ys : List Answer}
     → called h c ≡ record { answer = y; hub = h₁ } → printed y ≡ printed Answer.Accepted
-    → Walk c.party h₁ ys h₂ → length ys ≤ MOST-STEPS
-    → operated h c ≡ record { answer = y; woken = wokenBy ys; steps = length ys; hub = h₂ }
+    → Walk c.party h₁ ys h₂ → length ys ≤ MOST_STEPS
+    → operated h c ≡ record { answer = y; woken = woken_by ys; steps = length ys; hub = h₂ }
 operated-by h c y {h₁} {h₂} {ys} e q w i =
     operated-from h c y h₁ e (ap (λ (r : Printed). r.woken) q)
     (subst (Steps h₁ ys h₂)
-    (sym (if-false (turnsDown y) [] _ (ap (λ (r : Printed). ltb r.code 0x20) q)))
-    (walk_steps MOST-STEPS w i))
+    (sym (if-false (turns_down y) [] _ (ap (λ (r : Printed). ltb r.code 0x20) q)))
+    (walk_steps MOST_STEPS w i))
 
 -- or it is refused, and that is all.
 pub operated-alone : (h : Hub) (c : Call) (y : Answer) {h₁ : Hub}
-    → called h c ≡ record { answer = y; hub = h₁ } → (printed y).woken ≡ 0xFF → turnsDown y ≡ true
+    → called h c ≡ record { answer = y; hub = h₁ } → (printed y).woken ≡ 0xFF → turns_down y ≡ true
     → operated h c ≡ record { answer = y; woken = 0xFF; steps = 0; hub = h₁ }
 operated-alone h c y {h₁} e q t =
-    operated-from h c y h₁ e q (subst (Steps h₁ [] h₁) (sym (if-true (turnsDown y) [] _ t)) (none h₁))
+    operated-from h c y h₁ e q (subst (Steps h₁ [] h₁) (sym (if-true (turns_down y) [] _ t)) (none h₁))

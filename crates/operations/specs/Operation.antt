@@ -8,7 +8,7 @@ use Rattle.hub.specs.declared.record.Hub.{Hub}
 use Rattle.hub.specs.declared.record.Outcome.{Outcome}
 use Rattle.hub.specs.Answers.{printed}
 use Rattle.hub.specs.Calls.{called}
-use Rattle.hub.specs.Calm.{rests, stepBy}
+use Rattle.hub.specs.Calm.{rests, step_by}
 use Rattle.hub.specs.Schedule.{Entry, entries, run}
 use Rattle.operations.specs.declared.Operated.{Operated}
 use Rattle.operations.specs.declared.Told.{Told}
@@ -16,39 +16,39 @@ use Rattle.operations.specs.declared.Told.{Told}
 -- The steps of party p from h on until it is at rest, at most n.
 unfoldable pub steps_of : ℕ → Hub → ℕ → List Call
 steps_of zero h p = []
-steps_of (suc n) h p = cond (rests h p) [] (stepBy p ∷ steps_of n (called h (stepBy p)).hub p)
+steps_of (suc n) h p = cond (rests h p) [] (step_by p ∷ steps_of n (called h (step_by p)).hub p)
 
 -- On a hub at rest no operation takes more.
-abbrev pub MOST-STEPS : ℕ
-MOST-STEPS = 3
+abbrev pub MOST_STEPS : ℕ
+MOST_STEPS = 3
 
 -- Is an answer a refusal, a code below 20?
-abbrev pub turnsDown : Answer → Bool
-turnsDown y = ltb (printed y).code 0x20
+abbrev pub turns_down : Answer → Bool
+turns_down y = ltb (printed y).code 0x20
 
 -- The steps after a call that left o.
-abbrev pub stepsFrom : Outcome → ℕ → List Call
-stepsFrom o p = cond (turnsDown o.answer) [] (steps_of MOST-STEPS o.hub p)
+abbrev pub steps_from : Outcome → ℕ → List Call
+steps_from o p = cond (turns_down o.answer) [] (steps_of MOST_STEPS o.hub p)
 
-abbrev pub stepsAfter : Hub → Call → List Call
-stepsAfter h c = stepsFrom (called h c) c.party
+abbrev pub steps_after : Hub → Call → List Call
+steps_after h c = steps_from (called h c) c.party
 
 -- The party that an answer shows as woken, FF if none does.
-unfoldable pub wokenIn : List Entry → ℕ
-wokenIn [] = 0xFF
-wokenIn (e ∷ es) = cond (eqb e.answer.woken 0xFF) (wokenIn es) e.answer.woken
+unfoldable pub woken_in : List Entry → ℕ
+woken_in [] = 0xFF
+woken_in (e ∷ es) = cond (eqb e.answer.woken 0xFF) (woken_in es) e.answer.woken
 
 -- The call and its steps, run on the hub.
 unfoldable pub operated : Hub → Call → Operated
 operated h c =
-    let calls = c ∷ stepsAfter h c in
+    let calls = c ∷ steps_after h c in
     record {
       answer = (called h c).answer;
-      woken = wokenIn (entries h calls);
-      steps = length (stepsAfter h c);
+      woken = woken_in (entries h calls);
+      steps = length (steps_after h c);
       hub = run h calls;
     }
 
 -- What is told of it.
-abbrev pub toldOf : Operated → Told
-toldOf r = record { answer = r.answer; woken = r.woken; steps = r.steps }
+abbrev pub told_of : Operated → Told
+told_of r = record { answer = r.answer; woken = r.woken; steps = r.steps }

@@ -1,32 +1,32 @@
 -- The paper's run holds: both sides compute to the same characters.
 use mathlib.Core.Path.{refl}
-use Rattle.hub.specs.Basics.{weight, all_from, all_of, allPass}
+use Rattle.hub.specs.Basics.{weight, all_from, all_of, all_pass}
 use Rattle.hub.specs.Calls.{checked, tidied, apply}
-use Rattle.hub.specs.Fits.{counterFits, figuresFit, inWindow, ticketFits, placeListed, partyFits}
-use Rattle.hub.specs.Fits.{placeFits, radiosFit, kindsFit, stateFits, fits}
-use Rattle.hub.specs.Kinds.{hasDesk, kindIn, kindsKnown}
-use Rattle.hub.specs.Look.{seenBy}
-use Rattle.hub.specs.Opening.{fresh, openingIf, radiosDiffer}
-use Rattle.hub.specs.Phases.{isOneOf, isPlaceOf}
-use Rattle.hub.specs.Radios.{handOf, poolAfter}
-use Rattle.hub.specs.Record.{read_slot, writeSlot}
-use Rattle.hub.specs.Ring.{readSeat, writeSeat, skip, retire}
-use Rattle.hub.specs.Table.{stepAcquiring, stepSuspending, stepTicketed, stepReleasing, stepResuming}
-use Rattle.hub.specs.Table.{resumeWaiter, stepResumingAt, stepAborting, stepCancelling, stepRefusing}
-use Rattle.hub.specs.Table.{row_in, acquire, cancel, givenUp, release, decide}
-use Rattle.encoding.specs.Hex.{digitOf}
-use Rattle.line.specs.Requests.{allDigits, bytes_of, givenKinds, openingIn, requested, spelledBy, requestOf}
-use Rattle.line.specs.Program.{whenOpen, beforeOpen, respond, replies, after, rendered, lines_from}
-use Rattle.line.specs.Program.{outputOf}
-use Rattle.outputs.specs.Run.{inDigits, inputs, outputs, RunHolds}
+use Rattle.hub.specs.Fits.{counter_fits, figures_fit, in_window, ticket_fits, place_listed, party_fits}
+use Rattle.hub.specs.Fits.{place_fits, radios_fit, kinds_fit, state_fits, fits}
+use Rattle.hub.specs.Kinds.{has_desk, kind_in, kinds_known}
+use Rattle.hub.specs.Look.{seen_by}
+use Rattle.hub.specs.Opening.{fresh, opening_if, radios_differ}
+use Rattle.hub.specs.Phases.{is_one_of, is_place_of}
+use Rattle.hub.specs.Radios.{hand_of, pool_after}
+use Rattle.hub.specs.Record.{read_slot, write_slot}
+use Rattle.hub.specs.Ring.{read_seat, write_seat, skip, retire}
+use Rattle.hub.specs.Table.{step_acquiring, step_suspending, step_ticketed, step_releasing, step_resuming}
+use Rattle.hub.specs.Table.{resume_waiter, step_resuming_at, step_aborting, step_cancelling, step_refusing}
+use Rattle.hub.specs.Table.{row_in, acquire, cancel, given_up, release, decide}
+use Rattle.encoding.specs.Hex.{digit_of}
+use Rattle.line.specs.Requests.{all_digits, bytes_of, given_kinds, opening_in, requested, spelled_by, request_of}
+use Rattle.line.specs.Program.{when_open, before_open, respond, replies, after, rendered, lines_from}
+use Rattle.line.specs.Program.{output_of}
+use Rattle.outputs.specs.Run.{in_digits, inputs, outputs, RunHolds}
 
 pub run_holds : RunHolds
-unfolding RunHolds inDigits inputs outputs digitOf allDigits bytes_of givenKinds openingIn requested
-    spelledBy requestOf
-    whenOpen beforeOpen respond replies after rendered lines_from outputOf fresh openingIf radiosDiffer
-    checked tidied apply counterFits figuresFit inWindow ticketFits placeListed partyFits placeFits
-    radiosFit kindsFit stateFits handOf poolAfter fits skip retire readSeat writeSeat seenBy stepAcquiring stepSuspending stepTicketed
-    stepReleasing stepResuming resumeWaiter stepResumingAt stepAborting stepCancelling stepRefusing
-    row_in acquire cancel givenUp release decide isOneOf isPlaceOf read_slot writeSlot kindIn kindsKnown hasDesk weight
-    all_from all_of allPass
+unfolding RunHolds in_digits inputs outputs digit_of all_digits bytes_of given_kinds opening_in requested
+    spelled_by request_of
+    when_open before_open respond replies after rendered lines_from output_of fresh opening_if radios_differ
+    checked tidied apply counter_fits figures_fit in_window ticket_fits place_listed party_fits place_fits
+    radios_fit kinds_fit state_fits hand_of pool_after fits skip retire read_seat write_seat seen_by step_acquiring step_suspending step_ticketed
+    step_releasing step_resuming resume_waiter step_resuming_at step_aborting step_cancelling step_refusing
+    row_in acquire cancel given_up release decide is_one_of is_place_of read_slot write_slot kind_in kinds_known has_desk weight
+    all_from all_of all_pass
 run_holds = refl

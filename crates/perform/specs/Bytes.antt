@@ -9,23 +9,23 @@ use Rattle.operations.specs.Operation.{operated}
 use Rattle.run.specs.Bytes.{calls_of}
 
 -- 10 ask, 12 give up, 13 give back.
-abbrev pub isOperationCode : ℕ → Bool
-isOperationCode c = among (0x10 ∷ 0x12 ∷ 0x13 ∷ []) c
+abbrev pub is_operation_code : ℕ → Bool
+is_operation_code c = among (0x10 ∷ 0x12 ∷ 0x13 ∷ []) c
 
 -- The three bytes of an answer: 20 or the refusal, the party that was woken, the steps taken.
-abbrev pub answerBytes : Operated → List ℕ
-answerBytes r = (printed r.answer).code ∷ r.woken ∷ r.steps ∷ []
+abbrev pub answer_bytes : Operated → List ℕ
+answer_bytes r = (printed r.answer).code ∷ r.woken ∷ r.steps ∷ []
 
 -- The answers to operations, each on the record that the one before it left.
-unfoldable pub answersTo : Hub → List Call → List ℕ
-answersTo h [] = []
-answersTo h (c ∷ cs) = answerBytes (operated h c) ++ answersTo (operated h c).hub cs
+unfoldable pub answers_to : Hub → List Call → List ℕ
+answers_to h [] = []
+answers_to h (c ∷ cs) = answer_bytes (operated h c) ++ answers_to (operated h c).hub cs
 
 -- They are written in front of what the buffer holds past them.
-abbrev pub answersWritten : Hub → List ℕ → List ℕ → List ℕ
-answersWritten h operations out =
-    answersTo h (calls_of operations) ++ drop (3 * (length operations / 2)) out
+abbrev pub answers_written : Hub → List ℕ → List ℕ → List ℕ
+answers_written h operations out =
+    answers_to h (calls_of operations) ++ drop (3 * (length operations / 2)) out
 
 -- A buffer in which the answer to operation i is written.
-abbrev pub withAnswer : ℕ → List ℕ → List ℕ → List ℕ
-withAnswer i text out = (take (3 * i) out ++ text) ++ drop (3 * i + 3) out
+abbrev pub with_answer : ℕ → List ℕ → List ℕ → List ℕ
+with_answer i text out = (take (3 * i) out ++ text) ++ drop (3 * i + 3) out

@@ -5,8 +5,8 @@
 mod wire; // answers as bytes
 
 ghost use Rattle.std.specs.Prelude.{◌≡◌, true, ◌*◌, ◌/◌, ◌≤◌, length};
-ghost use Rattle.run.specs.Bytes.{wellFormed};
-ghost use Rattle.perform.specs.Bytes.{answersWritten, isOperationCode};
+ghost use Rattle.run.specs.Bytes.{well_formed};
+ghost use Rattle.perform.specs.Bytes.{answers_written, is_operation_code};
 ghost use Rattle.perform.specs.Rested.{Rested};
 
 use crate::wire::put_at;
@@ -19,9 +19,9 @@ use tidystep::tidy_step;
 // Performs the operations, two bytes each, on a hub at rest.
 pub fn perform_operations(hub: Hub, operations: &[u8], out: &mut [u8])
     requires rested { Rested hub }
-    requires operations_value { wellFormed isOperationCode operations.now ≡ true }
+    requires operations_value { well_formed is_operation_code operations.now ≡ true }
     requires operations_in_bounds { 3 * (length operations.now / 2) ≤ length out.old }
-    ensures { out.new ≡ answersWritten hub operations.now out.old }
+    ensures { out.new ≡ answers_written hub operations.now out.old }
 {
     let opening = hub.control.opening;
     let mut figures = hub.control.figures;

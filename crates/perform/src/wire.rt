@@ -1,7 +1,7 @@
 // Answers as bytes, three each.
 
 ghost use Rattle.std.specs.Prelude.{◌≡◌, [], ◌∷◌, ◌*◌, ◌+◌, ◌%◌, ◌≤◌, length};
-ghost use Rattle.perform.specs.Bytes.{withAnswer};
+ghost use Rattle.perform.specs.Bytes.{with_answer};
 
 // The three bytes of one answer.
 fn put(out: &mut [u8], code: u8, woken: u32, steps: u8)
@@ -16,7 +16,7 @@ fn put(out: &mut [u8], code: u8, woken: u32, steps: u8)
 // The answer to operation i, in its place.
 pub(crate) fn put_at(out: &mut [u8], i: usize, code: u8, woken: u32, steps: u8)
     requires { 3 * i + 3 ≤ length out.old }
-    ensures { out.new ≡ withAnswer i (code ∷ woken % 256 ∷ steps ∷ []) out.old }
+    ensures { out.new ≡ with_answer i (code ∷ woken % 256 ∷ steps ∷ []) out.old }
 {
     let at = 3 * i;
     let end = at + 3;

@@ -1,13 +1,13 @@
 // What is asked of a phase, and of a place.
 
 ghost use Rattle.std.specs.Prelude.{◌≡◌, true, false};
-ghost use Rattle.hub.specs.Phases.{atRest, byTicket, hasRadio, ofRadios, placeRank, ticketOf};
+ghost use Rattle.hub.specs.Phases.{at_rest, by_ticket, has_radio, of_radios, place_rank, ticket_of};
 
 use hub::record::{Phase, Place};
 
 // Free, holding or waiting.
 pub fn at_rest(phase: Phase) -> bool
-    ensures { result ≡ atRest phase }
+    ensures { result ≡ at_rest phase }
 {
     match phase {
         Phase::Free | Phase::Holding | Phase::Waiting(_) => true,
@@ -17,7 +17,7 @@ pub fn at_rest(phase: Phase) -> bool
 
 // The ticket of a phase; 0 where it has none.
 pub fn ticket(phase: Phase) -> u32
-    ensures { result ≡ ticketOf phase }
+    ensures { result ≡ ticket_of phase }
 {
     match phase {
         Phase::Waiting(t)
@@ -32,7 +32,7 @@ pub fn ticket(phase: Phase) -> u32
 }
 
 pub fn has_ticket(phase: Phase) -> bool
-    ensures { result ≡ byTicket false (λ t. true) phase }
+    ensures { result ≡ by_ticket false (λ t. true) phase }
 {
     match phase {
         Phase::Waiting(_)
@@ -48,7 +48,7 @@ pub fn has_ticket(phase: Phase) -> bool
 
 // Has a party of this phase a radio, on a hub with radios?
 pub fn has_radio(phase: Phase) -> bool
-    ensures { result ≡ hasRadio phase }
+    ensures { result ≡ has_radio phase }
 {
     match phase {
         Phase::Holding
@@ -62,7 +62,7 @@ pub fn has_radio(phase: Phase) -> bool
 
 // Is it a phase of a hub with radios alone?
 pub fn of_radios(phase: Phase) -> bool
-    ensures { result ≡ ofRadios phase }
+    ensures { result ≡ of_radios phase }
 {
     match phase {
         Phase::Fetching | Phase::Storing => true,
@@ -72,7 +72,7 @@ pub fn of_radios(phase: Phase) -> bool
 
 // The index of a state in the list of states.
 pub fn place_rank(place: Place) -> u8
-    ensures { result ≡ placeRank place }
+    ensures { result ≡ place_rank place }
 {
     match place {
         Place::Empty => 0,

@@ -2,15 +2,15 @@
 
 ghost use Rattle.std.specs.Prelude.{◌≡◌, cond, eqb, leb, ◌+◌, ◌%◌, ◌<◌, ◌≤◌};
 ghost use Rattle.hub.specs.Answers.{printed};
-ghost use Rattle.hub.specs.Phases.{byWaiter, isFree, isHolding, isWaiting};
+ghost use Rattle.hub.specs.Phases.{by_waiter, is_free, is_holding, is_waiting};
 ghost use Rattle.hub.specs.Radios.{moved};
-ghost use Rattle.hub.specs.Record.{MAX-BEGUN, withPlace};
+ghost use Rattle.hub.specs.Record.{MAX_BEGUN, with_place};
 ghost use Rattle.hub.specs.Ring.{PLACES};
-ghost use Rattle.hub.specs.Table.{aboveZero, belowZero};
+ghost use Rattle.hub.specs.Table.{above_zero, below_zero};
 ghost use Rattle.effects.specs.Small.{CounterFits};
-ghost use Rattle.transition.specs.Room.{fullFor};
-ghost use Rattle.plan.specs.Plan.{afterAcquire, afterReturn, operationOf, planAcquire, planCancel, plan_of};
-ghost use Rattle.plan.specs.Plan.{planRelease, radioBy, refusedBy, short, ticketFor};
+ghost use Rattle.transition.specs.Room.{full_for};
+ghost use Rattle.plan.specs.Plan.{after_acquire, after_return, operation_of, plan_acquire, plan_cancel, plan_of};
+ghost use Rattle.plan.specs.Plan.{plan_release, radio_by, refused_by, short, ticket_for};
 
 use effects::counter::{above_zero, below_zero};
 use hub::answers::Answer;
@@ -45,7 +45,7 @@ pub struct Plan {
 // Is there no place for one more ticket? Asked for an ask alone. At rest nobody is to draw one, so that nobody is counted.
 pub fn is_full_for(code: u8, oldest: u32, issued: u32) -> bool
     requires { oldest ≤ 1000000 }
-    ensures { result ≡ fullFor (operationOf code) (leb (oldest + PLACES) issued) }
+    ensures { result ≡ full_for (operation_of code) (leb (oldest + PLACES) issued) }
 {
     if code == 0x10 {
         return oldest + Hub::PLACES <= issued;
@@ -55,7 +55,7 @@ pub fn is_full_for(code: u8, oldest: u32, issued: u32) -> bool
 
 // The ticket whose place it is about: the next that is drawn, the party's own, the next that is resumed.
 fn ticket_for(code: u8, slot: PartySlot, figures: Figures) -> u32
-    ensures { result ≡ ticketFor code slot.phase figures }
+    ensures { result ≡ ticket_for code slot.phase figures }
 {
     if code == 0x10 {
         return figures.issued;
@@ -69,14 +69,14 @@ fn ticket_for(code: u8, slot: PartySlot, figures: Figures) -> u32
 
 // Where that place lies in the ring.
 pub fn place_for(code: u8, slot: PartySlot, figures: Figures) -> usize
-    ensures { result ≡ ticketFor code slot.phase figures % PLACES }
+    ensures { result ≡ ticket_for code slot.phase figures % PLACES }
 {
     (ticket_for(code, slot, figures) % Hub::PLACES) as usize
 }
 
 fn after_acquire(issued: u32, figures: Figures) -> Figures
     requires { CounterFits figures.counter × (figures.begun < 1000000) }
-    ensures { result ≡ afterAcquire issued figures }
+    ensures { result ≡ after_acquire issued figures }
 {
     let counter = figures.counter - 1;
     Figures {
@@ -89,7 +89,7 @@ fn after_acquire(issued: u32, figures: Figures) -> Figures
 
 fn after_return(resumed: u32, figures: Figures) -> Figures
     requires { CounterFits figures.counter }
-    ensures { result ≡ afterReturn resumed figures }
+    ensures { result ≡ after_return resumed figures }
 {
     let counter = figures.counter + 1;
     Figures {
@@ -101,7 +101,7 @@ fn after_return(resumed: u32, figures: Figures) -> Figures
 }
 
 fn refused(code: u8, s: Seen) -> Plan
-    ensures { result ≡ refusedBy code s }
+    ensures { result ≡ refused_by code s }
 {
     let figures = s.figures;
     let slot = s.slot;
@@ -145,14 +145,14 @@ fn short(figures: Figures, phase: Phase, s: Seen) -> Plan
 
 // The place of a party that waits.
 fn waited_by(party: u8, seat: PlaceSlot) -> PlaceSlot
-    ensures { result ≡ withPlace (Place.Waiting party) seat }
+    ensures { result ≡ with_place (Place.Waiting party) seat }
 {
     with_place(Place::Waiting(party), seat)
 }
 
 // The party that waits at a place; FF if none does.
 fn waiter_at(seat: PlaceSlot) -> u32
-    ensures { result ≡ byWaiter 0xFF (λ q. q) seat.place }
+    ensures { result ≡ by_waiter 0xFF (λ q. q) seat.place }
 {
     let place = seat.place;
     match place {
@@ -163,8 +163,8 @@ fn waiter_at(seat: PlaceSlot) -> u32
 
 fn plan_acquire(full: bool, s: Seen) -> Plan
     requires { CounterFits s.figures.counter × (s.figures.issued ≤ 1000000) }
-    ensures { result ≡ planAcquire (isFree s.slot.phase) (leb MAX-BEGUN s.figures.begun) full
-        (aboveZero s.figures.counter) s }
+    ensures { result ≡ plan_acquire (is_free s.slot.phase) (leb MAX_BEGUN s.figures.begun) full
+        (above_zero s.figures.counter) s }
 {
     let slot = s.slot;
     let phase = slot.phase;
@@ -196,7 +196,7 @@ fn plan_acquire(full: bool, s: Seen) -> Plan
 
 fn plan_cancel(s: Seen) -> Plan
     requires { CounterFits s.figures.counter }
-    ensures { result ≡ planCancel (isWaiting s.slot.phase) (eqb s.kind 3) s }
+    ensures { result ≡ plan_cancel (is_waiting s.slot.phase) (eqb s.kind 3) s }
 {
     let slot = s.slot;
     let phase = slot.phase;
@@ -221,7 +221,7 @@ fn plan_cancel(s: Seen) -> Plan
 
 fn plan_release(s: Seen) -> Plan
     requires { CounterFits s.figures.counter × (s.figures.resumed ≤ 1000000) }
-    ensures { result ≡ planRelease (isHolding s.slot.phase) (belowZero s.figures.counter) s }
+    ensures { result ≡ plan_release (is_holding s.slot.phase) (below_zero s.figures.counter) s }
 {
     let slot = s.slot;
     let phase = slot.phase;
@@ -261,7 +261,7 @@ pub fn plan_for(code: u8, full: bool, s: Seen) -> Plan
 
 // On a hub with radios: the answer that the radio goes by.
 fn radio_by(code: u8, steps: u8, woken: u32) -> Answer
-    ensures { result ≡ radioBy code steps woken }
+    ensures { result ≡ radio_by code steps woken }
 {
     if code == 0x10 {
         if steps == 2 {
@@ -284,7 +284,7 @@ fn radio_by(code: u8, steps: u8, woken: u32) -> Answer
 // Who has which radio after the operation, on a hub with radios.
 pub fn radios_after_operation(code: u8, steps: u8, woken: u32, party: u8, pool: Pool) -> Pool
     requires { pool.stored ≤ 32 }
-    ensures { result ≡ moved (printed (radioBy code steps woken)) party pool }
+    ensures { result ≡ moved (printed (radio_by code steps woken)) party pool }
 {
     move_radio(radio_by(code, steps, woken), party, pool)
 }

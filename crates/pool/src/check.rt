@@ -2,10 +2,10 @@
 // are noted as they are met, and a table has those that are still to be met.
 
 ghost use Rattle.std.specs.Prelude.{◌≡◌, [], ◌∷◌, ◌++◌, ◌≤◌, take};
-ghost use Rattle.hub.specs.Fits.{radiosFit};
-ghost use Rattle.hub.specs.Phases.{hasRadio, isPermit};
-ghost use Rattle.hub.specs.Radios.{radiosIn, rearranged, ringFrom, shown};
-ghost use Rattle.hub.specs.Record.{phasesOf, places_of};
+ghost use Rattle.hub.specs.Fits.{radios_fit};
+ghost use Rattle.hub.specs.Phases.{has_radio, is_permit};
+ghost use Rattle.hub.specs.Radios.{radios_in, rearranged, ring_from, shown};
+ghost use Rattle.hub.specs.Record.{phases_of, places_of};
 ghost use Rattle.pool.specs.Met.{Notes, noted};
 
 use hub::record::{Hub, PartySlot, PlaceSlot, Pool};
@@ -34,7 +34,7 @@ fn note(mut met: Met, radio: u8) -> Met
 // With the parties whose phase has one.
 fn with_parties(slots: [PartySlot; 32], hands: [u8; 32], mut met: Met) -> Met
     requires { met.count ≤ 33 }
-    ensures { Notes result (noted met ++ shown hasRadio (phasesOf slots) hands) }
+    ensures { Notes result (noted met ++ shown has_radio (phases_of slots) hands) }
 {
     let mut p: usize = 0;
     while p < 32 {
@@ -51,7 +51,7 @@ fn with_parties(slots: [PartySlot; 32], hands: [u8; 32], mut met: Met) -> Met
 // At the places where a permit lies.
 fn at_places(places: [PlaceSlot; 256], laid: [u8; 256], mut met: Met) -> Met
     requires { met.count ≤ 33 }
-    ensures { Notes result (noted met ++ shown isPermit (places_of places) laid) }
+    ensures { Notes result (noted met ++ shown is_permit (places_of places) laid) }
 {
     let mut i: usize = 0;
     while i < 256 {
@@ -68,7 +68,7 @@ fn at_places(places: [PlaceSlot; 256], laid: [u8; 256], mut met: Met) -> Met
 // In the store.
 fn in_store(store: [u8; 32], first: u32, stored: u32, mut met: Met) -> Met
     requires { (stored ≤ 32) × (met.count ≤ 33) }
-    ensures { Notes result (noted met ++ ringFrom store first stored) }
+    ensures { Notes result (noted met ++ ring_from store first stored) }
 {
     let mut i: u32 = 0;
     while i < stored {
@@ -106,7 +106,7 @@ fn same_radios(met: [u8; 33], radios: [u8; 32], count: usize) -> bool
 // With the parties, at the places and in the store.
 fn radios_met(slots: [PartySlot; 32], places: [PlaceSlot; 256], pool: Pool) -> Met
     requires { pool.stored ≤ 32 }
-    ensures { Notes result (radiosIn slots places pool) }
+    ensures { Notes result (radios_in slots places pool) }
 {
     let none = [0u8; 33];
     let hands = pool.hands;
@@ -127,7 +127,7 @@ fn radios_met(slots: [PartySlot; 32], places: [PlaceSlot; 256], pool: Pool) -> M
 // On a hub with radios.
 pub fn radios_fit(hub: Hub) -> bool
     requires { hub.control.opening.permits ≤ 32 }
-    ensures { result ≡ radiosFit hub }
+    ensures { result ≡ radios_fit hub }
 {
     let opening = hub.control.opening;
     if !opening.named {

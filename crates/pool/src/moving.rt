@@ -2,14 +2,14 @@
 
 ghost use Rattle.std.specs.Prelude.{◌≡◌, ◌≤◌};
 ghost use Rattle.hub.specs.Answers.{printed};
-ghost use Rattle.hub.specs.Radios.{fetch, handOf, handTo, laidAt, layAt, moved, put_back};
+ghost use Rattle.hub.specs.Radios.{fetch, hand_of, hand_to, laid_at, lay_at, moved, put_back};
 
 use hub::answers::Answer;
 use hub::record::{Hub, Pool};
 
 // The radio with a party; 0 past the 32.
 pub fn hand_of(pool: Pool, party: u8) -> u8
-    ensures { result ≡ handOf pool party }
+    ensures { result ≡ hand_of pool party }
 {
     let p = party as usize;
     if p < 32 {
@@ -19,14 +19,14 @@ pub fn hand_of(pool: Pool, party: u8) -> u8
 }
 
 fn laid_at(pool: Pool, t: u32) -> u8
-    ensures { result ≡ laidAt pool t }
+    ensures { result ≡ laid_at pool t }
 {
     let i = (t % Hub::PLACES) as usize;
     pool.laid[i]
 }
 
 fn hand_to(q: u32, radio: u8, mut pool: Pool) -> Pool
-    ensures { result ≡ handTo q radio pool }
+    ensures { result ≡ hand_to q radio pool }
 {
     if q < 32 {
         let p = q as usize;
@@ -36,7 +36,7 @@ fn hand_to(q: u32, radio: u8, mut pool: Pool) -> Pool
 }
 
 fn lay_at(t: u32, radio: u8, mut pool: Pool) -> Pool
-    ensures { result ≡ layAt t radio pool }
+    ensures { result ≡ lay_at t radio pool }
 {
     let i = (t % Hub::PLACES) as usize;
     pool.laid[i] = radio;

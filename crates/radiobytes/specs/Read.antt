@@ -6,8 +6,8 @@ use Rattle.hub.specs.Radios.{STORE}
 use Rattle.cells.specs.Bytes.{bytes_at, each}
 
 -- What it was opened with: K, n, whether there are radios, those of the opening, the kinds.
-abbrev pub openingOfBytes : List ℕ → Opening
-openingOfBytes b =
+abbrev pub opening_of_bytes : List ℕ → Opening
+opening_of_bytes b =
     record {
       permits = get_or b 0 0;
       parties = get_or b 1 0;
@@ -22,8 +22,8 @@ abbrev pub rotated : List ℕ → ℕ → List ℕ
 rotated rs first = each STORE (λ j. get_or rs ((j + 32 - first % 32) % 32) 0)
 
 -- With parties, at places, and stored.
-abbrev pub poolIn : List ℕ → Pool
-poolIn b =
+abbrev pub pool_in : List ℕ → Pool
+pool_in b =
     record {
       hands = bytes_at b 1495 32;
       laid = bytes_at b 1527 256;

@@ -3,8 +3,8 @@
 
 ghost use Rattle.std.specs.Prelude.{◌+◌, ◌<◌, ◌≤◌, cond, ◌≡◌, length};
 ghost use Rattle.cells.specs.Bytes.{bytes_at};
-ghost use Rattle.radiobytes.specs.Read.{openingOfBytes, poolIn, rotated};
-ghost use Rattle.radiobytes.specs.Written.{handsShown, inOrder, laidShown, radioBytes};
+ghost use Rattle.radiobytes.specs.Read.{opening_of_bytes, pool_in, rotated};
+ghost use Rattle.radiobytes.specs.Written.{hands_shown, in_order, laid_shown, radio_bytes};
 
 use cells::number::{put_bytes, put_bytes_at, put_few, wide};
 use hub::opening::Opening;
@@ -13,7 +13,7 @@ use phases::{has_radio, place_rank};
 
 pub fn opening_of(bytes: &[u8]) -> Opening
     requires { length bytes.now ≡ 1881 }
-    ensures { result ≡ openingOfBytes bytes.now }
+    ensures { result ≡ opening_of_bytes bytes.now }
 {
     let radios = few_at(bytes, 1463);
     let kinds = few_at(bytes, 1849);
@@ -29,7 +29,7 @@ pub fn opening_of(bytes: &[u8]) -> Opening
 
 pub fn pool_of(bytes: &[u8]) -> Pool
     requires { length bytes.now ≡ 1881 }
-    ensures { result ≡ poolIn bytes.now }
+    ensures { result ≡ pool_in bytes.now }
 {
     let first = wide(bytes[1783]);
     let hands = few_at(bytes, 1495);
@@ -72,7 +72,7 @@ fn rotated(radios: [u8; 32], first: u32) -> [u8; 32]
 
 // And back, those that are stored.
 fn in_order(ring: [u8; 32], first: u32, stored: u32) -> [u8; 32]
-    ensures { result ≡ inOrder ring first stored }
+    ensures { result ≡ in_order ring first stored }
 {
     let begin = (first % 32) as usize;
     let mut radios = [0u8; 32];
@@ -96,7 +96,7 @@ fn if_so(so: bool, byte: u8) -> u8
 
 // Where the party has one.
 fn hands_shown(slots: [PartySlot; 32], hands: [u8; 32]) -> [u8; 32]
-    ensures { result ≡ handsShown slots hands }
+    ensures { result ≡ hands_shown slots hands }
 {
     let mut shown = [0u8; 32];
     let mut p: usize = 0;
@@ -111,7 +111,7 @@ fn hands_shown(slots: [PartySlot; 32], hands: [u8; 32]) -> [u8; 32]
 
 // Where a permit lies.
 fn laid_shown(places: [PlaceSlot; 256], laid: [u8; 256]) -> [u8; 256]
-    ensures { result ≡ laidShown places laid }
+    ensures { result ≡ laid_shown places laid }
 {
     let mut shown = [0u8; 256];
     let mut i: usize = 0;
@@ -130,7 +130,7 @@ pub fn radio_bytes(
     places: [PlaceSlot; 256],
     pool: Pool,
 ) -> [u8; 355]
-    ensures { result ≡ radioBytes opening slots places pool }
+    ensures { result ≡ radio_bytes opening slots places pool }
 {
     let mut out = [0u8; 355];
     if !opening.named {

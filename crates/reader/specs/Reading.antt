@@ -1,7 +1,7 @@
 -- An input read character by character, as it comes in pieces.
 use Rattle.std.specs.Prelude.{ℕ, suc, ◌+◌, ◌*◌, cond, List, [], ◌∷◌, ◌++◌, eqb, ltb, length, take, drop, set}
 use Rattle.line.specs.declared.request.Header.{Header}
-use Rattle.line.specs.Requests.{LONGEST, Request, requestOf, headerOf}
+use Rattle.line.specs.Requests.{LONGEST, Request, request_of, header_of}
 use Rattle.reader.specs.declared.Reader.{Reader}
 
 -- One character more than a line may have makes it too long, and no more are kept.
@@ -9,8 +9,8 @@ abbrev pub KEPT : ℕ
 KEPT = suc LONGEST
 
 -- What is read of the line so far.
-abbrev pub lineIn : Reader → List ℕ
-lineIn r = take r.len r.line
+abbrev pub line_in : Reader → List ℕ
+line_in r = take r.len r.line
 
 abbrev pub pushed : Reader → ℕ → Reader
 pushed r c =
@@ -32,16 +32,16 @@ unfoldable pub asked : Reader → List ℕ → List Request
 asked r [] = []
 asked r (c ∷ cs) =
     let rs = asked (next r c) cs in
-    cond (eqb c 0x0A) (requestOf (lineIn r) ∷ rs) rs
+    cond (eqb c 0x0A) (request_of (line_in r) ∷ rs) rs
 
 -- Requests as bytes, two each.
-abbrev pub headerBytes : Header → List ℕ
-headerBytes h = h.code ∷ h.party ∷ []
+abbrev pub header_bytes : Header → List ℕ
+header_bytes h = h.code ∷ h.party ∷ []
 
-unfoldable pub requestBytes : List Request → List ℕ
-requestBytes [] = []
-requestBytes (r ∷ rs) = headerBytes (headerOf r) ++ requestBytes rs
+unfoldable pub request_bytes : List Request → List ℕ
+request_bytes [] = []
+request_bytes (r ∷ rs) = header_bytes (header_of r) ++ request_bytes rs
 
 -- Requests, in front of what the buffer holds past them.
-abbrev pub requestsWritten : List Request → List ℕ → List ℕ
-requestsWritten rs out = requestBytes rs ++ drop (2 * length rs) out
+abbrev pub requests_written : List Request → List ℕ → List ℕ
+requests_written rs out = request_bytes rs ++ drop (2 * length rs) out

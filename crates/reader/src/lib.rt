@@ -2,7 +2,7 @@
 
 ghost use Rattle.std.specs.Prelude.{◌≡◌, ◌*◌, ◌≤◌, length};
 ghost use Rattle.encoding.specs.Tables.{Values};
-ghost use Rattle.reader.specs.Reading.{KEPT, asked, headerBytes, past, requestsWritten};
+ghost use Rattle.reader.specs.Reading.{KEPT, asked, header_bytes, past, requests_written};
 
 use line::request::{Header, LONGEST, read_header};
 use line::values::call_by;
@@ -26,7 +26,7 @@ pub struct Read {
 
 fn put_header(out: &mut [u8], h: Header)
     requires { length out.old ≡ 2 }
-    ensures { out.new ≡ headerBytes h }
+    ensures { out.new ≡ header_bytes h }
 {
     out[0] = h.code;
     out[1] = h.party;
@@ -43,7 +43,7 @@ pub fn read_piece(values: &[u16; 256], reader: Reader, piece: &[u8], requests: &
       reader = past reader piece.now;
       count = length (asked reader piece.now);
     })
-        × (requests.new ≡ requestsWritten (asked reader piece.now) requests.old) }
+        × (requests.new ≡ requests_written (asked reader piece.now) requests.old) }
 {
     let mut line = reader.line;
     let mut len = reader.len;

@@ -2,9 +2,9 @@
 // those that are left.
 
 ghost use Rattle.std.specs.Prelude.{◌≡◌, ◌*◌, ◌≤◌, length};
-ghost use Rattle.encoding.specs.Form.{form_of, replySize};
+ghost use Rattle.encoding.specs.Form.{form_of, reply_size};
 ghost use Rattle.line.specs.Program.{after};
-ghost use Rattle.batch.specs.Batch.{Reachable, replied, requestsIn};
+ghost use Rattle.batch.specs.Batch.{Reachable, replied, requests_in};
 
 use batch::answer_in_turn;
 use encoding::pairs;
@@ -15,8 +15,8 @@ use ring::PlaceRing;
 pub fn answer_requests(hub: Hub, requests: &[u8], count: usize, form: bool, out: &mut [u8]) -> Hub
     requires reachable { Reachable hub }
     requires count_in_bounds { 2 * count ≤ length requests.now }
-    requires count_in_bounds_2 { replySize (form_of form) * count ≤ length out.old }
-    ensures { (result ≡ after hub (requestsIn count requests.now))
+    requires count_in_bounds_2 { reply_size (form_of form) * count ≤ length out.old }
+    ensures { (result ≡ after hub (requests_in count requests.now))
         × (out.new
         ≡ replied (form_of form) hub count requests.now out.old) }
 {

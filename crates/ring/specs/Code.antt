@@ -2,5 +2,5 @@
 use Rattle.hub.specs.Ring.{Ring}
 use Rattle.ring.specs.declared.PlaceRing.{PlaceRing}
 
-abbrev pub ringIn : PlaceRing → Ring
-ringIn r = record { resumed = r.resumed; oldest = r.oldest; places = r.places }
+abbrev pub ring_in : PlaceRing → Ring
+ring_in r = record { resumed = r.resumed; oldest = r.oldest; places = r.places }

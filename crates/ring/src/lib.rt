@@ -2,8 +2,8 @@
 // are one function, since each that is called by itself copies the ring again.
 
 ghost use Rattle.std.specs.Prelude.{◌≡◌, ◌≤◌};
-ghost use Rattle.transition.specs.Tidied.{reclaimedBy};
-ghost use Rattle.ring.specs.Code.{ringIn};
+ghost use Rattle.transition.specs.Tidied.{reclaimed_by};
+ghost use Rattle.ring.specs.Code.{ring_in};
 
 use hub::record::{Hub, Place, PlaceSlot};
 use hub::slots::{empty_seat, with_place};
@@ -21,7 +21,7 @@ pub struct PlaceRing {
 // each at most.
 pub fn reclaim(mut ring: PlaceRing, turns: u32) -> PlaceRing
     requires { (ring.oldest ≤ 1000000) × (turns ≤ 256) }
-    ensures { ringIn result ≡ reclaimedBy turns (ringIn ring) }
+    ensures { ring_in result ≡ reclaimed_by turns (ring_in ring) }
 {
     let end = ring.oldest + Hub::PLACES;
     let mut n: u32 = 0;

@@ -5,7 +5,7 @@ use mathlib.Core.Bool.{cond}
 use mathlib.Core.List.{List, [], ◌∷◌}
 use lib.Dec.{eqb}
 use Rattle.hub.specs.declared.answers.Refusal.{Refusal}
-use Rattle.run.specs.Run.{OwnNumbers, ranCode}
+use Rattle.run.specs.Run.{OwnNumbers, ran_code}
 use Rattle.run.specs.declared.Ran.{Ran}
 
 ends : List Ran
@@ -33,9 +33,9 @@ ends =
 -- The first end of a list that has this number; done if none has.
 numbered : ℕ → List Ran → Ran
 numbered c [] = Ran.Done
-numbered c (r ∷ rs) = cond (eqb (ranCode r) c) r (numbered c rs)
+numbered c (r ∷ rs) = cond (eqb (ran_code r) c) r (numbered c rs)
 
-found : (r : Ran) → numbered (ranCode r) ends ≡ r
+found : (r : Ran) → numbered (ran_code r) ends ≡ r
 unfolding ends numbered
 found Ran.BadOpening = refl
 found Ran.Malformed = refl

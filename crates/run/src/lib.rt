@@ -5,8 +5,8 @@ ghost use Rattle.std.specs.Prelude.{◌≡◌};
 ghost use Rattle.hub.specs.Opening.{opening};
 ghost use Rattle.encoding.specs.Frame.{is_call};
 ghost use Rattle.line.specs.Requests.{requested};
-ghost use Rattle.run.specs.Bytes.{wellFormed};
-ghost use Rattle.run.specs.Run.{framedRun, ranCode, run_from};
+ghost use Rattle.run.specs.Bytes.{well_formed};
+ghost use Rattle.run.specs.Run.{framed_run, ran_code, run_from};
 
 use encoding::answer::refusal_code;
 use hub::answers::{Answer, Refusal};
@@ -28,7 +28,7 @@ pub enum Ran {
 
 // Is each pair of bytes a call?
 fn well_formed(calls: &[u8]) -> bool
-    ensures { result ≡ wellFormed is_call calls.now }
+    ensures { result ≡ well_formed is_call calls.now }
 {
     let total = calls.len() / 2;
     if calls.len() % 2 == 1 {
@@ -51,7 +51,7 @@ fn well_formed(calls: &[u8]) -> bool
 // Opens a hub, and runs the calls if they are well formed and there is room for the answers. What
 // an opening leads to needs no check, so that `batch` answers them.
 pub fn run_calls(o: Opening, calls: &[u8], out: &mut [u8]) -> Ran
-    ensures { (ranCode result ≡ (run_from (opening o) calls.now out.old).result)
+    ensures { (ran_code result ≡ (run_from (opening o) calls.now out.old).result)
         × (out.new ≡ (run_from (opening o) calls.now out.old).out) }
 {
     let opened = open_hub(o);
@@ -72,7 +72,7 @@ pub fn run_calls(o: Opening, calls: &[u8], out: &mut [u8]) -> Ran
 }
 
 fn ran_code(ran: Ran) -> u8
-    ensures { result ≡ ranCode ran }
+    ensures { result ≡ ran_code ran }
 {
     match ran {
         Ran::BadOpening => 12,
@@ -85,8 +85,8 @@ fn ran_code(ran: Ran) -> u8
 
 // The same with the opening as a frame, as it stands in a line.
 fn run_framed(opening: &[u8], calls: &[u8], out: &mut [u8]) -> Ran
-    ensures { (ranCode result ≡ (framedRun (requested opening.now) calls.now out.old).result)
-        × (out.new ≡ (framedRun (requested opening.now) calls.now out.old).out) }
+    ensures { (ran_code result ≡ (framed_run (requested opening.now) calls.now out.old).result)
+        × (out.new ≡ (framed_run (requested opening.now) calls.now out.old).out) }
 {
     if !is_opening_frame(opening) {
         return Ran::BadOpening;
@@ -98,8 +98,8 @@ fn run_framed(opening: &[u8], calls: &[u8], out: &mut [u8]) -> Ran
 // opened, 254 malformed calls, 255 no room.
 #[unsafe(no_mangle)]
 pub extern "C" fn hub_run(opening: &[u8], calls: &[u8], out: &mut [u8]) -> u8
-    ensures { (result ≡ (framedRun (requested opening.now) calls.now out.old).result)
-        × (out.new ≡ (framedRun (requested opening.now) calls.now out.old).out) }
+    ensures { (result ≡ (framed_run (requested opening.now) calls.now out.old).result)
+        × (out.new ≡ (framed_run (requested opening.now) calls.now out.old).out) }
 {
     let ran = run_framed(opening, calls, out);
     ran_code(ran)

@@ -7,8 +7,8 @@ use Rattle.hub.specs.Record.{PARTIES}
 use Rattle.screen.specs.declared.record.Line.{Line}
 
 -- Of an opening the line keeps K, n, whether there are radios, and the kinds. Nobody holds and nobody waits.
-unfoldable pub openedLine : Opening → Line
-openedLine o =
+unfoldable pub opened_line : Opening → Line
+opened_line o =
     record {
       permits = o.permits;
       parties = o.parties;
@@ -20,12 +20,12 @@ openedLine o =
     }
 
 -- Those of the parties from p on that hold, rising.
-unfoldable pub holdersFrom : ℕ → List Bool → List ℕ
-holdersFrom p [] = []
-holdersFrom p (b ∷ bs) = let r = holdersFrom (suc p) bs in cond b (p ∷ r) r
+unfoldable pub holders_from : ℕ → List Bool → List ℕ
+holders_from p [] = []
+holders_from p (b ∷ bs) = let r = holders_from (suc p) bs in cond b (p ∷ r) r
 
 unfoldable pub holders : Line → List ℕ
-holders l = holdersFrom 0 l.holding
+holders l = holders_from 0 l.holding
 
 -- Those that wait, in their order.
 unfoldable pub waiters : Line → List ℕ
@@ -37,15 +37,15 @@ place_of x [] = 0
 place_of x (y ∷ l) = cond (eqb x y) 0 (suc (place_of x l))
 
 -- Does party p hold; does it wait?
-unfoldable pub holdsIn : Line → ℕ → Bool
-holdsIn l p = get_or l.holding p false
+unfoldable pub holds_in : Line → ℕ → Bool
+holds_in l p = get_or l.holding p false
 
-unfoldable pub waitsIn : Line → ℕ → Bool
-waitsIn l p = among (waiters l) p
+unfoldable pub waits_in : Line → ℕ → Bool
+waits_in l p = among (waiters l) p
 
 -- The line with other holders, and with others that wait: behind them the queue is 0.
-abbrev pub withHolding : List Bool → Line → Line
-withHolding hs l =
+abbrev pub with_holding : List Bool → Line → Line
+with_holding hs l =
     record {
       permits = l.permits;
       parties = l.parties;
@@ -56,8 +56,8 @@ withHolding hs l =
       waiting = l.waiting;
     }
 
-abbrev pub withWaiters : List ℕ → Line → Line
-withWaiters ws l =
+abbrev pub with_waiters : List ℕ → Line → Line
+with_waiters ws l =
     record {
       permits = l.permits;
       parties = l.parties;

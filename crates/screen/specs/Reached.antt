@@ -7,9 +7,9 @@ use Rattle.hub.specs.Radios.{STORE}
 use Rattle.hub.specs.Record.{PARTIES}
 use Rattle.screen.specs.declared.record.Line.{Line}
 use Rattle.screen.specs.declared.record.Operation.{Operation}
-use Rattle.screen.specs.Fits.{lineFits}
-use Rattle.screen.specs.Line.{openedLine}
-use Rattle.screen.specs.Moves.{lineMove}
+use Rattle.screen.specs.Fits.{line_fits}
+use Rattle.screen.specs.Line.{opened_line}
+use Rattle.screen.specs.Moves.{line_move}
 
 -- An operation of a party.
 pub record DeskRequest : Type 0 where
@@ -18,9 +18,9 @@ pub record DeskRequest : Type 0 where
 
 -- The line that a list of them leaves, each on the line that the one before it left, which after a refusal
 -- is the old one.
-unfoldable pub lineAfter : Line → List DeskRequest → Line
-lineAfter l [] = l
-lineAfter l (r ∷ rs) = lineAfter (lineMove l r.operation r.party).line rs
+unfoldable pub line_after : Line → List DeskRequest → Line
+line_after l [] = l
+line_after l (r ∷ rs) = line_after (line_move l r.operation r.party).line rs
 
 -- Values of the types: their arrays have 32 elements.
 pub record OpeningArrays (o : Opening) : Type 0 where
@@ -38,10 +38,10 @@ pub record LineReached (l : Line) : Type 0 where
   pub arrays : OpeningArrays start
   pub accepted : (opening start).answer ≡ Answer.Opened
   pub requests : List DeskRequest
-  pub leads : lineAfter (openedLine start) requests ≡ l
+  pub leads : line_after (opened_line start) requests ≡ l
 
 -- Every line that is reached fits, and every line that fits is reached.
 unfoldable pub FitsIfReached : Type 0
 FitsIfReached =
-    ((l : Line) → LineReached l → lineFits l ≡ true)
-    × ((l : Line) → IsLine l → lineFits l ≡ true → LineReached l)
+    ((l : Line) → LineReached l → line_fits l ≡ true)
+    × ((l : Line) → IsLine l → line_fits l ≡ true → LineReached l)

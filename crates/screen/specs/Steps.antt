@@ -2,37 +2,37 @@
 use Rattle.std.specs.Prelude.{ℕ, Bool, cond}
 use Rattle.screen.specs.declared.record.Line.{Line}
 use Rattle.screen.specs.declared.record.Operation.{Operation}
-use Rattle.screen.specs.Moves.{hasPermit, hasWaiter, isAccepted, lineMove, nextWaiter}
+use Rattle.screen.specs.Moves.{has_permit, has_waiter, is_accepted, line_move, next_waiter}
 
 -- A permit from the counter, 21, or back to it, 26. With radios one step more: 36, 38.
-abbrev pub toCounter : Bool → ℕ
-toCounter named = cond named 2 1
+abbrev pub to_counter : Bool → ℕ
+to_counter named = cond named 2 1
 
 -- A wait: 22, 23, 24. Giving one up: 2E, 30. A permit handed over: 27, 28, 2A.
-abbrev pub TO-WAIT : ℕ
-TO-WAIT = 3
+abbrev pub TO_WAIT : ℕ
+TO_WAIT = 3
 
-abbrev pub TO-CANCEL : ℕ
-TO-CANCEL = 2
+abbrev pub TO_CANCEL : ℕ
+TO_CANCEL = 2
 
-abbrev pub TO-HAND-OVER : ℕ
-TO-HAND-OVER = 3
+abbrev pub TO_HAND_OVER : ℕ
+TO_HAND_OVER = 3
 
 -- Of an operation that is accepted.
-unfoldable pub ownSteps : Line → Operation → ℕ
-ownSteps l Operation.Acquire = cond (hasPermit l) (toCounter l.named) TO-WAIT
-ownSteps l Operation.Cancel = TO-CANCEL
-ownSteps l Operation.Release = cond (hasWaiter l) TO-HAND-OVER (toCounter l.named)
+unfoldable pub own_steps : Line → Operation → ℕ
+own_steps l Operation.Acquire = cond (has_permit l) (to_counter l.named) TO_WAIT
+own_steps l Operation.Cancel = TO_CANCEL
+own_steps l Operation.Release = cond (has_waiter l) TO_HAND_OVER (to_counter l.named)
 
 -- A refused operation takes none.
-unfoldable pub stepsToRest : Line → Operation → ℕ → ℕ
-stepsToRest l o p = cond (isAccepted (lineMove l o p).answer) (ownSteps l o) 0
+unfoldable pub steps_to_rest : Line → Operation → ℕ → ℕ
+steps_to_rest l o p = cond (is_accepted (line_move l o p).answer) (own_steps l o) 0
 
 -- Whom an operation wakes: the first that waits, where a permit is handed over; else FF.
-unfoldable pub ownWoken : Line → Operation → ℕ
-ownWoken l Operation.Acquire = 0xFF
-ownWoken l Operation.Cancel = 0xFF
-ownWoken l Operation.Release = cond (hasWaiter l) (nextWaiter l) 0xFF
+unfoldable pub own_woken : Line → Operation → ℕ
+own_woken l Operation.Acquire = 0xFF
+own_woken l Operation.Cancel = 0xFF
+own_woken l Operation.Release = cond (has_waiter l) (next_waiter l) 0xFF
 
-unfoldable pub wokenBy : Line → Operation → ℕ → ℕ
-wokenBy l o p = cond (isAccepted (lineMove l o p).answer) (ownWoken l o) 0xFF
+unfoldable pub woken_by : Line → Operation → ℕ → ℕ
+woken_by l o p = cond (is_accepted (line_move l o p).answer) (own_woken l o) 0xFF

@@ -1,7 +1,7 @@
 // The plain line of the desk screen.
 
 ghost use Rattle.std.specs.Prelude.{◌≡◌};
-ghost use Rattle.screen.specs.Line.{openedLine};
+ghost use Rattle.screen.specs.Line.{opened_line};
 
 use hub::{Answer, Opening};
 
@@ -19,7 +19,7 @@ pub struct Line {
 impl Line {
     // The line of a hub that was just opened; nothing is checked here.
     pub fn open(o: Opening) -> Line
-        ensures { result ≡ openedLine o }
+        ensures { result ≡ opened_line o }
     {
         let kinds = o.kinds;
         Line {

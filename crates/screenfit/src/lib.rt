@@ -1,9 +1,9 @@
 // Is a line one that its moves reach?
 
 ghost use Rattle.std.specs.Prelude.{◌≡◌, true, ◌&&◌, ◌≤◌, eqb, leb, ltb, drop};
-ghost use Rattle.hub.specs.Basics.{allPass, implies};
+ghost use Rattle.hub.specs.Basics.{all_pass, implies};
 ghost use Rattle.hub.specs.Radios.{differ};
-ghost use Rattle.screen.specs.Fits.{everybody, holderCount, lineFits};
+ghost use Rattle.screen.specs.Fits.{everybody, holder_count, line_fits};
 ghost use Rattle.screen.specs.Line.{holders};
 
 use openhub::kinds::{has_desk, kinds_known};
@@ -12,7 +12,7 @@ use screen::record::Line;
 
 // How many hold.
 pub fn holder_count(line: Line) -> u8
-    ensures { result ≡ holderCount line }
+    ensures { result ≡ holder_count line }
 {
     let holding = line.holding;
     let mut count: u8 = 0;
@@ -31,7 +31,7 @@ pub fn holder_count(line: Line) -> u8
 // Are all that hold below n?
 fn holders_below(line: Line) -> bool
     requires { line.parties ≤ 32 }
-    ensures { result ≡ allPass (λ p. ltb p line.parties) (holders line) }
+    ensures { result ≡ all_pass (λ p. ltb p line.parties) (holders line) }
 {
     let holding = line.holding;
     let mut p = line.parties as usize;
@@ -49,8 +49,8 @@ fn holders_below(line: Line) -> bool
 fn queue_fits(line: Line) -> bool
     requires parties_bound { line.parties ≤ 32 }
     requires waiting_bound { line.waiting ≤ 32 }
-    requires line_value { allPass (λ p. ltb p line.parties) (holders line) ≡ true }
-    ensures { result ≡ differ (everybody line) && allPass (λ p. ltb p line.parties) (everybody line) }
+    requires line_value { all_pass (λ p. ltb p line.parties) (holders line) ≡ true }
+    ensures { result ≡ differ (everybody line) && all_pass (λ p. ltb p line.parties) (everybody line) }
 {
     let queue = line.queue;
     let parties = line.parties;
@@ -74,7 +74,7 @@ fn queue_fits(line: Line) -> bool
 // Are the unused bytes of the queue 0?
 fn rest_is_zero(line: Line) -> bool
     requires { line.waiting ≤ 32 }
-    ensures { result ≡ allPass (λ b. eqb b 0) (drop line.waiting line.queue) }
+    ensures { result ≡ all_pass (λ b. eqb b 0) (drop line.waiting line.queue) }
 {
     let queue = line.queue;
     let mut i = line.waiting as usize;
@@ -98,7 +98,7 @@ fn full_if_waiting(waiting: u8, held: u8, permits: u8) -> bool
 }
 
 pub fn line_fits(line: Line) -> bool
-    ensures { result ≡ lineFits line }
+    ensures { result ≡ line_fits line }
 {
     if !up_to_32(line.permits) {
         return false;

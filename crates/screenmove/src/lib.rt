@@ -5,8 +5,8 @@ mod queue; // those who wait
 
 ghost use Rattle.std.specs.Prelude.{◌≡◌, true, ◌<◌};
 ghost use Rattle.hub.specs.Answers.{printed};
-ghost use Rattle.screen.specs.Fits.{lineFits};
-ghost use Rattle.screen.specs.Moves.{acceptedMove, lineMove, lineOpening, ownMove, refusedMove};
+ghost use Rattle.screen.specs.Fits.{line_fits};
+ghost use Rattle.screen.specs.Moves.{accepted_move, line_move, line_opening, own_move, refused_move};
 
 use hub::answers::{Answer, Refusal};
 use hub::opening::Opening;
@@ -17,7 +17,7 @@ use screen::record::{Line, Moved, Operation};
 use screenfit::{holder_count, line_fits};
 
 fn refused_move(why: Refusal, line: Line) -> Moved
-    ensures { result ≡ refusedMove why line }
+    ensures { result ≡ refused_move why line }
 {
     Moved {
         answer: Answer::Refused(why),
@@ -26,7 +26,7 @@ fn refused_move(why: Refusal, line: Line) -> Moved
 }
 
 fn accepted_move(line: Line) -> Moved
-    ensures { result ≡ acceptedMove line }
+    ensures { result ≡ accepted_move line }
 {
     Moved {
         answer: Answer::Accepted,
@@ -36,7 +36,7 @@ fn accepted_move(line: Line) -> Moved
 
 // Opens a line, refused as an opening of the hub is.
 pub fn open_line(o: Opening) -> Moved
-    ensures { (result ≡ lineOpening o) × (printed result.answer ≡ printed (lineOpening o).answer) }
+    ensures { (result ≡ line_opening o) × (printed result.answer ≡ printed (line_opening o).answer) }
 {
     let answer = opening_answer(o);
     if let Answer::Refused(why) = answer {
@@ -50,9 +50,9 @@ pub fn open_line(o: Opening) -> Moved
 
 // The moves on a line that fits and has the party.
 fn acquire_on(line: Line, party: u8) -> Moved
-    requires line_value { lineFits line ≡ true }
+    requires line_value { line_fits line ≡ true }
     requires party_lt_parties { party < line.parties }
-    ensures { result ≡ ownMove line Operation.Acquire party }
+    ensures { result ≡ own_move line Operation.Acquire party }
 {
     let p = party as usize;
     let holding = line.holding;
@@ -71,8 +71,8 @@ fn acquire_on(line: Line, party: u8) -> Moved
 }
 
 fn cancel_on(line: Line, party: u8) -> Moved
-    requires { lineFits line ≡ true }
-    ensures { result ≡ ownMove line Operation.Cancel party }
+    requires { line_fits line ≡ true }
+    ensures { result ≡ own_move line Operation.Cancel party }
 {
     let at = place_of(line, party);
     if line.waiting as usize <= at {
@@ -86,9 +86,9 @@ fn cancel_on(line: Line, party: u8) -> Moved
 }
 
 fn release_on(line: Line, party: u8) -> Moved
-    requires line_value { lineFits line ≡ true }
+    requires line_value { line_fits line ≡ true }
     requires party_lt_parties { party < line.parties }
-    ensures { result ≡ ownMove line Operation.Release party }
+    ensures { result ≡ own_move line Operation.Release party }
 {
     let p = party as usize;
     let holding = line.holding;
@@ -110,8 +110,8 @@ fn release_on(line: Line, party: u8) -> Moved
 
 // Any of them: 1, then 4, then the operation's own.
 pub fn call(line: Line, operation: Operation, party: u8) -> Moved
-    ensures { (result ≡ lineMove line operation party)
-        × (printed result.answer ≡ printed (lineMove line operation party).answer) }
+    ensures { (result ≡ line_move line operation party)
+        × (printed result.answer ≡ printed (line_move line operation party).answer) }
 {
     if !line_fits(line) {
         return refused_move(Refusal::Unfit, line);
@@ -128,24 +128,24 @@ pub fn call(line: Line, operation: Operation, party: u8) -> Moved
 
 // Ask (10).
 pub fn acquire(line: Line, party: u8) -> Moved
-    ensures { (result ≡ lineMove line Operation.Acquire party)
-        × (printed result.answer ≡ printed (lineMove line Operation.Acquire party).answer) }
+    ensures { (result ≡ line_move line Operation.Acquire party)
+        × (printed result.answer ≡ printed (line_move line Operation.Acquire party).answer) }
 {
     call(line, Operation::Acquire, party)
 }
 
 // Give up (12).
 pub fn cancel(line: Line, party: u8) -> Moved
-    ensures { (result ≡ lineMove line Operation.Cancel party)
-        × (printed result.answer ≡ printed (lineMove line Operation.Cancel party).answer) }
+    ensures { (result ≡ line_move line Operation.Cancel party)
+        × (printed result.answer ≡ printed (line_move line Operation.Cancel party).answer) }
 {
     call(line, Operation::Cancel, party)
 }
 
 // Give back (13).
 pub fn release(line: Line, party: u8) -> Moved
-    ensures { (result ≡ lineMove line Operation.Release party)
-        × (printed result.answer ≡ printed (lineMove line Operation.Release party).answer) }
+    ensures { (result ≡ line_move line Operation.Release party)
+        × (printed result.answer ≡ printed (line_move line Operation.Release party).answer) }
 {
     call(line, Operation::Release, party)
 }

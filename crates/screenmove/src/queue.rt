@@ -1,8 +1,8 @@
 // Those who wait: where one stands, who joins at the end, and who leaves.
 
 ghost use Rattle.std.specs.Prelude.{◌≡◌, true, [], ◌∷◌, ◌++◌, suc, ◌≤◌, ◌<◌, drop, take};
-ghost use Rattle.screen.specs.Fits.{lineFits};
-ghost use Rattle.screen.specs.Line.{place_of, waiters, withWaiters};
+ghost use Rattle.screen.specs.Fits.{line_fits};
+ghost use Rattle.screen.specs.Line.{place_of, waiters, with_waiters};
 
 use screen::record::Line;
 
@@ -25,9 +25,9 @@ pub(crate) fn place_of(line: Line, party: u8) -> usize
 
 // A party joins the queue.
 pub(crate) fn join(line: Line, party: u8) -> Line
-    requires line_value { lineFits line ≡ true }
+    requires line_value { line_fits line ≡ true }
     requires waiting_bound { line.waiting < 32 }
-    ensures { result ≡ withWaiters (waiters line ++ (party ∷ [])) line }
+    ensures { result ≡ with_waiters (waiters line ++ (party ∷ [])) line }
 {
     let end = line.waiting as usize;
     let mut next = line;
@@ -38,9 +38,9 @@ pub(crate) fn join(line: Line, party: u8) -> Line
 
 // Whoever stands at a place leaves, and those behind it move up.
 pub(crate) fn leave(line: Line, at: usize) -> Line
-    requires line_value { lineFits line ≡ true }
+    requires line_value { line_fits line ≡ true }
     requires at_lt_waiting { at < line.waiting }
-    ensures { result ≡ withWaiters (take at (waiters line) ++ drop (suc at) (waiters line)) line }
+    ensures { result ≡ with_waiters (take at (waiters line) ++ drop (suc at) (waiters line)) line }
 {
     let mut queue = line.queue;
     let waiting = line.waiting - 1;

@@ -1,7 +1,7 @@
 // What the hub does for a move, told from the line alone.
 
 ghost use Rattle.std.specs.Prelude.{◌≡◌};
-ghost use Rattle.screen.specs.Steps.{ownSteps, stepsToRest, toCounter};
+ghost use Rattle.screen.specs.Steps.{own_steps, steps_to_rest, to_counter};
 
 use hub::answers::Answer;
 use screen::record::{Line, Operation};
@@ -16,7 +16,7 @@ const TO_HAND_OVER: u8 = 3; // 27, 28, 2A
 
 // 21 or 26; with radios 36 or 38 too.
 fn to_counter(named: bool) -> u8
-    ensures { result ≡ toCounter named }
+    ensures { result ≡ to_counter named }
 {
     if named {
         return 2;
@@ -25,7 +25,7 @@ fn to_counter(named: bool) -> u8
 }
 
 fn own_steps(line: Line, operation: Operation) -> u8
-    ensures { result ≡ ownSteps line operation }
+    ensures { result ≡ own_steps line operation }
 {
     match operation {
         Operation::Acquire => {
@@ -46,7 +46,7 @@ fn own_steps(line: Line, operation: Operation) -> u8
 
 // How many steps the hub takes to come to rest; none for an operation that is refused.
 pub fn steps_to_rest(line: Line, operation: Operation, party: u8) -> u8
-    ensures { result ≡ stepsToRest line operation party }
+    ensures { result ≡ steps_to_rest line operation party }
 {
     let m = call(line, operation, party);
     let answer = m.answer;

@@ -98,7 +98,7 @@ use Rattle.shellwalk.proofs.Locals.{
   allocates,
   behind,
   copies,
-  envOf,
+  env_of,
   filled,
   found,
   holding,
@@ -118,8 +118,8 @@ abbrev pub OfTy : Ty → Val → Type 0
 OfTy τ v = Holds (has_ty τ v) × WT v
 
 -- where field k lies in a record of type m
-abbrev pub offsetIn : Ty → ℕ → ℕ
-offsetIn m k = (Option.get_or (field_of m k) (m, 0)).1
+abbrev pub offset_in : Ty → ℕ → ℕ
+offset_in m k = (Option.get_or (field_of m k) (m, 0)).1
 
 module _ {M : Type 1} {𝓤 : Ura M} (𝓛 : Logic 𝓤) where
   -- a type that has a field is a struct
@@ -158,14 +158,14 @@ abbrev pub reads : Ty → ℕ → ℕ → Body → Body
 reads m i k = seq (assign (place i []) (rv_opd (copy (place 1 (deref m ∷ field k ∷ [])))))
 
 -- the fields from the kth on go to the locals from the ith on, one for each of these types
-abbrev pub readsAll : Ty → List Ty → ℕ → ℕ → Body → Body
-readsAll m [] i k rest = rest
-readsAll m (τ ∷ τs) i k rest = reads m i k (readsAll m τs (suc i) (suc k) rest)
+abbrev pub reads_all : Ty → List Ty → ℕ → ℕ → Body → Body
+reads_all m [] i k rest = rest
+reads_all m (τ ∷ τs) i k rest = reads m i k (reads_all m τs (suc i) (suc k) rest)
 
 -- all go to the locals from the fifth on, and with x and y before them to the function called key, which answers into local d
 abbrev pub handing : Ty → List Ty → Name → Operand → Operand → ℕ → Body → Body
 handing m τs key x y d rest =
-    readsAll m τs 5 0 (seq (call key (x ∷ y ∷ copies τs 5) (place d [])) rest)
+    reads_all m τs 5 0 (seq (call key (x ∷ y ∷ copies τs 5) (place d [])) rest)
 
 -- the record that src has is stored behind the reference, and rv is what is returned
 abbrev pub storing : Ty → Operand → RValue → Body
@@ -191,8 +191,8 @@ pub record ShellSpots (τs : List Ty) : Type 0 where
   pub fields : Spots τs
 
 -- a shell of p parameters
-abbrev pub shellOf : ℕ → Types → Body → Fn
-shellOf p t b = record {
+abbrev pub shell_of : ℕ → Types → Body → Fn
+shell_of p t b = record {
   lifetimes = 1;
   outlives = [];
   params = p;
@@ -209,7 +209,7 @@ shellOf p t b = record {
 module _ {M : Type 1} (𝓤 : Ura M) (H : Heap 𝓤) (t : Types) (s : ShellSpots t.fields) where
   abbrev pub passed : Env 𝓤 H
   passed =
-      (t.t1, s.l1) ∷ (t.t2, s.l2) ∷ (t.t3, s.l3) ∷ (t.t4, s.l4) ∷ envOf 𝓤 H t.fields s.fields
+      (t.t1, s.l1) ∷ (t.t2, s.l2) ∷ (t.t3, s.l3) ∷ (t.t4, s.l4) ∷ env_of 𝓤 H t.fields s.fields
 
   abbrev pub env : Env 𝓤 H
   env = (t.t0, s.l0) ∷ passed
@@ -217,7 +217,7 @@ module _ {M : Type 1} (𝓤 : Ura M) (H : Heap 𝓤) (t : Types) (s : ShellSpots
 -- the fields of a record of type m, from the kth on, are of these types
 abbrev pub Fields : Ty → List Ty → ℕ → Type 0
 Fields m [] k = Unit {0}
-Fields m (τ ∷ τs) k = (field_of m k ≡ Option.some (τ, offsetIn m k)) × Fields m τs (suc k)
+Fields m (τ ∷ τs) k = (field_of m k ≡ Option.some (τ, offset_in m k)) × Fields m τs (suc k)
 
 module _ {M : Type 1} {𝓤 : Ura M} (𝓛 : Logic 𝓤) (C : Calls 𝓤 𝓛.H) (Λ : Loops 𝓤 𝓛.H) (t : Types)
   where
@@ -231,9 +231,9 @@ module _ {M : Type 1} {𝓤 : Ura M} (𝓛 : Logic 𝓤) (C : Calls 𝓤 𝓛.H)
         (unset t.t4 s.l4 (unset t.t3 s.l3 (unset t.t2 s.l2 (unset t.t1 s.l1
         (unset t.t0 s.l0 Γ)))) ++ rooms t.fields s.fields)
         (passes (passed 𝓤 H t s) vs (runs C Λ (env 𝓤 H t s) b (at_ret (env 𝓤 H t s) Q))))
-        → Sq 𝓛 Γ (prop (WpFn 𝓤 H C Λ (shellOf p t b) vs Q))
+        → Sq 𝓛 Γ (prop (WpFn 𝓤 H C Λ (shell_of p t b) vs Q))
     enters Γ p b vs Q k =
-        enter ! C Λ (shellOf p t b) vs Q $
+        enter ! C Λ (shell_of p t b) vs Q $
         alloc1 ! (λ l₀. alloc1 ! (λ l₁. alloc1 ! (λ l₂. alloc1 ! (λ l₃. alloc1 ! (λ l₄.
         allocates 𝓛 t.fields _ _ (λ s. params1 ! $ swapped 𝓛 (rooms t.fields s) _ _ $
         k record { l0 = l₀; l1 = l₁; l2 = l₂; l3 = l₃; l4 = l₄; fields = s }))))))
@@ -266,18 +266,18 @@ module _ {M : Type 1} {𝓤 : Ura M} (𝓛 : Logic 𝓤) (C : Calls 𝓤 𝓛.H)
 
         -- a field goes to its local
         abbrev takes :
-            (Γ : List (Item 𝓤)) (k : ℕ) (τ : Ty) → field_of m k ≡ Option.some (τ, offsetIn m k)
+            (Γ : List (Item 𝓤)) (k : ℕ) (τ : Ty) → field_of m k ≡ Option.some (τ, offset_in m k)
             → Rv (Go {0}) 𝓛 (front (vstruct vs) ++ Γ) (env 𝓤 H t s) (rv_opd (copy (place 1 (deref m ∷ field k ∷ []))))
             (get_v vs k)
         takes Γ k τ f =
             of_opd ! (load ! (from ! (hop ! (look ! 10 refl) (fld ! f (stop !))))
-            (look_in ! 0 (part_of 𝓛 m k τ (offsetIn m k) b o vs f)))
+            (look_in ! 0 (part_of 𝓛 m k τ (offset_in m k) b o vs f)))
 
         take_all :
             (τs : List Ty) (r : Spots τs) (i k : ℕ) (Γ : List (Item 𝓤)) → Lie 𝓤 H (env 𝓤 H t s) τs r i → Fields m τs k
             → OfTys τs k → (rest : Body) (q : Post 𝓤 H)
             → Sq 𝓛 (front (vstruct vs) ++ filled vs τs r k Γ) (runs C Λ (env 𝓤 H t s) rest q)
-            → Sq 𝓛 (front (vstruct vs) ++ (rooms τs r ++ Γ)) (runs C Λ (env 𝓤 H t s) (readsAll m τs i k rest) q)
+            → Sq 𝓛 (front (vstruct vs) ++ (rooms τs r ++ Γ)) (runs C Λ (env 𝓤 H t s) (reads_all m τs i k rest) q)
         take_all [] r i k Γ at has ty rest q then = then
         take_all (τ ∷ τs) r i k Γ at has ty rest q then =
             assigns ! (takes (unset τ r.0 (rooms τs r.1 ++ Γ)) k τ has.0)

@@ -59,7 +59,7 @@ use denote.Triple.End.{Fins}
 use Rattle.hub.specs.declared.record.Hub.{Hub}
 use Rattle.hub.specs.contracts.record.Hub as T
 use Rattle.hub.proofs.record.Hub.TheLaws as T'
-use Rattle.shellwalk.proofs.OverFields.{hubVal}
+use Rattle.shellwalk.proofs.OverFields.{hub_val}
 use Rattle.shellwalk.proofs.Shell.{Does, Kind, Shell, clauses, ended}
 
 -- the local at l, which holds h, for a shell of kind k; y is what it is called with besides, and vs y's machine values
@@ -83,18 +83,18 @@ module _ {M : Type 1} {𝓤 : Ura M} (𝓛 : Logic 𝓤) (k : Kind) (l : ℕ) (h
 
   pub lends :
       ((κs : Lfts 1) → ent 𝓤 (emp 𝓤) (sem 𝓛 (owns (types_at k.slots κs) (y κs) (vs κs))))
-      → Is T.the_row h (hubVal h ∷ [])
-      → ent 𝓤 (H.at full_share T'.mir l 0 (hubVal h))
+      → Is T.the_row h (hub_val h ∷ [])
+      → ent 𝓤 (H.at full_share T'.mir l 0 (hub_val h))
       (H.⇛ (ex 𝓤 (λ (α : ℕ). ex 𝓤 (λ (γ : GName). Lent α γ))))
   unfolding part_of
   lends has is =
-      qed 𝓛 (‵ (fat full_share T'.mir l 0 (hubVal h)) ∷ []) ∵ updating ! $
-      use1 𝓛 (‵ (cell_at full_share (T.the_row).mir (hubVal h ∷ []) l 0))
-      (𝓛.laws.at_raw full_share T'.mir l 0 (hubVal h)) $
+      qed 𝓛 (‵ (fat full_share T'.mir l 0 (hub_val h)) ∷ []) ∵ updating ! $
+      use1 𝓛 (‵ (cell_at full_share (T.the_row).mir (hub_val h ∷ []) l 0))
+      (𝓛.laws.at_raw full_share T'.mir l 0 (hub_val h)) $
       owned ! T.the_row (Is T.the_row) (LL.makes T.the_type T'.the_plain 𝓛) h _ is $
       move ! (1 ∷ 0 ∷ []) $ fjoin ! $
       fpack ! (List Val) (λ us. fsep (cell_at full_share (T.the_row).mir us l 0) ((T.the_row).own_val h us))
-      (hubVal h ∷ []) $ lft_new ! tt (λ α. move ! (1 ∷ []) $
+      (hub_val h ∷ []) $ lft_new ! tt (λ α. move ! (1 ∷ []) $
       use1 𝓛 (later (some (λ (γ : GName).
       ‵ ((MutRef (named 0) (α ∷ []) T.the_row).own_val (x α γ).0 (vptr l 0 ∷ [])) ⊛ ‵ (loan α γ))))
       (lends_ref 𝓛 T.the_row (named 0) (α ∷ []) h l 0) $ await ! tt $ pick ! (λ γ. split ! $
@@ -109,8 +109,8 @@ module _ {M : Type 1} {𝓤 : Ura M} (𝓛 : Logic 𝓤) (k : Kind) (l : ℕ) (h
       → let d = k.does (α ∷ [], tt) h (y (α ∷ [], tt)) in
       ent 𝓤 (sep 𝓤 ((Shell 𝓛 k).post (to-shell α γ) v) (sem 𝓛 (loan α γ)))
       (H.⇛ (guard 𝓤
-      (Is k.Told (k.told d) (v ∷ []) × Is T.the_row (k.hub d) (hubVal (k.hub d) ∷ []))
-      (H.at full_share T'.mir l 0 (hubVal (k.hub d)))))
+      (Is k.Told (k.told d) (v ∷ []) × Is T.the_row (k.hub d) (hub_val (k.hub d) ∷ []))
+      (H.at full_share T'.mir l 0 (hub_val (k.hub d)))))
   unfolding part_of
   comes_back α γ v =
       let d = k.does (α ∷ [], tt) h (y (α ∷ [], tt)) in
@@ -132,8 +132,8 @@ module _ {M : Type 1} {𝓤 : Ura M} (𝓛 : Logic 𝓤) (k : Kind) (l : ℕ) (h
       rewrite ! 0 (λ (z : Hub). ‵ ((mem T.the_row).own_at z l 0)) e.2 refl $ fpick ! (λ us. fsplit ! $
       spelt ! T.the_row (Is T.the_row) (shows 𝓛 T.the_row) (LL.vals T.the_type T'.the_laws)
       (LL.tells T.the_type T'.the_laws) full_share (k.hub d) us l 0 $
-      use1 𝓛 (‵ (fat full_share T'.mir l 0 (hubVal (k.hub d))))
-      (𝓛.laws.raw_at full_share T'.mir l 0 (hubVal (k.hub d))) $
+      use1 𝓛 (‵ (fat full_share T'.mir l 0 (hub_val (k.hub d))))
+      (𝓛.laws.raw_at full_share T'.mir l 0 (hub_val (k.hub d))) $
       -- [the record; what it owns; true; what is told; those of the rest]
       move ! (1 ∷ []) $ facts ! T.the_row (Is T.the_row) (shows 𝓛 T.the_row) (k.hub d) _ (λ is.
       move ! (2 ∷ []) $ facts ! k.Told (Is k.Told) (shows 𝓛 k.Told) r (v ∷ []) (λ is'.

@@ -72,9 +72,9 @@ module _ {M : Type 1} {𝓤 : Ura M} where
   filled vs [] s k Γ = Γ
   filled vs (τ ∷ τs) s k Γ = filled vs τs s.1 (suc k) (holds τ s.0 (get_v vs k) Γ)
 
-abbrev pub envOf : {M : Type 1} (𝓤 : Ura M) (H : Heap 𝓤) (τs : List Ty) → Spots τs → Env 𝓤 H
-envOf 𝓤 H [] s = []
-envOf 𝓤 H (τ ∷ τs) s = (τ, s.0) ∷ envOf 𝓤 H τs s.1
+abbrev pub env_of : {M : Type 1} (𝓤 : Ura M) (H : Heap 𝓤) (τs : List Ty) → Spots τs → Env 𝓤 H
+env_of 𝓤 H [] s = []
+env_of 𝓤 H (τ ∷ τs) s = (τ, s.0) ∷ env_of 𝓤 H τs s.1
 
 -- in an environment they are the locals from the ith on
 abbrev pub Lie : {M : Type 1} (𝓤 : Ura M) (H : Heap 𝓤) → Env 𝓤 H → (τs : List Ty) → Spots τs → ℕ → Type 0
@@ -128,17 +128,17 @@ module _ {M : Type 1} {𝓤 : Ura M} (𝓛 : Logic 𝓤) where
 
   -- a function's last locals are there
   pub allocates :
-      (τs : List Ty) (Γ : Cx) (K : Env 𝓤 H → Goal 𝓤 H) → ((s : Spots τs) → Sq 𝓛 (rooms τs s ++ Γ) (K (envOf 𝓤 H τs s)))
+      (τs : List Ty) (Γ : Cx) (K : Env 𝓤 H → Goal 𝓤 H) → ((s : Spots τs) → Sq 𝓛 (rooms τs s ++ Γ) (K (env_of 𝓤 H τs s)))
       → Sq 𝓛 Γ (allocs (locals τs) K)
   allocates [] Γ K k = alloc0 ! $ k tt
   allocates (τ ∷ τs) Γ K k =
       alloc1 ! (λ l. allocates τs (unset τ l Γ) (λ E. K ((τ, l) ∷ E)) (λ s.
-      behind [] (rooms τs s ++ unset τ l Γ) (unset τ l (rooms τs s ++ Γ)) (K ((τ, l) ∷ envOf 𝓤 H τs s))
+      behind [] (rooms τs s ++ unset τ l Γ) (unset τ l (rooms τs s ++ Γ)) (K ((τ, l) ∷ env_of 𝓤 H τs s))
       (risen (‵ (froom τ l 0)) (‵ (fdies τ l)) τs s Γ) $ k (l, s)))
 
   -- they are freed
   pub releases :
-      (τs : List Ty) (s : Spots τs) (Γ : Cx) (G : Goal 𝓤 H) → Sq 𝓛 Γ G → Sq 𝓛 (rooms τs s ++ Γ) (frees (envOf 𝓤 H τs s) G)
+      (τs : List Ty) (s : Spots τs) (Γ : Cx) (G : Goal 𝓤 H) → Sq 𝓛 Γ G → Sq 𝓛 (rooms τs s ++ Γ) (frees (env_of 𝓤 H τs s) G)
   releases [] s Γ G k = free0 ! $ k
   releases (τ ∷ τs) s Γ G k = free1 ! $ releases τs s.1 Γ G k
 

@@ -31,7 +31,7 @@ use Rattle.hub.specs.contracts.moves.Op as O
 use Rattle.hub.proofs.moves.Op.TheLaws as O'
 use Rattle.hub.specs.contracts.record.Hub as T
 use Rattle.hub.proofs.record.Hub.TheLaws as T'
-use Rattle.shellwalk.proofs.OverFields.{hubVal}
+use Rattle.shellwalk.proofs.OverFields.{hub_val}
 
 -- its signature; R is the type of what it answers
 abbrev pub signature : RattleType → Signature
@@ -50,8 +50,8 @@ stayed R =
     let o = stay_none (λ _. O.the_row) yes in
     (stay_none (λ _. T.the_row) yes, (o, (stay_none (λ _. u8) yes, tt)))
 
-abbrev pub opVal : Op → Val
-opVal = EL.val O.the_type O'.the_laws
+abbrev pub op_val : Op → Val
+op_val = EL.val O.the_type O'.the_laws
 
 -- what it ensures if it answers D, in which the hub's answer is
 module _ {M : Type 1} (𝓤 : Ura M) (R : RattleType) (answer : R.Denot → Answer) (D : Hub → Op → ℕ → R.Denot) where
@@ -70,13 +70,13 @@ module _ {M : Type 1} {𝓤 : Ura M} (𝓛 : Logic 𝓤) (R : RattleType)
     (answer : R.Denot → Answer) (D : Hub → Op → ℕ → R.Denot) where
   module _ (h : Hub) (a : Op) (n : ℕ) where
     abbrev bound : (walk_of 𝓛 (ended R) (stayed R) (clauses 𝓤 R answer D)).Ghost
-    bound = ((tt, tt, tt, (h, (a, (n, tt))), (hubVal h ∷ [], (opVal a ∷ [], (vint w8 n ∷ [], tt)))), tt)
+    bound = ((tt, tt, tt, (h, (a, (n, tt))), (hub_val h ∷ [], (op_val a ∷ [], (vint w8 n ∷ [], tt)))), tt)
 
     abbrev pub AtEnd : Val → SProp 𝓤
     AtEnd = (walk_of 𝓛 (ended R) (stayed R) (clauses 𝓤 R answer D)).post bound
 
     pub reaches :
-        Is T.the_row h (hubVal h ∷ []) → Is O.the_row a (opVal a ∷ []) → n < 2 ^ 8 → (v : Val)
+        Is T.the_row h (hub_val h ∷ []) → Is O.the_row a (op_val a ∷ []) → n < 2 ^ 8 → (v : Val)
         → ent 𝓤 (emp 𝓤) (sem 𝓛 (R.own_val (D h a n) (v ∷ []))) → ent 𝓤 (emp 𝓤) (AtEnd v)
     reaches is is-op fits v has =
         qed 𝓛 [] ∵
@@ -90,8 +90,8 @@ module _ {M : Type 1} {𝓤 : Ura M} (𝓛 : Logic 𝓤) (R : RattleType)
   -- so a function that reaches it meets the contract
   pub meets :
       (run : Fun 𝓤) → ((vs : List Val) → Mono 𝓤 (run vs))
-      → ((h : Hub) (a : Op) (n : ℕ) → Is T.the_row h (hubVal h ∷ []) → Is O.the_row a (opVal a ∷ []) → n < 2 ^ 8
-      → Sq 𝓛 [] (prop (run (hubVal h ∷ opVal a ∷ vint w8 n ∷ []) (AtEnd h a n))))
+      → ((h : Hub) (a : Op) (n : ℕ) → Is T.the_row h (hub_val h ∷ []) → Is O.the_row a (op_val a ∷ []) → n < 2 ^ 8
+      → Sq 𝓛 [] (prop (run (hub_val h ∷ op_val a ∷ vint w8 n ∷ []) (AtEnd h a n))))
       → Meets 𝓛 (signature R) run (closing 𝓛 (ended R) (clauses 𝓤 R answer D))
   meets run mono walk =
       let t = Goes-none 𝓛 0 (λ _. T.the_row) yes (λ κs x f. refl) in
@@ -104,5 +104,5 @@ module _ {M : Type 1} {𝓤 : Ura M} (𝓛 : Logic 𝓤) (R : RattleType)
       (λ κs qs bounds y g are. via 𝓤 _ (fst∗ 𝓤 _ (emp 𝓤))
       (qed 𝓛 (‵ ftrue
       ∷ ‵ (owns (T.the_row ∷ O.the_row ∷ u8 ∷ []) y
-      (hubVal y.0 ∷ [], (opVal y.1.0 ∷ [], (vint w8 y.1.1.0 ∷ [], tt)))) ∷ []) ∵ keep ! [] $
+      (hub_val y.0 ∷ [], (op_val y.1.0 ∷ [], (vint w8 y.1.1.0 ∷ [], tt)))) ∷ []) ∵ keep ! [] $
       walk y.0 y.1.0 y.1.1.0 are.0 are.1.0 are.1.1.0.1)))

@@ -104,8 +104,8 @@ of-records D n xs vs p =
     (p.0, ((p.1.0.0, sym (length-map xs D.to) ∙ p.1.0.1), each-record D xs p.0 p.1.1))
 
 -- the machine's value of a record, and those of its fields
-abbrev pub hubVal : Hub → Val
-hubVal = LL.val T.the_type T'.the_laws
+abbrev pub hub_val : Hub → Val
+hub_val = LL.val T.the_type T'.the_laws
 
 abbrev pub held : Hub → Valss (fields T.the_type)
 held h = valss (fields T.the_type) (LL.spells (T.the_type).parts T'.the_laws) ((T.the_type).to h)
@@ -117,8 +117,8 @@ field_vals h = of_list (flat (fields T.the_type) (held h))
 module _ {M : Type 1} (𝓤 : Ura M) (R : RattleType) (D : Hub → Op → ℕ → R.Denot) where
   open Notation.connectives 𝓤 use {⌜◌⌝, ⊤ₛ}
 
-  abbrev pub coreClauses : Clauses 𝓤 (ended R)
-  coreClauses = λ κs a. record {
+  abbrev pub core_clauses : Clauses 𝓤 (ended R)
+  core_clauses = λ κs a. record {
     ghost = Unit {0};
     requires = λ g. ⊤ₛ;
     ensures = λ g r e. ⌜ r ≡ D ((T.struct).make a.1.1 tt) a.0 a.1.0 ⌝;
@@ -127,18 +127,18 @@ module _ {M : Type 1} (𝓤 : Ura M) (R : RattleType) (D : Hub → Op → ℕ �
 module _ {M : Type 1} {𝓤 : Ura M} (𝓛 : Logic 𝓤) where
   -- the values of the fields are of their types
   pub typed :
-      (h : Hub) → Is T.the_row h (hubVal h ∷ []) → Typed (mirs (fields T.the_type)) (flat (fields T.the_type) (held h))
+      (h : Hub) → Is T.the_row h (hub_val h ∷ []) → Typed (mirs (fields T.the_type)) (flat (fields T.the_type) (held h))
   typed h is =
       typeds 𝓛 (fields T.the_type) (LL.lawfuls 𝓛 (T.the_type).parts T'.the_laws)
       ((T.the_type).to h) (held h) (LL.owed T.the_type T'.the_laws h _ is)
 
 module _ {M : Type 1} {𝓤 : Ura M} (𝓛 : Logic 𝓤) (R : RattleType) (D : Hub → Op → ℕ → R.Denot) where
   abbrev pub Core : Contract 𝓤
-  Core = triple_of 𝓛 (signature R) (closing 𝓛 (ended R) (coreClauses 𝓤 R D))
+  Core = triple_of 𝓛 (signature R) (closing 𝓛 (ended R) (core_clauses 𝓤 R D))
 
   answered :
       (h : Hub) (a : Op) (n : ℕ) (r : R.Denot)
-      → ent 𝓤 (ensured 𝓛 (ended R) (coreClauses 𝓤 R D) tt (a, (n, (T.struct).as_values h)) tt r)
+      → ent 𝓤 (ensured 𝓛 (ended R) (core_clauses 𝓤 R D) tt (a, (n, (T.struct).as_values h)) tt r)
       (fact 𝓤 (r ≡ D h a n))
   answered h a n r =
       ex_e 𝓤 _ (λ ws.
@@ -153,7 +153,7 @@ module _ {M : Type 1} {𝓤 : Ura M} (𝓛 : Logic 𝓤) (R : RattleType)
   to-core a u h n = ((tt, tt, tt, (a, (n, (T.struct).as_values h)), (u ∷ [], (vint w8 n ∷ [], held h))), tt)
 
   pub goes-core :
-      (a : Op) (u : Val) (h : Hub) (n : ℕ) → Is O.the_row a (u ∷ []) → n < 2 ^ 8 → Is T.the_row h (hubVal h ∷ [])
+      (a : Op) (u : Val) (h : Hub) (n : ℕ) → Is O.the_row a (u ∷ []) → n < 2 ^ 8 → Is T.the_row h (hub_val h ∷ [])
       → ent 𝓤 (sem 𝓛 ftrue) ((Core 𝓛 R D).pre (to-core a u h n))
   goes-core a u h n is-op fits is =
       let e = LL.owed T.the_type T'.the_laws h _ is in
@@ -177,7 +177,7 @@ module _ {M : Type 1} {𝓤 : Ura M} (𝓛 : Logic 𝓤) (R : RattleType)
       → Sq 𝓛 (raw ((Core 𝓛 R D).post (to-core a u h n) v) ∷ Γ) G
   answers a u h n v Γ G z k =
       use1 𝓛 (later (some (λ (r : R.Denot). (‵ ftrue ⊛ ‵ (R.own_val r (v ∷ [])))
-      ⊛ raw (ensured 𝓛 (ended R) (coreClauses 𝓤 R D) tt (a, (n, (T.struct).as_values h)) tt r)))) (id⊢ 𝓤 _) $
+      ⊛ raw (ensured 𝓛 (ended R) (core_clauses 𝓤 R D) tt (a, (n, (T.struct).as_values h)) tt r)))) (id⊢ 𝓤 _) $
       await ! z $ pick ! (λ r. split ! $ move ! (1 ∷ []) $
       use1 𝓛 (raw (fact 𝓤 (r ≡ D h a n))) (answered 𝓛 R D h a n r) $ heard ! (r ≡ D h a n) (λ e.
       split ! $ drop ! $ facts ! R (Is R) (shows 𝓛 R) r (v ∷ []) (λ is. k r e is)))

@@ -90,7 +90,7 @@ use Rattle.hub.proofs.record.PartySlot.TheLaws as PartySlot'
 use Rattle.hub.proofs.record.PlaceSlot.TheLaws as PlaceSlot'
 use Rattle.shellwalk.proofs.Body.{ShellSpots, Types, cleared, env, handing, hands-over, taken}
 use Rattle.shellwalk.proofs.InPlace as shell
-use Rattle.shellwalk.proofs.OverFields.{Core, answers, field_vals, goes-core, hubVal, to-core, typed}
+use Rattle.shellwalk.proofs.OverFields.{Core, answers, field_vals, goes-core, hub_val, to-core, typed}
 
 -- What a shell does, beside the code: the parameters after the reference, which stay as they were; what the function
 -- over the fields answers, the record in it, and what the shell tells of it, the hub's answer in that.
@@ -154,55 +154,55 @@ module _ {M : Type 1} {𝓤 : Ura M} (𝓛 : Logic 𝓤) (κ : Lft) (q : Share) 
   -- the borrow is opened
   pub opening :
       (h : Hub) (Γ : List (Item 𝓤)) (G : Goal 𝓤 H) → Soaks G
-      → (Is T.the_row h (hubVal h ∷ [])
+      → (Is T.the_row h (hub_val h ∷ [])
       → Sq 𝓛
-      (‵ (fat full_share T'.mir b o (hubVal h)) ∷ X ∷ Y ((T.the_row).coded.code h) ∷ Z ((T.the_row).coded.code h)
+      (‵ (fat full_share T'.mir b o (hub_val h)) ∷ X ∷ Y ((T.the_row).coded.code h) ∷ Z ((T.the_row).coded.code h)
       ∷ Γ) G)
       → Sq 𝓛 (borrowed h Γ) G
   opening h Γ G z k =
       opens ! z T.the_row {h = h} b o (λ vs.
       spelt ! T.the_row (Is T.the_row) (shows 𝓛 T.the_row) (LL.vals T.the_type T'.the_laws)
       (LL.tells T.the_type T'.the_laws) full_share h vs b o $
-      use1 𝓛 (‵ (fat full_share T'.mir b o (hubVal h))) (𝓛.laws.raw_at full_share T'.mir b o (hubVal h)) $
-      move ! (1 ∷ []) $ facts ! T.the_row (Is T.the_row) (shows 𝓛 T.the_row) h (hubVal h ∷ []) k)
+      use1 𝓛 (‵ (fat full_share T'.mir b o (hub_val h))) (𝓛.laws.raw_at full_share T'.mir b o (hub_val h)) $
+      move ! (1 ∷ []) $ facts ! T.the_row (Is T.the_row) (shows 𝓛 T.the_row) h (hub_val h ∷ []) k)
 
   -- and closed over another record
   pub shuts :
-      (h : Hub) → Is T.the_row h (hubVal h ∷ []) → (g : Gv) (Γ : List (Item 𝓤)) (G : Goal 𝓤 H) → Soaks G
-      → Step (Go {0}) 𝓛 (borrowed h Γ) G (‵ (fat full_share T'.mir b o (hubVal h)) ∷ X ∷ Y g ∷ Z g ∷ Γ) G
+      (h : Hub) → Is T.the_row h (hub_val h ∷ []) → (g : Gv) (Γ : List (Item 𝓤)) (G : Goal 𝓤 H) → Soaks G
+      → Step (Go {0}) 𝓛 (borrowed h Γ) G (‵ (fat full_share T'.mir b o (hub_val h)) ∷ X ∷ Y g ∷ Z g ∷ Γ) G
   shuts h is g Γ G z =
       step (λ s.
       owned ! T.the_row (Is T.the_row) (LL.makes T.the_type T'.the_plain 𝓛) h _ is $ move ! (1 ∷ []) $
-      use1 𝓛 (‵ (cell_at full_share (T.the_row).mir (hubVal h ∷ []) b o))
-      (𝓛.laws.at_raw full_share T'.mir b o (hubVal h)) $ closes ! z T.the_row h (hubVal h ∷ []) b o $ s)
+      use1 𝓛 (‵ (cell_at full_share (T.the_row).mir (hub_val h ∷ []) b o))
+      (𝓛.laws.at_raw full_share T'.mir b o (hub_val h)) $ closes ! z T.the_row h (hub_val h ∷ []) b o $ s)
 
 -- a shell's locals: what it returns, the reference, three more, the record's fields
 abbrev pub ref : Ty
 ref = ty_ref (named 0) mut (pointee (T.the_row).written)
 
-abbrev pub fieldTypes : List Ty
-fieldTypes =
+abbrev pub field_types : List Ty
+field_types =
     ty_array PlaceSlot'.mir 256
     ∷ ty_array PartySlot'.mir 32
     ∷ Control'.mir
     ∷ []
 
-abbrev pub localTypes : Ty → Ty → Ty → Ty → Types
-localTypes τ₀ τ₂ τ₃ τ₄ = record { t0 = τ₀; t1 = ref; t2 = τ₂; t3 = τ₃; t4 = τ₄; fields = fieldTypes }
+abbrev pub local_types : Ty → Ty → Ty → Ty → Types
+local_types τ₀ τ₂ τ₃ τ₄ = record { t0 = τ₀; t1 = ref; t2 = τ₂; t3 = τ₃; t4 = τ₄; fields = field_types }
 
 -- the call of the function over the fields, which has the contract D: what it answers lands in local d
 module _ {M : Type 1} {𝓤 : Ura M} (𝓛 : Logic 𝓤) (C : Calls 𝓤 𝓛.H) (Λ : Loops 𝓤 𝓛.H)
-    (R : RattleType) (D : Hub → Op → ℕ → R.Denot) (τ₀ τ₂ τ₃ τ₄ : Ty) (s : ShellSpots fieldTypes) (b o : ℕ) (X Y Z i₂ i₃ i₄ : Item 𝓤)
+    (R : RattleType) (D : Hub → Op → ℕ → R.Denot) (τ₀ τ₂ τ₃ τ₄ : Ty) (s : ShellSpots field_types) (b o : ℕ) (X Y Z i₂ i₃ i₄ : Item 𝓤)
   where
     open 𝓛 use {H}
 
     abbrev t : Types
-    t = localTypes τ₀ τ₂ τ₃ τ₄
+    t = local_types τ₀ τ₂ τ₃ τ₄
 
     pub over-fields :
         FmC 𝓤 H 𝓛.laws C → (key : Name) → Triple 𝓤 (C key) (Core 𝓛 R D)
         → (x y : Operand) (d : ℕ) (rest : Body) (q : Post 𝓤 H) (h : Hub) (a : Op) (u : Val) (n : ℕ)
-        → Is T.the_row h (hubVal h ∷ []) → Is O.the_row a (u ∷ []) → n < 2 ^ 8
+        → Is T.the_row h (hub_val h ∷ []) → Is O.the_row a (u ∷ []) → n < 2 ^ 8
         → Opd (Go {0}) 𝓛
         (raw ((Core 𝓛 R D).pre (to-core 𝓛 R D a u h n))
         ∷ taken 𝓛 C Λ t s T'.mir b o X Y Z i₂ i₃ i₄ (field_vals h)) (env 𝓤 H t s) x u
@@ -210,10 +210,10 @@ module _ {M : Type 1} {𝓤 : Ura M} (𝓛 : Logic 𝓤) (C : Calls 𝓤 𝓛.H)
         (raw ((Core 𝓛 R D).pre (to-core 𝓛 R D a u h n))
         ∷ taken 𝓛 C Λ t s T'.mir b o X Y Z i₂ i₃ i₄ (field_vals h)) (env 𝓤 H t s) y (vint w8 n)
         → ((v : Val) (r : R.Denot) → r ≡ D h a n → Is R r (v ∷ [])
-        → Sq 𝓛 (cleared 𝓛 C Λ t s T'.mir b o X Y Z i₂ i₃ i₄ (hubVal h))
+        → Sq 𝓛 (cleared 𝓛 C Λ t s T'.mir b o X Y Z i₂ i₃ i₄ (hub_val h))
         (lands C Λ (env 𝓤 H t s) (place d []) v rest q))
-        → Sq 𝓛 (cleared 𝓛 C Λ t s T'.mir b o X Y Z i₂ i₃ i₄ (hubVal h))
-        (runs C Λ (env 𝓤 H t s) (handing T'.mir fieldTypes key x y d rest) q)
+        → Sq 𝓛 (cleared 𝓛 C Λ t s T'.mir b o X Y Z i₂ i₃ i₄ (hub_val h))
+        (runs C Λ (env 𝓤 H t s) (handing T'.mir field_types key x y d rest) q)
     over-fields fm key known x y d rest q h a u n is is-op fits is_x is_y k =
         hands-over 𝓛 C Λ t s T'.mir b o X Y Z i₂ i₃ i₄ (field_vals h) fm
         (refl, (refl, (refl, tt))) (refl, (refl, (refl, tt)))

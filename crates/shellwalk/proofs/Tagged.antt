@@ -45,9 +45,9 @@ use Rattle.hub.specs.contracts.record.Hub as T
 use Rattle.hub.proofs.record.Hub.TheLaws as T'
 use Rattle.hub.specs.contracts.record.Outcome as R
 use Rattle.hub.proofs.record.Outcome.TheLaws as R'
-use Rattle.shellwalk.proofs.Body.{enters, field_in, handing, offsetIn, shellOf, storing, stores}
+use Rattle.shellwalk.proofs.Body.{enters, field_in, handing, offset_in, shell_of, storing, stores}
 use Rattle.shellwalk.proofs.OverFields as core
-use Rattle.shellwalk.proofs.OverFields.{Core, coreClauses, hubVal}
+use Rattle.shellwalk.proofs.OverFields.{Core, core_clauses, hub_val}
 use Rattle.shellwalk.proofs.Shell.{
   Kind,
   AtEnd,
@@ -58,8 +58,8 @@ use Rattle.shellwalk.proofs.Shell.{
   borrowed,
   clauses,
   ended,
-  fieldTypes,
-  localTypes,
+  field_types,
+  local_types,
   meets,
   opening,
   over-fields,
@@ -68,11 +68,11 @@ use Rattle.shellwalk.proofs.Shell.{
 }
 
 -- the MIR of the shell over the function called key, for the call whose tag is k
-abbrev pub shellFn : Name → ℕ → Fn
-shellFn key k =
-    shellOf 2 (localTypes P'.mir (ty_int w8) R'.mir O'.mir)
+abbrev pub shell_fn : Name → ℕ → Fn
+shell_fn key k =
+    shell_of 2 (local_types P'.mir (ty_int w8) R'.mir O'.mir)
     (seq (assign (place 4 []) (aggregate (int w8 k ∷ [])))
-    (handing T'.mir fieldTypes key (copy (place 4 [])) (copy (place 2 [])) 3
+    (handing T'.mir field_types key (copy (place 4 [])) (copy (place 2 [])) 3
     (storing T'.mir (copy (place 3 (field 1 ∷ []))) (rv_opd (copy (place 3 (field 0 ∷ [])))))))
 
 -- a shell whose call leaves f: it tells the answer
@@ -97,21 +97,21 @@ by-op h a p = called h (record { op = a; party = p })
 abbrev pub answer_val : Answer → Val
 answer_val = EL.val P.the_type P'.the_laws
 
-abbrev pub outcomeVal : Outcome → Val
-outcomeVal = LL.val R.the_type R'.the_laws
+abbrev pub outcome_val : Outcome → Val
+outcome_val = LL.val R.the_type R'.the_laws
 
-abbrev outcomeVals : Outcome → Vals
-outcomeVals r = of_list (answer_val r.answer ∷ hubVal r.hub ∷ [])
+abbrev outcome_vals : Outcome → Vals
+outcome_vals r = of_list (answer_val r.answer ∷ hub_val r.hub ∷ [])
 
 pub parts :
     (r : Outcome) (v : Val) → Is R.the_row r (v ∷ [])
     → Is P.the_row r.answer (answer_val r.answer ∷ [])
-    × (Is T.the_row r.hub (hubVal r.hub ∷ []) × Unit {0})
+    × (Is T.the_row r.hub (hub_val r.hub ∷ []) × Unit {0})
 parts r v is = LL.owed R.the_type R'.the_laws r _ is
 
 -- the machine's value of the call whose tag is k, and the tag of each call
-abbrev pub tagVal : ℕ → Val
-tagVal k = vstruct (of_list (vint w8 k ∷ []))
+abbrev pub tag_val : ℕ → Val
+tag_val k = vstruct (of_list (vint w8 k ∷ []))
 
 abbrev pub tag : Op → ℕ
 tag Op.Acquire = 0
@@ -120,7 +120,7 @@ tag Op.Cancel = 2
 tag Op.Release = 3
 tag Op.Radio = 4
 
-pub tagged : (a : Op) → Is O.the_row a (tagVal (tag a) ∷ [])
+pub tagged : (a : Op) → Is O.the_row a (tag_val (tag a) ∷ [])
 tagged Op.Acquire = EL.owes O.the_type O'.the_laws Op.Acquire tt
 tagged Op.Step = EL.owes O.the_type O'.the_laws Op.Step tt
 tagged Op.Cancel = EL.owes O.the_type O'.the_laws Op.Cancel tt
@@ -128,7 +128,7 @@ tagged Op.Release = EL.owes O.the_type O'.the_laws Op.Release tt
 tagged Op.Radio = EL.owes O.the_type O'.the_laws Op.Radio tt
 
 module _ {M : Type 1} {𝓤 : Ura M} (𝓛 : Logic 𝓤)
-    (D : Hub → Op → ℕ → Outcome) (a : Op) (k : ℕ) (is-op : Is O.the_row a (tagVal k ∷ []))
+    (D : Hub → Op → ℕ → Outcome) (a : Op) (k : ℕ) (is-op : Is O.the_row a (tag_val k ∷ []))
     (small : Holds (ltb k (2 ^ 8))) (key : Name) (C : Calls 𝓤 𝓛.H) (Λ : Loops 𝓤 𝓛.H) (fm : FmC 𝓤 𝓛.H 𝓛.laws C)
     (known : Triple 𝓤 (C key) (Core 𝓛 R.the_row D)) where
   open 𝓛 use {H}
@@ -140,10 +140,10 @@ module _ {M : Type 1} {𝓤 : Ura M} (𝓛 : Logic 𝓤)
       (κ : Lft) (q : Share) (b o : ℕ) (γ : GName) (h : Hub) (n : ℕ) → n < 2 ^ 8
       → Sq 𝓛 (borrowed 𝓛 κ q b o γ h [])
       (prop
-      (WpFn 𝓤 H C Λ (shellFn key k) (vptr b o ∷ vint w8 n ∷ [])
+      (WpFn 𝓤 H C Λ (shell_fn key k) (vptr b o ∷ vint w8 n ∷ [])
       (AtEnd 𝓛 K κ q b o γ h (n, tt) (vint w8 n ∷ [], tt))))
   walk κ q b o γ h n fits =
-      enters 𝓛 C Λ (localTypes P'.mir (ty_int w8) R'.mir O'.mir) (borrowed 𝓛 κ q b o γ h []) 2 _
+      enters 𝓛 C Λ (local_types P'.mir (ty_int w8) R'.mir O'.mir) (borrowed 𝓛 κ q b o γ h []) 2 _
       (vptr b o ∷ vint w8 n ∷ []) (AtEnd 𝓛 K κ q b o γ h (n, tt) (vint w8 n ∷ [], tt)) (λ s.
       pass1 ! (init ! 6 refl (tt, tt)) $ pass1 ! (init ! 4 refl (tt, record { fits = fits })) $ pass0 ! $
       move ! (10 ∷ 11 ∷ 12 ∷ []) $ opening 𝓛 κ q b o γ h _ _ tt (λ is.
@@ -153,27 +153,27 @@ module _ {M : Type 1} {𝓤 : Ura M} (𝓛 : Logic 𝓤)
       over-fields 𝓛 C Λ R.the_row D P'.mir (ty_int w8) R'.mir O'.mir s b o (X 𝓛 κ q b o γ)
       (Y 𝓛 κ q b o γ ((T.the_row).coded.code h)) (Z 𝓛 κ q b o γ ((T.the_row).coded.code h))
       (‵ (fat full_share (ty_int w8) s.l2 0 (vint w8 n))) (‵ (froom R'.mir s.l3 0))
-      (‵ (fat full_share O'.mir s.l4 0 (tagVal k))) fm key known (copy (place 4 [])) (copy (place 2 [])) 3
-      _ _ h a (tagVal k) n is is-op fits (load ! (from ! (stop !)) (look ! 5 refl))
+      (‵ (fat full_share O'.mir s.l4 0 (tag_val k))) fm key known (copy (place 4 [])) (copy (place 2 [])) 3
+      _ _ h a (tag_val k) n is is-op fits (load ! (from ! (stop !)) (look ! 5 refl))
       (load ! (from ! (stop !)) (look ! 9 refl)) (λ v r e is'.
       land ! (from ! (stop !)) (init ! 6 refl ((LL.lawful R.the_type R'.the_laws 𝓛).typed r _ is').0) $
       rewrite ! 6 (λ (u : Val). ‵ (fat full_share R'.mir s.l3 0 u))
       (ap only (LL.tells R.the_type R'.the_laws r _ is')) refl $
-      stores 𝓛 C Λ (localTypes P'.mir (ty_int w8) R'.mir O'.mir) s T'.mir b o (X 𝓛 κ q b o γ)
+      stores 𝓛 C Λ (local_types P'.mir (ty_int w8) R'.mir O'.mir) s T'.mir b o (X 𝓛 κ q b o γ)
       (Y 𝓛 κ q b o γ ((T.the_row).coded.code h)) (Z 𝓛 κ q b o γ ((T.the_row).coded.code h))
-      (‵ (fat full_share (ty_int w8) s.l2 0 (vint w8 n))) (‵ (fat full_share R'.mir s.l3 0 (outcomeVal r)))
-      (‵ (fat full_share O'.mir s.l4 0 (tagVal k))) (hubVal h) (hubVal r.hub) (answer_val r.answer)
+      (‵ (fat full_share (ty_int w8) s.l2 0 (vint w8 n))) (‵ (fat full_share R'.mir s.l3 0 (outcome_val r)))
+      (‵ (fat full_share O'.mir s.l4 0 (tag_val k))) (hub_val h) (hub_val r.hub) (answer_val r.answer)
       (AtEnd 𝓛 K κ q b o γ h (n, tt) (vint w8 n ∷ [], tt))
       (‵ (fobs γ ((T.the_row).coded.code r.hub))) (‵ (fbor κ (Held (mem T.the_row) b o γ))) (‵ (flft κ q))
       (copy (place 3 (field 1 ∷ []))) (rv_opd (copy (place 3 (field 0 ∷ []))))
-      (field_in 𝓛 _ _ 3 1 6 R'.mir T'.mir s.l3 (offsetIn R'.mir 1) (outcomeVals r) refl refl refl)
+      (field_in 𝓛 _ _ 3 1 6 R'.mir T'.mir s.l3 (offset_in R'.mir 1) (outcome_vals r) refl refl refl)
       (of_opd !
-      (field_in 𝓛 _ _ 3 0 6 R'.mir P'.mir s.l3 (offsetIn R'.mir 0) (outcomeVals r) refl refl refl))
+      (field_in 𝓛 _ _ 3 0 6 R'.mir P'.mir s.l3 (offset_in R'.mir 0) (outcome_vals r) refl refl refl))
       ((LL.lawful T.the_type T'.the_laws 𝓛).typed r.hub _ (parts r v is').1.0).0
       ((EL.lawful P.the_type P'.the_laws 𝓛 tt).typed r.answer _ (parts r v is').0).0
       (shuts 𝓛 κ q b o γ r.hub (parts r v is').1.0 ((T.the_row).coded.code h))
-      (𝓛.laws.at_room (ty_int w8) s.l2 0 (vint w8 n)) (𝓛.laws.at_room R'.mir s.l3 0 (outcomeVal r))
-      (𝓛.laws.at_room O'.mir s.l4 0 (tagVal k))
+      (𝓛.laws.at_room (ty_int w8) s.l2 0 (vint w8 n)) (𝓛.laws.at_room R'.mir s.l3 0 (outcome_val r))
+      (𝓛.laws.at_room O'.mir s.l4 0 (tag_val k))
       (reaches 𝓛 K κ q b o γ h (n, tt) (vint w8 n ∷ [], tt) (tt, tt) (tt, tt)
       (qed 𝓛 [] ∵ nothing ! $ owned ! u8 (Is u8) (uint_Makes 𝓛 w8) n _ (refl, fits) $ fjoin ! $ done !)
       r e (answer_val r.answer)
@@ -184,19 +184,19 @@ module _ {M : Type 1} {𝓤 : Ura M} (𝓛 : Logic 𝓤)
 pub shell-spec :
     {M : Type 1} {𝓤 : Ura M} (𝓛 : Logic 𝓤) (𝓜 : Model 𝓤 𝓛.H) (𝓡 : Running 𝓤 𝓛.H 𝓜)
     (D : Hub → Op → ℕ → Outcome) (a : Op) (env : Env) (own key : Name) (routine : Routine) {k : ℕ}
-    → Closed 𝓤 𝓛.H (tables 𝓤 𝓛.H 𝓜 𝓡 env).C (tables 𝓤 𝓛.H 𝓜 𝓡 env).Λ own (shellFn key k)
-    → Is O.the_row a (tagVal k ∷ []) → Holds (ltb k (2 ^ 8)) → env key ≡ routine
+    → Closed 𝓤 𝓛.H (tables 𝓤 𝓛.H 𝓜 𝓡 env).C (tables 𝓤 𝓛.H 𝓜 𝓡 env).Λ own (shell_fn key k)
+    → Is O.the_row a (tag_val k ∷ []) → Holds (ltb k (2 ^ 8)) → env key ≡ routine
     → Meets 𝓛 (core.signature R.the_row) (𝓡.run routine)
-    (closing 𝓛 (core.ended R.the_row) (coreClauses 𝓤 R.the_row D))
+    (closing 𝓛 (core.ended R.the_row) (core_clauses 𝓤 R.the_row D))
     → Meets 𝓛 (ended (kind (λ h p. D h a p))).signature (𝓡.run (env own))
     (closing 𝓛 (ended (kind (λ h p. D h a p))) (clauses 𝓤 (kind (λ h p. D h a p))))
 unfolding tables_of
 shell-spec {𝓤 = 𝓤} 𝓛 𝓜 𝓡 D a env own key routine {k} closed is-op small calls met =
     let 𝓣 : Tables 𝓤 𝓛.H = tables_of 𝓤 𝓛.H 𝓜 (tables 𝓤 𝓛.H 𝓜 𝓡 env) in
     entered 𝓤 𝓛.H (Shell 𝓛 (kind (λ h p. D h a p))) (tables 𝓤 𝓛.H 𝓜 𝓡 env).C (tables 𝓤 𝓛.H 𝓜 𝓡 env).Λ own
-    (shellFn key k) closed
+    (shell_fn key k) closed
     (meets 𝓛 (kind (λ h p. D h a p))
     (Goes-none 𝓛 1 (λ _. u8) yes (λ κs x f. refl), tt) (λ κs. (uint_vals w8, tt)) (λ κs. (uint_Tells w8, tt))
-    (WpFn 𝓤 𝓛.H 𝓣.C 𝓣.Λ (shellFn key k)) (WpFn-mono 𝓤 𝓛.H 𝓛.laws 𝓣 (shellFn key k))
+    (WpFn 𝓤 𝓛.H 𝓣.C 𝓣.Λ (shell_fn key k)) (WpFn-mono 𝓤 𝓛.H 𝓛.laws 𝓣 (shell_fn key k))
     (λ κ q b o γ h x are. walk 𝓛 D a k is-op small key 𝓣.C 𝓣.Λ (fm_of 𝓤 𝓛.H 𝓛.laws 𝓣)
     (cited 𝓤 𝓛.H (Core 𝓛 R.the_row D) 𝓜 𝓡 env key routine calls met) κ q b o γ h x.0 are.0.1))

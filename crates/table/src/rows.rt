@@ -1,10 +1,10 @@
 // The step table, a row a function.
 
 ghost use Rattle.std.specs.Prelude.{◌≡◌, ◌≤◌};
-ghost use Rattle.hub.specs.Phases.{isWaiting};
+ghost use Rattle.hub.specs.Phases.{is_waiting};
 ghost use Rattle.hub.specs.Table;
-ghost use Rattle.hub.specs.Table.{aboveZero, resumeWaiter, stepAcquiring, stepIn, stepTicketed};
-ghost use Rattle.hub.specs.Table.{withPermit, withoutPermit};
+ghost use Rattle.hub.specs.Table.{above_zero, resume_waiter, step_acquiring, step_in, step_ticketed};
+ghost use Rattle.hub.specs.Table.{with_permit, without_permit};
 ghost use Rattle.effects.specs.Effect.{effect_of};
 ghost use Rattle.effects.specs.Small.{Small, CounterFits};
 
@@ -18,7 +18,7 @@ use hub::record::{Phase, Place};
 
 // With a permit of its own; having given one back.
 fn with_permit(named: bool) -> Phase
-    ensures { result ≡ withPermit named }
+    ensures { result ≡ with_permit named }
 {
     if named {
         return Phase::Fetching;
@@ -27,7 +27,7 @@ fn with_permit(named: bool) -> Phase
 }
 
 fn without_permit(named: bool) -> Phase
-    ensures { result ≡ withoutPermit named }
+    ensures { result ≡ without_permit named }
 {
     if named {
         return Phase::Storing;
@@ -38,7 +38,7 @@ fn without_permit(named: bool) -> Phase
 // `next`: unnumbered, with or without a mark.
 fn step_acquiring(next: Phase, s: Sight) -> Effect
     requires { CounterFits s.figures.counter }
-    ensures { result ≡ effect_of (stepAcquiring next (aboveZero s.figures.counter) s) s }
+    ensures { result ≡ effect_of (step_acquiring next (above_zero s.figures.counter) s) s }
 {
     if above_zero(s.figures.counter) {
         return taken(with_permit(s.named), Answer::Acquired, s);
@@ -48,7 +48,7 @@ fn step_acquiring(next: Phase, s: Sight) -> Effect
 
 fn step_suspending(s: Sight) -> Effect
     requires { s.figures.issued ≤ 1000000 }
-    ensures { result ≡ effect_of (stepIn Phase.Suspending s) s }
+    ensures { result ≡ effect_of (step_in Phase.Suspending s) s }
 {
     let figures = s.figures;
     let t = figures.issued;
@@ -58,7 +58,7 @@ fn step_suspending(s: Sight) -> Effect
 
 fn step_suspending_marked(s: Sight) -> Effect
     requires { s.figures.issued ≤ 1000000 }
-    ensures { result ≡ effect_of (stepIn Phase.SuspendingMarked s) s }
+    ensures { result ≡ effect_of (step_in Phase.SuspendingMarked s) s }
 {
     let figures = s.figures;
     let t = figures.issued;
@@ -68,7 +68,7 @@ fn step_suspending_marked(s: Sight) -> Effect
 
 // `next`: waiting, or giving up if there is a mark.
 fn step_ticketed(next: Phase, t: u32, s: Sight) -> Effect
-    ensures { result ≡ effect_of (stepTicketed next t s.seat.place s) s }
+    ensures { result ≡ effect_of (step_ticketed next t s.seat.place s) s }
 {
     let seat = s.seat;
     let place = seat.place;
@@ -81,7 +81,7 @@ fn step_ticketed(next: Phase, t: u32, s: Sight) -> Effect
 
 fn step_releasing(s: Sight) -> Effect
     requires { CounterFits s.figures.counter }
-    ensures { result ≡ effect_of (stepIn Phase.Releasing s) s }
+    ensures { result ≡ effect_of (step_in Phase.Releasing s) s }
 {
     if below_zero(s.figures.counter) {
         return given(Phase::Resuming, Answer::MustResume, s);
@@ -91,7 +91,7 @@ fn step_releasing(s: Sight) -> Effect
 
 fn step_resuming(s: Sight) -> Effect
     requires { s.figures.resumed ≤ 1000000 }
-    ensures { result ≡ effect_of (stepIn Phase.Resuming s) s }
+    ensures { result ≡ effect_of (step_in Phase.Resuming s) s }
 {
     let figures = s.figures;
     let t = figures.resumed;
@@ -101,7 +101,7 @@ fn step_resuming(s: Sight) -> Effect
 
 // The waiter is woken, or has given up and is left the permit.
 fn resume_waiter(q: u32, t: u32, s: Sight) -> Effect
-    ensures { result ≡ effect_of (resumeWaiter (isWaiting s.waiter.phase) q t s) s }
+    ensures { result ≡ effect_of (resume_waiter (is_waiting s.waiter.phase) q t s) s }
 {
     let waiter = s.waiter;
     let phase = waiter.phase;
@@ -112,7 +112,7 @@ fn resume_waiter(q: u32, t: u32, s: Sight) -> Effect
 }
 
 fn step_resuming_at(t: u32, s: Sight) -> Effect
-    ensures { result ≡ effect_of (stepIn (Phase.ResumingAt t) s) s }
+    ensures { result ≡ effect_of (step_in (Phase.ResumingAt t) s) s }
 {
     let seat = s.seat;
     let place = seat.place;
@@ -127,7 +127,7 @@ fn step_resuming_at(t: u32, s: Sight) -> Effect
 
 fn step_aborting(t: u32, s: Sight) -> Effect
     requires { CounterFits s.figures.counter }
-    ensures { result ≡ effect_of (stepIn (Phase.Aborting t) s) s }
+    ensures { result ≡ effect_of (step_in (Phase.Aborting t) s) s }
 {
     if below_zero(s.figures.counter) {
         return given(Phase::Cancelling(t), Answer::MustCancel, s);
@@ -136,7 +136,7 @@ fn step_aborting(t: u32, s: Sight) -> Effect
 }
 
 fn step_cancelling(t: u32, s: Sight) -> Effect
-    ensures { result ≡ effect_of (stepIn (Phase.Cancelling t) s) s }
+    ensures { result ≡ effect_of (step_in (Phase.Cancelling t) s) s }
 {
     let seat = s.seat;
     let place = seat.place;
@@ -148,7 +148,7 @@ fn step_cancelling(t: u32, s: Sight) -> Effect
 }
 
 fn step_refusing(t: u32, s: Sight) -> Effect
-    ensures { result ≡ effect_of (stepIn (Phase.Refusing t) s) s }
+    ensures { result ≡ effect_of (step_in (Phase.Refusing t) s) s }
 {
     let seat = s.seat;
     let place = seat.place;
@@ -161,7 +161,7 @@ fn step_refusing(t: u32, s: Sight) -> Effect
 
 // A radio is stored, or not yet.
 fn step_fetching(s: Sight) -> Effect
-    ensures { result ≡ effect_of (stepIn Phase.Fetching s) s }
+    ensures { result ≡ effect_of (step_in Phase.Fetching s) s }
 {
     if s.stocked {
         return turned(Phase::Holding, Answer::Fetched, s);
@@ -170,7 +170,7 @@ fn step_fetching(s: Sight) -> Effect
 }
 
 fn step_storing(s: Sight) -> Effect
-    ensures { result ≡ effect_of (stepIn Phase.Storing s) s }
+    ensures { result ≡ effect_of (step_in Phase.Storing s) s }
 {
     turned(Phase::Free, Answer::Stored, s)
 }

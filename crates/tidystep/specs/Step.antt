@@ -2,27 +2,27 @@
 use Rattle.std.specs.Prelude.{ℕ, ◌+◌, ◌-◌, Bool, cond, ◌&&◌, ltb}
 use Rattle.hub.specs.declared.record.Place.{Place}
 use Rattle.hub.specs.declared.record.PlaceSlot.{PlaceSlot}
-use Rattle.hub.specs.Phases.{isCancelled, isDone}
-use Rattle.hub.specs.Record.{emptySeat, withPlace}
+use Rattle.hub.specs.Phases.{is_cancelled, is_done}
+use Rattle.hub.specs.Record.{empty_seat, with_place}
 use Rattle.hub.specs.Ring.{PLACES}
 use Rattle.tidystep.specs.declared.TidyStep.{TidyStep}
 
-abbrev pub skipTurn : PlaceSlot → ℕ → ℕ → ℕ → ℕ → TidyStep
-skipTurn ahead resumed oldest skips retires =
+abbrev pub skip_turn : PlaceSlot → ℕ → ℕ → ℕ → ℕ → TidyStep
+skip_turn ahead resumed oldest skips retires =
     record {
       ticket = resumed;
-      seat = withPlace Place.Done ahead;
+      seat = with_place Place.Done ahead;
       resumed = resumed + 1;
       oldest = oldest;
       skips = skips - 1;
       retires = retires;
     }
 
-abbrev pub retireTurn : ℕ → ℕ → ℕ → TidyStep
-retireTurn resumed oldest retires =
+abbrev pub retire_turn : ℕ → ℕ → ℕ → TidyStep
+retire_turn resumed oldest retires =
     record {
       ticket = oldest;
-      seat = emptySeat;
+      seat = empty_seat;
       resumed = resumed;
       oldest = oldest + 1;
       skips = 0;
@@ -30,8 +30,8 @@ retireTurn resumed oldest retires =
     }
 
 -- Nothing more is to do: what was there is stored.
-abbrev pub lastTurn : PlaceSlot → ℕ → ℕ → TidyStep
-lastTurn behind resumed oldest =
+abbrev pub last_turn : PlaceSlot → ℕ → ℕ → TidyStep
+last_turn behind resumed oldest =
     record {
       ticket = oldest;
       seat = behind;
@@ -42,13 +42,13 @@ lastTurn behind resumed oldest =
     }
 
 -- May ticket `resumed`, whose place this is, be skipped, with so many left to skip?
-abbrev pub maySkip : ℕ → PlaceSlot → ℕ → ℕ → Bool
-maySkip skips seat resumed oldest =
-    ltb 0 skips && (ltb resumed (oldest + PLACES) && isCancelled seat.place)
+abbrev pub may_skip : ℕ → PlaceSlot → ℕ → ℕ → Bool
+may_skip skips seat resumed oldest =
+    ltb 0 skips && (ltb resumed (oldest + PLACES) && is_cancelled seat.place)
 
 -- With so many left to skip and to retire.
-unfoldable pub tidyStep : PlaceSlot → PlaceSlot → ℕ → ℕ → ℕ → ℕ → TidyStep
-tidyStep ahead behind resumed oldest skips retires =
-    cond (maySkip skips ahead resumed oldest)
-    (skipTurn ahead resumed oldest skips retires)
-    (cond (isDone behind.place) (retireTurn resumed oldest retires) (lastTurn behind resumed oldest))
+unfoldable pub tidy_step : PlaceSlot → PlaceSlot → ℕ → ℕ → ℕ → ℕ → TidyStep
+tidy_step ahead behind resumed oldest skips retires =
+    cond (may_skip skips ahead resumed oldest)
+    (skip_turn ahead resumed oldest skips retires)
+    (cond (is_done behind.place) (retire_turn resumed oldest retires) (last_turn behind resumed oldest))

@@ -2,7 +2,7 @@
 // decided here, so that a loop in place has one way through its body and one way out.
 
 ghost use Rattle.std.specs.Prelude.{◌≡◌, ◌<◌, ◌≤◌};
-ghost use Rattle.tidystep.specs.Step.{maySkip, tidyStep};
+ghost use Rattle.tidystep.specs.Step.{may_skip, tidy_step};
 
 use hub::record::{Hub, Place, PlaceSlot};
 use hub::slots::{empty_seat, with_place};
@@ -23,7 +23,7 @@ pub struct TidyStep {
 // turns that are left, since mostly it is not cancelled.
 fn may_skip(skips: u32, seat: PlaceSlot, resumed: u32, oldest: u32) -> bool
     requires { oldest ≤ 1000256 }
-    ensures { result ≡ maySkip skips seat resumed oldest }
+    ensures { result ≡ may_skip skips seat resumed oldest }
 {
     if !can_skip(seat, resumed, oldest + Hub::PLACES) {
         return false;
@@ -41,7 +41,7 @@ pub fn tidy_step(
     retires: u32,
 ) -> TidyStep
     requires { (oldest ≤ 1000256) × (0 < retires) }
-    ensures { result ≡ tidyStep ahead behind resumed oldest skips retires }
+    ensures { result ≡ tidy_step ahead behind resumed oldest skips retires }
 {
     if may_skip(skips, ahead, resumed, oldest) {
         let next = resumed + 1;

@@ -13,49 +13,49 @@ use Rattle.hub.specs.declared.record.Outcome.{Outcome}
 use Rattle.hub.specs.declared.record.PartySlot.{PartySlot}
 use Rattle.hub.specs.Answers.{printed}
 use Rattle.hub.specs.Calls.{called}
-use Rattle.hub.specs.Calm.{rests, stepBy}
-use Rattle.hub.specs.Phases.{atRest, isOneOf}
+use Rattle.hub.specs.Calm.{rests, step_by}
+use Rattle.hub.specs.Phases.{at_rest, is_one_of}
 use Rattle.hub.specs.Record.{PARTIES}
 use Rattle.hub.specs.Schedule.{entries, run}
 use Rattle.hub.proofs.Laws.Bools.{if-false, if-true}
 use Rattle.hub.proofs.Laws.Slots.{past-slots}
 use Rattle.operations.specs.declared.Operated.{Operated}
-use Rattle.operations.specs.Operation.{MOST-STEPS, operated, stepsFrom, steps_of, turnsDown, wokenIn}
+use Rattle.operations.specs.Operation.{MOST_STEPS, operated, steps_from, steps_of, turns_down, woken_in}
 use Rattle.torest.specs.declared.Walked.{Walked}
 use Rattle.torest.specs.Walked.{walked}
 
 -- A party past the slots is at rest.
 pub past : (h : Hub) (p : ℕ) → length h.slots ≡ PARTIES → PARTIES ≤ p → true ≡ rests h p
-unfolding isOneOf
-past h p n i = sym (ap (λ (s : PartySlot). atRest s.phase) (past-slots h.slots n p i))
+unfolding is_one_of
+past h p n i = sym (ap (λ (s : PartySlot). at_rest s.phase) (past-slots h.slots n p i))
 
 -- The first of two that is not FF.
-abbrev pub firstOf : ℕ → ℕ → ℕ
-firstOf a b = cond (eqb a 0xFF) b a
+abbrev pub first_of : ℕ → ℕ → ℕ
+first_of a b = cond (eqb a 0xFF) b a
 
 -- Behind s steps that woke w.
 abbrev pub joined : ℕ → ℕ → Walked → Walked
-joined w s r = record { woken = firstOf w r.woken; steps = s + r.steps; hub = r.hub }
+joined w s r = record { woken = first_of w r.woken; steps = s + r.steps; hub = r.hub }
 
-first-first : (w v u : ℕ) → firstOf w (firstOf v u) ≡ firstOf (firstOf w v) u
+first-first : (w v u : ℕ) → first_of w (first_of v u) ≡ first_of (first_of w v) u
 first-first w v u = go (eqb w 0xFF) refl
   where
     go : (b : Bool) → eqb w 0xFF ≡ b
-        → cond b (firstOf v u) w ≡ cond (eqb (cond b v w) 0xFF) u (cond b v w)
+        → cond b (first_of v u) w ≡ cond (eqb (cond b v w) 0xFF) u (cond b v w)
     go true e = refl
     go false e = sym (if-false (eqb w 0xFF) u w e)
 
 -- A list of calls, and a step in front of it.
 abbrev of : Hub → List Call → Walked
-of h cs = record { woken = wokenIn (entries h cs); steps = length cs; hub = run h cs }
+of h cs = record { woken = woken_in (entries h cs); steps = length cs; hub = run h cs }
 
 one_more : (h : Hub) (c : Call) (cs : List Call)
     → of h (c ∷ cs) ≡ joined (printed (called h c).answer).woken 1 (of (called h c).hub cs)
-unfolding run entries wokenIn
+unfolding run entries woken_in
 one_more h c cs =
     let e : length (c ∷ cs) ≡ 1 + length cs = omega arith in
     λ i. record {
-      woken = firstOf (printed (called h c).answer).woken (wokenIn (entries (called h c).hub cs));
+      woken = first_of (printed (called h c).answer).woken (woken_in (entries (called h c).hub cs));
       steps = e i;
       hub = run (called h c).hub cs;
     }
@@ -66,13 +66,13 @@ walked_none zero h p e = refl
 walked_none (suc n) h p e = ap (of h) (if-true (rests h p) [] _ e)
 
 walked_one : (n : ℕ) (h : Hub) (p : ℕ) → rests h p ≡ false → walked (suc n) h p
-    ≡ joined (printed (called h (stepBy p)).answer).woken 1 (walked n (called h (stepBy p)).hub p)
+    ≡ joined (printed (called h (step_by p)).answer).woken 1 (walked n (called h (step_by p)).hub p)
 unfolding walked steps_of
 walked_one n h p e =
     ap (of h) (if-false (rests h p) [] _ e)
-    ∙ one_more h (stepBy p) (steps_of n (called h (stepBy p)).hub p)
+    ∙ one_more h (step_by p) (steps_of n (called h (step_by p)).hub p)
 
-none : (w : ℕ) → firstOf w 0xFF ≡ w
+none : (w : ℕ) → first_of w 0xFF ≡ w
 none w = go (eqb w 0xFF) refl
   where
     go : (b : Bool) → eqb w 0xFF ≡ b → cond b 0xFF w ≡ w
@@ -80,61 +80,61 @@ none w = go (eqb w 0xFF) refl
     go false e = refl
 
 nothing : (w s : ℕ) (h : Hub) → joined w s (of h []) ≡ record { woken = w; steps = s; hub = h }
-unfolding run entries wokenIn
+unfolding run entries woken_in
 nothing w s h =
     let f : s + 0 ≡ s = omega arith in
     λ i. record { woken = none w i; steps = f i; hub = h }
 
 -- After s steps of party p from h₀ on, which woke w, the record is h.
 pub record Walking (h₀ : Hub) (p w s : ℕ) (h : Hub) : Type 0 where
-  pub few : s ≤ MOST-STEPS
-  pub same : joined w s (walked (MOST-STEPS - s) h p) ≡ walked MOST-STEPS h₀ p
+  pub few : s ≤ MOST_STEPS
+  pub same : joined w s (walked (MOST_STEPS - s) h p) ≡ walked MOST_STEPS h₀ p
 
 pub begin : (h : Hub) (p : ℕ) → Walking h p 0xFF 0 h
 begin h p =
     record {
       few = omega arith;
       same =
-          let r = walked MOST-STEPS h p in
+          let r = walked MOST_STEPS h p in
           let e : 0 + r.steps ≡ r.steps = omega arith in
           λ i. record { woken = r.woken; steps = e i; hub = r.hub };
     }
 
 module _ (h₀ : Hub) (p w s : ℕ) (h : Hub) (k : Walking h₀ p w s h) where
-  pub go_on : (o : Outcome) (u : ℕ) → s < MOST-STEPS → rests h p ≡ false → o ≡ called h (stepBy p)
-      → u ≡ firstOf w (printed o.answer).woken → Walking h₀ p u (s + 1) o.hub
+  pub go_on : (o : Outcome) (u : ℕ) → s < MOST_STEPS → rests h p ≡ false → o ≡ called h (step_by p)
+      → u ≡ first_of w (printed o.answer).woken → Walking h₀ p u (s + 1) o.hub
   go_on o u i e q f =
       record {
         few = omega arith;
         same =
-            let n : MOST-STEPS - s ≡ suc (MOST-STEPS - (s + 1)) = omega arith in
-            ap (λ (v : ℕ). joined v (s + 1) (walked (MOST-STEPS - (s + 1)) o.hub p)) f
+            let n : MOST_STEPS - s ≡ suc (MOST_STEPS - (s + 1)) = omega arith in
+            ap (λ (v : ℕ). joined v (s + 1) (walked (MOST_STEPS - (s + 1)) o.hub p)) f
             ∙ ap
-            (λ (x : Outcome). joined (firstOf w (printed x.answer).woken) (s + 1)
-            (walked (MOST-STEPS - (s + 1)) x.hub p)) q
+            (λ (x : Outcome). joined (first_of w (printed x.answer).woken) (s + 1)
+            (walked (MOST_STEPS - (s + 1)) x.hub p)) q
             ∙ sym
             (ap (λ (m : ℕ). joined w s (walked m h p)) n
-            ∙ ap (joined w s) (walked_one (MOST-STEPS - (s + 1)) h p e)
-            ∙ both (printed (called h (stepBy p)).answer).woken
-            (walked (MOST-STEPS - (s + 1)) (called h (stepBy p)).hub p))
+            ∙ ap (joined w s) (walked_one (MOST_STEPS - (s + 1)) h p e)
+            ∙ both (printed (called h (step_by p)).answer).woken
+            (walked (MOST_STEPS - (s + 1)) (called h (step_by p)).hub p))
             ∙ k.same;
       }
     where
-      both : (v : ℕ) (r : Walked) → joined w s (joined v 1 r) ≡ joined (firstOf w v) (s + 1) r
+      both : (v : ℕ) (r : Walked) → joined w s (joined v 1 r) ≡ joined (first_of w v) (s + 1) r
       both v r =
           let f : s + (1 + r.steps) ≡ s + 1 + r.steps = omega arith in
           λ i. record { woken = first-first w v r.woken i; steps = f i; hub = r.hub }
 
   -- At rest, or after as many steps as there may be.
-  pub at_rest : rests h p ≡ true
-      → record { woken = w; steps = s; hub = h } ≡ walked MOST-STEPS h₀ p
-  at_rest e =
-      sym (nothing w s h) ∙ ap (joined w s) (sym (walked_none (MOST-STEPS - s) h p e)) ∙ k.same
+  pub at_rest_lem : rests h p ≡ true
+      → record { woken = w; steps = s; hub = h } ≡ walked MOST_STEPS h₀ p
+  at_rest_lem e =
+      sym (nothing w s h) ∙ ap (joined w s) (sym (walked_none (MOST_STEPS - s) h p e)) ∙ k.same
 
-  pub all_made : MOST-STEPS ≤ s → record { woken = w; steps = s; hub = h } ≡ walked MOST-STEPS h₀ p
+  pub all_made : MOST_STEPS ≤ s → record { woken = w; steps = s; hub = h } ≡ walked MOST_STEPS h₀ p
   unfolding walked steps_of
   all_made i =
-      let n : MOST-STEPS - s ≡ zero = omega arith in
+      let n : MOST_STEPS - s ≡ zero = omega arith in
       sym (nothing w s h)
       ∙ sym (ap (λ (m : ℕ). joined w s (walked m h p)) n) ∙ k.same
 
@@ -146,30 +146,30 @@ from o w r = record { answer = o.answer; woken = w; steps = r.steps; hub = r.hub
 abbrev by : Outcome → List Call → Operated
 by o cs =
     let y = of o.hub cs in
-    from o (firstOf (printed o.answer).woken y.woken) y
+    from o (first_of (printed o.answer).woken y.woken) y
 
 operated-by : (h : Hub) (c : Call) (o : Outcome) → o ≡ called h c
-    → by o (stepsFrom o c.party) ≡ operated h c
-unfolding operated run entries wokenIn
-operated-by h c o e = ap (λ (x : Outcome). by x (stepsFrom x c.party)) e
+    → by o (steps_from o c.party) ≡ operated h c
+unfolding operated run entries woken_in
+operated-by h c o e = ap (λ (x : Outcome). by x (steps_from x c.party)) e
 
 module _ (h : Hub) (c : Call) (o : Outcome) (e : o ≡ called h c) where
-  pub operated-refused : (w : ℕ) → turnsDown o.answer ≡ true → w ≡ (printed o.answer).woken
+  pub operated-refused : (w : ℕ) → turns_down o.answer ≡ true → w ≡ (printed o.answer).woken
       → from o w (record { woken = 0xFF; steps = 0; hub = o.hub }) ≡ operated h c
-  unfolding run entries wokenIn
+  unfolding run entries woken_in
   operated-refused w t g =
       ap (λ (v : ℕ). from o v (of o.hub [])) (g ∙ sym (none (printed o.answer).woken))
-      ∙ ap (by o) (sym (if-true (turnsDown o.answer) [] _ t))
+      ∙ ap (by o) (sym (if-true (turns_down o.answer) [] _ t))
       ∙ operated-by h c o e
 
-  pub operated-walked : (w : ℕ) (r : Walked) → turnsDown o.answer ≡ false
-      → w ≡ firstOf (printed o.answer).woken r.woken
-      → r ≡ walked MOST-STEPS o.hub c.party → from o w r ≡ operated h c
+  pub operated-walked : (w : ℕ) (r : Walked) → turns_down o.answer ≡ false
+      → w ≡ first_of (printed o.answer).woken r.woken
+      → r ≡ walked MOST_STEPS o.hub c.party → from o w r ≡ operated h c
   unfolding walked
   operated-walked w r t g f =
       ap (λ (v : ℕ). from o v r) g
-      ∙ ap (λ (x : Walked). from o (firstOf (printed o.answer).woken x.woken) x) f
-      ∙ ap (by o) (sym (if-false (turnsDown o.answer) [] _ t))
+      ∙ ap (λ (x : Walked). from o (first_of (printed o.answer).woken x.woken) x) f
+      ∙ ap (by o) (sym (if-false (turns_down o.answer) [] _ t))
       ∙ operated-by h c o e
 
 -- A promise that gives what an operation came to gives what is printed for it.

@@ -3,7 +3,7 @@
 ghost use Rattle.std.specs.Prelude.{◌≡◌, cond, eqb};
 ghost use Rattle.hub.specs.Answers.{printed};
 ghost use Rattle.hub.specs.Calm.{rests};
-ghost use Rattle.operations.specs.Operation.{MOST-STEPS, operated, turnsDown};
+ghost use Rattle.operations.specs.Operation.{MOST_STEPS, operated, turns_down};
 ghost use Rattle.torest.specs.Walked.{walked};
 
 use encoding::answer::print_of;
@@ -53,7 +53,7 @@ fn first_of(a: u32, b: u32) -> u32
 
 // The party's steps until it is at rest, three at most: whom they woke, how many they are, the record that they leave.
 fn walk(mut hub: Hub, party: u8) -> Walked
-    ensures { result ≡ walked MOST-STEPS hub party }
+    ensures { result ≡ walked MOST_STEPS hub party }
 {
     let mut woken: u32 = 0xFF;
     let mut steps: u32 = 0;
@@ -73,7 +73,7 @@ fn walk(mut hub: Hub, party: u8) -> Walked
 
 // Is an answer a refusal?
 fn turns_down(answer: Answer) -> bool
-    ensures { result ≡ turnsDown answer }
+    ensures { result ≡ turns_down answer }
 {
     print_of(answer).code < 0x20
 }

@@ -2,9 +2,9 @@
 use Rattle.std.specs.Prelude.{Bool, false}
 use Rattle.hub.specs.declared.moves.Op.{Op}
 
-abbrev pub fullFor : Op → Bool → Bool
-fullFor Op.Acquire full = full
-fullFor Op.Step full = false
-fullFor Op.Cancel full = false
-fullFor Op.Release full = false
-fullFor Op.Radio full = false
+abbrev pub full_for : Op → Bool → Bool
+full_for Op.Acquire full = full
+full_for Op.Step full = false
+full_for Op.Cancel full = false
+full_for Op.Release full = false
+full_for Op.Radio full = false

@@ -1,7 +1,7 @@
 // What a call does, whichever it is.
 
 ghost use Rattle.std.specs.Prelude.{◌≡◌, ◌≤◌};
-ghost use Rattle.hub.specs.Calls.{isFull};
+ghost use Rattle.hub.specs.Calls.{is_full};
 ghost use Rattle.hub.specs.Table;
 ghost use Rattle.effects.specs.Effect.{effect_of};
 ghost use Rattle.effects.specs.Small.{Small};
@@ -29,7 +29,7 @@ pub fn decide_by(op: Op, full: bool, s: Sight) -> Effect
 
 pub fn decide(op: Op, oldest: u32, slots: [PartySlot; 32], s: Sight) -> Effect
     requires { Small s × (oldest ≤ 1000000) }
-    ensures { result ≡ effect_of (Table.decide op (isFull oldest s.figures.issued slots) s) s }
+    ensures { result ≡ effect_of (Table.decide op (is_full oldest s.figures.issued slots) s) s }
 {
     decide_by(op, full_for(op, oldest, s.figures.issued, slots), s)
 }

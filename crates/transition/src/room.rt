@@ -1,8 +1,8 @@
 // Refusal 7: is there a place for one more ticket?
 
 ghost use Rattle.std.specs.Prelude.{◌≡◌, ◌≤◌};
-ghost use Rattle.hub.specs.Calls.{isFull};
-ghost use Rattle.transition.specs.Room.{fullFor};
+ghost use Rattle.hub.specs.Calls.{is_full};
+ghost use Rattle.transition.specs.Room.{full_for};
 
 use counts::count_drawing;
 use hub::moves::Op;
@@ -11,7 +11,7 @@ use hub::record::{Hub, PartySlot};
 // By a count of the parties that may yet draw a ticket.
 fn is_full(oldest: u32, issued: u32, slots: [PartySlot; 32]) -> bool
     requires { (oldest ≤ 1000000) × (issued ≤ 1000000) }
-    ensures { result ≡ isFull oldest issued slots }
+    ensures { result ≡ is_full oldest issued slots }
 {
     let drawing = count_drawing(slots);
     oldest + Hub::PLACES <= issued + drawing
@@ -21,7 +21,7 @@ fn is_full(oldest: u32, issued: u32, slots: [PartySlot; 32]) -> bool
 // are not handed on.
 pub fn full_for(op: Op, oldest: u32, issued: u32, slots: [PartySlot; 32]) -> bool
     requires { (oldest ≤ 1000000) × (issued ≤ 1000000) }
-    ensures { result ≡ fullFor op (isFull oldest issued slots) }
+    ensures { result ≡ full_for op (is_full oldest issued slots) }
 {
     let Op::Acquire = op else {
         return false;

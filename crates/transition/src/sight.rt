@@ -2,8 +2,8 @@
 // ticket: one without looks at no place, whatever lies there.
 
 ghost use Rattle.std.specs.Prelude.{◌≡◌, cond, ◌%◌, ltb};
-ghost use Rattle.hub.specs.Phases.{byWaiter, ticketOf};
-ghost use Rattle.hub.specs.Record.{PARTIES, freeSlot};
+ghost use Rattle.hub.specs.Phases.{by_waiter, ticket_of};
+ghost use Rattle.hub.specs.Record.{PARTIES, free_slot};
 ghost use Rattle.hub.specs.Ring.{PLACES};
 
 use hub::record::{Hub, PartySlot, Place, PlaceSlot};
@@ -12,7 +12,7 @@ use phases::ticket;
 
 // Where the place of a party's ticket lies in the ring; 0 if it has none.
 pub fn seat_index(slot: PartySlot) -> usize
-    ensures { result ≡ ticketOf slot.phase % PLACES }
+    ensures { result ≡ ticket_of slot.phase % PLACES }
 {
     let phase = slot.phase;
     (ticket(phase) % Hub::PLACES) as usize
@@ -20,7 +20,7 @@ pub fn seat_index(slot: PartySlot) -> usize
 
 // The party that waits at a place; 32, the first number past the slots, where nobody does.
 pub fn waiter_at(seat: PlaceSlot) -> u32
-    ensures { result ≡ byWaiter PARTIES (λ q. q) seat.place }
+    ensures { result ≡ by_waiter PARTIES (λ q. q) seat.place }
 {
     let place = seat.place;
     match place {
@@ -31,7 +31,7 @@ pub fn waiter_at(seat: PlaceSlot) -> u32
 
 // The slot of party q, which is the one at hand if there is such a party; free past the slots.
 pub fn slot_within(q: u32, near: PartySlot) -> PartySlot
-    ensures { result ≡ cond (ltb q PARTIES) near freeSlot }
+    ensures { result ≡ cond (ltb q PARTIES) near free_slot }
 {
     if q < 32 {
         return near;

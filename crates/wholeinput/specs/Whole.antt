@@ -1,16 +1,16 @@
 -- A whole input into a buffer.
 use Rattle.std.specs.Prelude.{ℕ, Bool, cond, List, ◌++◌, leb, length, drop}
-use Rattle.line.specs.Program.{outputOf}
+use Rattle.line.specs.Program.{output_of}
 
 -- Is there room for the whole output?
-abbrev pub hasRoom : List ℕ → List ℕ → Bool
-hasRoom input out = leb (length (outputOf input)) (length out)
+abbrev pub has_room : List ℕ → List ℕ → Bool
+has_room input out = leb (length (output_of input)) (length out)
 
 -- How many characters are written: all of them, or none.
 abbrev pub size : List ℕ → List ℕ → ℕ
-size input out = cond (hasRoom input out) (length (outputOf input)) 0
+size input out = cond (has_room input out) (length (output_of input)) 0
 
 -- The buffer then: what it held past the output is left alone, and without room all of it is.
 abbrev pub filled : List ℕ → List ℕ → List ℕ
 filled input out =
-    cond (hasRoom input out) (outputOf input ++ drop (length (outputOf input)) out) out
+    cond (has_room input out) (output_of input ++ drop (length (output_of input)) out) out

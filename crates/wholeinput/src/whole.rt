@@ -1,7 +1,7 @@
 // A whole input into a buffer.
 
 ghost use Rattle.std.specs.Prelude.{◌≡◌, ◌++◌, ◌-◌, ◌≤◌, ◌<◌, length, drop};
-ghost use Rattle.line.specs.Program.{lines_of, outputOf};
+ghost use Rattle.line.specs.Program.{lines_of, output_of};
 ghost use Rattle.wholeinput.specs.Whole.{filled, size};
 
 use closing::finish;
@@ -43,9 +43,9 @@ fn piece_end(from: usize, len: usize) -> usize
 // What the lines of a piece ask goes to `requests`, which nobody reads afterwards.
 fn write_output(input: &[u8], requests: &mut [u8], out: &mut [u8])
     requires in_bounds { 8192 ≤ length requests.old }
-    requires input_in_bounds { length (outputOf input.now) ≤ length out.old }
+    requires input_in_bounds { length (output_of input.now) ≤ length out.old }
     ensures { out.new
-        ≡ outputOf input.now ++ drop (length (outputOf input.now)) out.old }
+        ≡ output_of input.now ++ drop (length (output_of input.now)) out.old }
 {
     let end = out.len();
     let mut session = begin();

@@ -1,7 +1,7 @@
 // The two forms in which a reply is written: a line of text, or seven bytes.
 
 ghost use Rattle.std.specs.Prelude.{◌≡◌, length};
-ghost use Rattle.encoding.specs.Form.{form_of, inForm, replySize};
+ghost use Rattle.encoding.specs.Form.{form_of, in_form, reply_size};
 ghost use Rattle.encoding.specs.Frame.{frame_of, paper};
 ghost use Rattle.encoding.specs.Tables.{Pairs};
 
@@ -15,7 +15,7 @@ pub const TEXT: bool = true;
 pub const BYTES: bool = false;
 
 pub fn reply_size(form: bool) -> usize
-    ensures { result ≡ replySize (form_of form) }
+    ensures { result ≡ reply_size (form_of form) }
 {
     if form {
         return 15;
@@ -26,8 +26,8 @@ pub fn reply_size(form: bool) -> usize
 // The table is the one of `pairs`, which lines of text are written by.
 pub fn put_reply(pairs: &[u16; 256], out: &mut [u8], form: bool, party: u8, p: Print)
     requires pairs { Pairs pairs.now }
-    requires out_len { length out.old ≡ replySize (form_of form) }
-    ensures { out.new ≡ inForm (form_of form) (frame_of party (paper p)) }
+    requires out_len { length out.old ≡ reply_size (form_of form) }
+    ensures { out.new ≡ in_form (form_of form) (frame_of party (paper p)) }
 {
     if form {
         put_line_by(pairs, out, party, p);

@@ -13,19 +13,19 @@ use Rattle.hub.specs.declared.record.PartySlot.{PartySlot}
 use Rattle.hub.specs.declared.record.PlaceSlot.{PlaceSlot}
 use Rattle.hub.specs.declared.record.Pool.{Pool}
 use Rattle.hub.specs.Answers.{printed}
-use Rattle.hub.specs.Calls.{called, isFull, ringOf, withRing}
+use Rattle.hub.specs.Calls.{called, is_full, ring_of, with_ring}
 use Rattle.hub.specs.Fits.{fits}
-use Rattle.hub.specs.Kinds.{kindIn}
-use Rattle.hub.specs.Phases.{ticketOf}
-use Rattle.hub.specs.Radios.{handOf, moved}
-use Rattle.hub.specs.Record.{emptySeat, read_slot, withPool, writeSlot}
-use Rattle.hub.specs.Ring.{PLACES, readSeat}
+use Rattle.hub.specs.Kinds.{kind_in}
+use Rattle.hub.specs.Phases.{ticket_of}
+use Rattle.hub.specs.Radios.{hand_of, moved}
+use Rattle.hub.specs.Record.{empty_seat, read_slot, with_pool, write_slot}
+use Rattle.hub.specs.Ring.{PLACES, read_seat}
 use Rattle.hub.specs.Table.{decide}
 use Rattle.hub.proofs.Laws.Printed.{with-printed}
 use Rattle.hub.proofs.Laws.Lists.{mapped-size}
 use Rattle.effects.specs.Effect.{effect_of}
-use Rattle.transition.specs.Tidied.{tidiedBy}
-use Rattle.transition.proofs.Laws.Called.{asks, radiosAfter, unfit, no-such-party, Counted, counted}
+use Rattle.transition.specs.Tidied.{tidied_by}
+use Rattle.transition.proofs.Laws.Called.{asks, radios_after, unfit, no-such-party, Counted, counted}
 use Rattle.transition.proofs.Laws.Called.{outcome-is}
 use Rattle.transition.proofs.Laws.Indexed.{reads, stores}
 use Rattle.transition.proofs.Laws.Loops.{tidy}
@@ -82,17 +82,17 @@ within-slots : (c : tie.Else2) → party c.before.before.before < 32
 within-slots c = omega (arith, c.if2.false, (counts c.before).parties)
 
 -- What the code has read is what the party sees.
-abbrev placeIndex : tie.After-kinds → ℕ
-placeIndex c = (seen c).before.before.before.before.seat-index.result
+abbrev place_index : tie.After-kinds → ℕ
+place_index c = (seen c).before.before.before.before.seat-index.result
 
 abbrev seat : tie.After-kinds → PlaceSlot
-seat c = get_or (hub (start c)).places (placeIndex c) emptySeat
+seat c = get_or (hub (start c)).places (place_index c) empty_seat
 
 abbrev waiter : tie.After-kinds → PartySlot
 waiter c = (seen c).slot-within.result
 
 index : (c : tie.After-kinds)
-    → placeIndex c ≡ ticketOf (read_slot (hub (start c)).slots (party (start c))).phase % PLACES
+    → place_index c ≡ ticket_of (read_slot (hub (start c)).slots (party (start c))).phase % PLACES
 unfolding read_slot
 index c = (seen c).before.before.before.before.seat-index.ensures
 
@@ -110,12 +110,12 @@ sight c = sight_of (hub (start c)) (party (start c)) (seat c) (waiter c)
 
 abbrev full : tie.After-decide → Bool
 full c =
-    isFull (hub (begin c)).control.oldest (hub (begin c)).control.figures.issued (hub (begin c)).slots
+    is_full (hub (begin c)).control.oldest (hub (begin c)).control.figures.issued (hub (begin c)).slots
 
 effect_is : (c : tie.After-decide)
     → let s = sight (kinded c) in
     c.decide.result ≡ effect_of (decide (begin c).args.op (full c) s) s
-unfolding read_slot handOf kindIn
+unfolding read_slot hand_of kind_in
 effect_is c = c.decide.ensures
 
 turns-most : (c : tie.After-decide) → c.decide.result.turns ≤ 256
@@ -127,8 +127,8 @@ turns-most c =
 slots_set : (c : tie.Joined3)
     → let h = hub (begin c.before) in
     let e = c.before.decide.result in
-    c.if3.hub ≡ made h h.control.figures h.places (writeSlot h.slots e.woken e.waiter)
-unfolding writeSlot
+    c.if3.hub ≡ made h h.control.figures h.places (write_slot h.slots e.woken e.waiter)
+unfolding write_slot
 slots_set c =
     let h = hub (begin c.before) in
     let e = c.before.decide.result in
@@ -143,8 +143,8 @@ abbrev after : tie.After-put → Hub
 after c =
     let g = c.before.before.if3.hub in
     let e = (decided c).decide.result in
-    made g e.figures (set g.places (placeIndex (kinded (decided c))) e.seat)
-    (writeSlot g.slots (party (begin (decided c))) e.slot)
+    made g e.figures (set g.places (place_index (kinded (decided c))) e.seat)
+    (write_slot g.slots (party (begin (decided c))) e.slot)
 
 is-stored : (c : tie.After-put)
     → after c ≡ stored (hub (begin (decided c))) (party (begin (decided c))) (decided c).decide.result
@@ -153,16 +153,16 @@ is-stored c =
     let d = decided c in
     let h = hub (begin d) in
     let e = d.decide.result in
-    ap (λ (g : Hub). made g e.figures (set g.places (placeIndex (kinded d)) e.seat)
-    (writeSlot g.slots (party (begin d)) e.slot)) (slots_set c.before.before)
+    ap (λ (g : Hub). made g e.figures (set g.places (place_index (kinded d)) e.seat)
+    (write_slot g.slots (party (begin d)) e.slot)) (slots_set c.before.before)
     ∙ stores h (party (begin d)) _ (index (kinded d)) e _ refl
 
 -- The radio that the answer moves, on a hub with radios.
 moves : (c : tie.Joined4)
     → let d = decided (placed c) in
     let h = hub (begin d) in
-    c.if4.hub ≡ withPool (radiosAfter h (party (begin d)) d.decide.result.answer) (after (placed c))
-unfolding writeSlot
+    c.if4.hub ≡ with_pool (radios_after h (party (begin d)) d.decide.result.answer) (after (placed c))
+unfolding write_slot
 moves c =
     let d = decided (placed c) in
     let h = hub (begin d) in
@@ -173,27 +173,27 @@ moves c =
     let pool = ap (λ (g : Hub). g.control.pool) s in
     ⊎_elim
     (λ w. w.4
-    ∙ ap (λ (x : Pool). withPool x (after (placed c)))
+    ∙ ap (λ (x : Pool). with_pool x (after (placed c)))
     (with-radios h.control.opening.named y p h.control.pool w.2.result (named ∙ w.0.taken)
     (w.2.ensures ∙ ap (moved y p) pool)))
     (λ w. w.1
-    ∙ ap (λ (x : Pool). withPool x (after (placed c)))
+    ∙ ap (λ (x : Pool). with_pool x (after (placed c)))
     (pool ∙ without-radios h.control.opening.named y p h.control.pool (named ∙ w.0.left)))
     c.if4.branch
 
 -- Tidied, it is what the call leaves.
 leaves : (c : tie.Joined4) (g : Hub)
     → let d = decided (placed c) in
-    g ≡ tidiedBy d.decide.result.turns c.if4.hub
+    g ≡ tidied_by d.decide.result.turns c.if4.hub
     → record { answer = d.decide.result.answer; hub = g }
     ≡ called (hub (begin d)) (asks (begin d).args.op (party (begin d)))
 leaves c g e =
     let d = decided (placed c) in
     let t = tested (seen (kinded d)) in
-    let x = radiosAfter (hub (begin d)) (party (begin d)) d.decide.result.answer in
+    let x = radios_after (hub (begin d)) (party (begin d)) d.decide.result.answer in
     outcome-is _ _ _ _ _ (reading (kinded d)) (begin d).args.op d.decide.result (effect_is d)
     (fitting t.before) (lt-ltb _ _ t.if2.left) x refl g
-    (e ∙ ap (tidiedBy d.decide.result.turns) (moves c ∙ ap (withPool x) (is-stored (placed c))))
+    (e ∙ ap (tidied_by d.decide.result.turns) (moves c ∙ ap (with_pool x) (is-stored (placed c))))
 
 fits-requires : tie.Need-fits-requires
 fits-requires c κs = search rules
@@ -302,13 +302,13 @@ is-untidy-requires : tie.Need-is-untidy-requires
 is-untidy-requires c κs = search rules
 
 returns-3 : tie.Need-returns-3
-unfolding readSeat writeSlot
+unfolding read_seat write_slot
 returns-3 c =
     let j = pooled c.before.before in
     let h = j.if4.hub in
     with-printed (leaves j _
-    (ap (withRing h)
-    (tidy (decided (placed j)).decide.result.turns (ringOf h)
+    (ap (with_ring h)
+    (tidy (decided (placed j)).decide.result.turns (ring_of h)
     (sym c.before.is-untidy.ensures ∙ not-true _ c.if5.true))))
 
 reclaim-requires : tie.Need-reclaim-requires
@@ -317,18 +317,18 @@ reclaim-requires c κs =
     let d = decided (placed j) in (
       omega (
         arith,
-        ap (λ (h : Hub). h.control.oldest) (moves j ∙ ap (withPool _) (is-stored (placed j))),
+        ap (λ (h : Hub). h.control.oldest) (moves j ∙ ap (with_pool _) (is-stored (placed j))),
         (counts (tested (seen (kinded d))).before).oldest,
       ),
       turns-most d,
     )
 
 returns-4 : tie.Need-returns-4
-unfolding writeSlot
+unfolding write_slot
 returns-4 c =
     let r = c.before.before.before in
     let j = pooled r.before.before.before.before in
-    with-printed (leaves j _ (ap (withRing j.if4.hub) r.reclaim.ensures))
+    with-printed (leaves j _ (ap (with_ring j.if4.hub) r.reclaim.ensures))
 
 pub call-spec : {M : Type 1} → statement M
 call-spec =

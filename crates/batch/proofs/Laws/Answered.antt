@@ -9,28 +9,28 @@ use Rattle.hub.specs.declared.moves.Op.{Op}
 use Rattle.hub.specs.declared.moves.Sight.{Sight}
 use Rattle.hub.specs.declared.record.Hub.{Hub}
 use Rattle.hub.specs.Answers.{plain, printed}
-use Rattle.hub.specs.Calls.{answer_of, apply, isFull}
+use Rattle.hub.specs.Calls.{answer_of, apply, is_full}
 use Rattle.hub.specs.Fits.{fits}
 use Rattle.hub.specs.Look.{look}
 use Rattle.hub.specs.Moves.{Move}
 use Rattle.hub.specs.Opening.{nobody}
 use Rattle.hub.specs.Radios.{STORE}
 use Rattle.hub.specs.Table.{decide}
-use Rattle.hub.specs.Record.{withPool}
+use Rattle.hub.specs.Record.{with_pool}
 use Rattle.encoding.specs.Frame.{is_call, op_of}
 use Rattle.effects.specs.declared.effect.Effect.{Effect}
 use Rattle.effects.specs.Effect.{effect_of}
-use Rattle.line.specs.Program.{Response, reported, whenOpen, respond}
-use Rattle.line.specs.Requests.{Request, malformed, toOpen, toCall}
+use Rattle.line.specs.Program.{Response, reported, when_open, respond}
+use Rattle.line.specs.Requests.{Request, malformed, to_open, to_call}
 use Rattle.line.proofs.Laws.Schedules.{respond-open}
-use Rattle.transition.proofs.Laws.Called.{Counted, counted, no-such-party, asks, radiosAfter}
+use Rattle.transition.proofs.Laws.Called.{Counted, counted, no-such-party, asks, radios_after}
 use Rattle.transition.proofs.Laws.Called.{admitted as by-table}
 use Rattle.transition.proofs.Laws.Ops.{as-asked}
 use Rattle.transition.proofs.Laws.Radios.{few-stored}
-use Rattle.transition.specs.Room.{fullFor}
+use Rattle.transition.specs.Room.{full_for}
 use Rattle.exchange.specs.declared.admission.Admission.{Admission}
-use Rattle.exchange.specs.Admission.{admitted, admissionOf, refused}
-use Rattle.batch.specs.Batch.{requestFor, Reachable}
+use Rattle.exchange.specs.Admission.{admitted, admission_of, refused}
+use Rattle.batch.specs.Batch.{request_for, Reachable}
 use Rattle.batch.proofs.Laws.Reachable.{reachable-fits, reachable-open}
 
 -- What is admitted: a call of one of the n parties.
@@ -48,20 +48,20 @@ not_so : {A : Type 0} → false ≡ true → A
 not_so e = let z : ◌≡◌ {A = ℕ} 0 1 = cc in let y : ⊥ = omega arith in absurd y
 
 -- What is let in is what was asked.
-pub is-admitted : (c x n : ℕ) (d : Admission) → d ≡ admissionOf c x n → d.admitted ≡ true
-    → Admitted d.code d.party n × (requestFor c x ≡ requestFor d.code d.party)
-unfolding admissionOf
+pub is-admitted : (c x n : ℕ) (d : Admission) → d ≡ admission_of c x n → d.admitted ≡ true
+    → Admitted d.code d.party n × (request_for c x ≡ request_for d.code d.party)
+unfolding admission_of
 is-admitted c x n d e t = go (is_call c) refl (ltb x n) refl (eqb c 1) e
   where
     go : (a : Bool) → is_call c ≡ a → (b : Bool) → ltb x n ≡ b → (o : Bool)
         → d ≡ cond a (cond b (admitted c x) (refused x 4)) (cond o (refused 0xFF 13) (refused 0xFF 12))
-        → Admitted d.code d.party n × (requestFor c x ≡ requestFor d.code d.party)
+        → Admitted d.code d.party n × (request_for c x ≡ request_for d.code d.party)
     go true ea true eb o z = (
       record {
         code = ap (λ (d : Admission). is_call d.code) z ∙ ea;
         party = ap (λ (d : Admission). ltb d.party n) z ∙ eb;
       },
-      sym (ap (λ (d : Admission). requestFor d.code d.party) z),
+      sym (ap (λ (d : Admission). request_for d.code d.party) z),
     )
     go true ea false eb o z = not_so (sym (ap (λ (d : Admission). d.admitted) z) ∙ t)
     go false ea b eb true z = not_so (sym (ap (λ (d : Admission). d.admitted) z) ∙ t)
@@ -69,7 +69,7 @@ is-admitted c x n d e t = go (is_call c) refl (ltb x n) refl (eqb c 1) e
 
 -- What is decided once refusal 7 is asked of an ask alone is what the table decides.
 pub effect-asked : (o : Op) (full b : Bool) (s : Sight) (r : Effect) → r ≡ effect_of (decide o b s) s
-    → b ≡ fullFor o full → r ≡ effect_of (decide o full s) s
+    → b ≡ full_for o full → r ≡ effect_of (decide o full s) s
 effect-asked o full b s r e f =
     e
     ∙ ap (λ (b : Bool). effect_of (decide o b s) s) f
@@ -79,18 +79,18 @@ module _ (hub : Hub) (c x : ℕ) (r : Reachable hub) where
   fit : fits hub ≡ true
   fit = reachable-fits hub r
 
-  answers-open : (q : Request) → respond hub q ≡ whenOpen hub q
+  answers-open : (q : Request) → respond hub q ≡ when_open hub q
   answers-open q = respond-open hub q (reachable-open hub r)
 
   -- The response to a request that is refused at once.
   abbrev turned-away : Admission → Response
   turned-away d = record { reply = record { party = d.party; answer = plain d.code }; hub = hub }
 
-  pub refused-response : (d : Admission) → d ≡ admissionOf c x hub.control.opening.parties → d.admitted ≡ false
-      → respond hub (requestFor c x) ≡ turned-away d
-  unfolding whenOpen admissionOf
+  pub refused-response : (d : Admission) → d ≡ admission_of c x hub.control.opening.parties → d.admitted ≡ false
+      → respond hub (request_for c x) ≡ turned-away d
+  unfolding when_open admission_of
   refused-response d e z =
-      answers-open (requestFor c x)
+      answers-open (request_for c x)
       ∙ go (is_call c) (ltb x hub.control.opening.parties) refl (eqb c 1)
       (sym (ap (λ (d : Admission). d.admitted) e) ∙ z)
       ∙ ap turned-away (sym e)
@@ -98,8 +98,8 @@ module _ (hub : Hub) (c x : ℕ) (r : Reachable hub) where
       go : (a b : Bool) → ltb x hub.control.opening.parties ≡ b → (o : Bool)
           → (cond a (cond b (admitted c x) (refused x 4)) (cond o (refused 0xFF 13) (refused 0xFF 12))).admitted
           ≡ false
-          → whenOpen hub
-          (cond a (toCall (asks (op_of c) x)) (cond o (toOpen nobody) malformed))
+          → when_open hub
+          (cond a (to_call (asks (op_of c) x)) (cond o (to_open nobody) malformed))
           ≡ turned-away
           (cond a (cond b (admitted c x) (refused x 4)) (cond o (refused 0xFF 13) (refused 0xFF 12)))
       go true true eb o w = not_so (sym w)
@@ -118,13 +118,13 @@ module _ (hub : Hub) (c x : ℕ) (r : Reachable hub) where
       }
 
   pub call-response : Admitted c x hub.control.opening.parties
-      → let m = decide (op_of c) (isFull hub.control.oldest hub.control.figures.issued hub.slots) (look hub x) in
-      respond hub (requestFor c x)
+      → let m = decide (op_of c) (is_full hub.control.oldest hub.control.figures.issued hub.slots) (look hub x) in
+      respond hub (request_for c x)
       ≡ record {
         reply = record { party = x; answer = printed (answer_of m) };
-        hub = withPool (radiosAfter hub x (answer_of m)) (apply hub (look hub x) m);
+        hub = with_pool (radios_after hub x (answer_of m)) (apply hub (look hub x) m);
       }
-  unfolding whenOpen
+  unfolding when_open
   call-response p =
-      answers-open (requestFor c x)
+      answers-open (request_for c x)
       ∙ rw p.code (ap (reported x) (sym (by-table hub x (op_of c) fit p.party)))

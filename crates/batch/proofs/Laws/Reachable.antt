@@ -13,8 +13,8 @@ use Rattle.hub.specs.Fits.{fits}
 use Rattle.hub.specs.Opening.{opening}
 use Rattle.hub.specs.Schedule.{run}
 use Rattle.hub.proofs.Demand3.{every-record-fits}
-use Rattle.line.specs.Program.{isOpen, Response, whenOpen, respond}
-use Rattle.line.specs.Requests.{Request, malformed, toOpen, toCall}
+use Rattle.line.specs.Program.{is_open, Response, when_open, respond}
+use Rattle.line.specs.Requests.{Request, malformed, to_open, to_call}
 use Rattle.line.proofs.Laws.Schedules.{respond-open}
 use Rattle.transition.proofs.Laws.Called.{counted}
 use Rattle.batch.specs.Batch.{Reachable}
@@ -25,7 +25,7 @@ reachable-fits h r =
     ap fits r.same
     ∙ every-record-fits r.from r.accepted r.calls
 
-pub reachable-open : (h : Hub) → Reachable h → isOpen h ≡ true
+pub reachable-open : (h : Hub) → Reachable h → is_open h ≡ true
 reachable-open h r =
     le-leb 1 h.control.opening.permits (counted h (reachable-fits h r)).permits.0
 
@@ -52,11 +52,11 @@ one_more h r c =
           ∙ run_more (opening r.from).hub r.calls c;
     }
 
-when-open : (h : Hub) (q : Request) → Reachable h → Reachable (whenOpen h q).hub
-unfolding whenOpen
+when-open : (h : Hub) (q : Request) → Reachable h → Reachable (when_open h q).hub
+unfolding when_open
 when-open h malformed r = r
-when-open h (toOpen o) r = r
-when-open h (toCall c) r = one_more h r c
+when-open h (to_open o) r = r
+when-open h (to_call c) r = one_more h r c
 
 pub response-reachable : (h : Hub) (q : Request) → Reachable h → Reachable (respond h q).hub
 response-reachable h q r =

@@ -17,42 +17,42 @@ use Rattle.hub.specs.declared.record.Hub.{Hub}
 use Rattle.hub.specs.declared.record.PartySlot.{PartySlot}
 use Rattle.hub.specs.declared.record.PlaceSlot.{PlaceSlot}
 use Rattle.hub.specs.Answers.{printed}
-use Rattle.hub.specs.Calls.{answer_of, apply, isFull, ringOf, withRing}
-use Rattle.hub.specs.Kinds.{kindIn}
+use Rattle.hub.specs.Calls.{answer_of, apply, is_full, ring_of, with_ring}
+use Rattle.hub.specs.Kinds.{kind_in}
 use Rattle.hub.specs.Look.{look}
 use Rattle.hub.specs.Moves.{Move}
-use Rattle.hub.specs.Phases.{ticketOf}
-use Rattle.hub.specs.Radios.{handOf}
-use Rattle.hub.specs.Record.{PARTIES, controlOf, emptySeat, freeSlot, of_fields, read_slot, withPool, writeSlot}
-use Rattle.hub.specs.Ring.{PLACES, readSeat}
+use Rattle.hub.specs.Phases.{ticket_of}
+use Rattle.hub.specs.Radios.{hand_of}
+use Rattle.hub.specs.Record.{PARTIES, control_of, empty_seat, free_slot, of_fields, read_slot, with_pool, write_slot}
+use Rattle.hub.specs.Ring.{PLACES, read_seat}
 use Rattle.hub.specs.Table.{decide}
 use Rattle.encoding.specs.Frame.{op_of, frame_of}
-use Rattle.encoding.specs.Form.{form_of, replySize}
+use Rattle.encoding.specs.Form.{form_of, reply_size}
 use Rattle.encoding.specs.Tables.{Pairs}
 use Rattle.line.specs.Program.{respond}
 use Rattle.effects.specs.declared.effect.Effect.{Effect}
 use Rattle.effects.specs.Effect.{effect_of}
-use Rattle.transition.specs.Tidied.{tidiedBy}
-use Rattle.transition.proofs.Laws.Called.{radiosAfter, said, left}
+use Rattle.transition.specs.Tidied.{tidied_by}
+use Rattle.transition.proofs.Laws.Called.{radios_after, said, left}
 use Rattle.transition.proofs.Laws.Indexed.{reads, stores}
 use Rattle.transition.proofs.Laws.Loops.{tidy}
 use Rattle.transition.proofs.Laws.Radios.{with-radios, without-radios}
 use Rattle.transition.proofs.Laws.Sight.{Reads, sight_of}
 use Rattle.transition.proofs.Laws.Stored.{nobody, still, few-turns}
-use Rattle.exchange.specs.Decision.{waiterBy}
-use Rattle.exchange.specs.Wire.{withReply}
-use Rattle.batch.specs.Batch.{ofParts, requestFor}
+use Rattle.exchange.specs.Decision.{waiter_by}
+use Rattle.exchange.specs.Wire.{with_reply}
+use Rattle.batch.specs.Batch.{of_parts, request_for}
 use Rattle.batch.proofs.Laws.Answered.{Admitted, is-admitted, refused-response, LetIn}
 use Rattle.batch.proofs.Laws.Answered.{effect-asked, let-in, call-response}
-use Rattle.batch.proofs.Laws.Responses.{Upto, requestAt, start, whole-request}
+use Rattle.batch.proofs.Laws.Responses.{Upto, request_at, start, whole-request}
 use Rattle.batch.proofs.Laws.Responses.{whole-reply, responded, ended}
 use Rattle.batch.proofs.answer_in_turn.Statement.{statement}
 use Rattle.batch.proofs.answer_in_turn.Tie as tie
 
 abbrev invariant-loop : tie.invariant-loop
 invariant-loop opening f₀ _ requests count form out₀ ring₀ slots₀ pool₀ _ _ f out ring slots pool i =
-    Upto (form_of form) (ofParts opening f₀ ring₀ slots₀ pool₀) count requests out₀
-    (ofParts opening f ring slots pool) out i
+    Upto (form_of form) (of_parts opening f₀ ring₀ slots₀ pool₀) count requests out₀
+    (of_parts opening f ring slots pool) out i
     × (length slots ≡ 32)
 
 abbrev decreases-loop : tie.decreases-loop
@@ -117,13 +117,13 @@ within c = entering (effected c)
 
 -- The record at the head of a turn, and the request.
 abbrev hub : At tie.At-loop → Hub
-hub c = ofParts (begun c).args.opening c.loop.figures c.loop.ring c.loop.slots c.loop.pool
+hub c = of_parts (begun c).args.opening c.loop.figures c.loop.ring c.loop.slots c.loop.pool
 
 abbrev bytes : At tie.At-loop → List ℕ
 bytes c = (begun c).args.requests.now
 
 abbrev width : At tie.At-loop → ℕ
-width c = replySize (form_of (begun c).args.form)
+width c = reply_size (form_of (begun c).args.form)
 
 abbrev code : At tie.After-admit-at → ℕ
 code c = c.admit-at.result.code
@@ -148,28 +148,28 @@ reply-fits c = ((begun c.before).pre.1.0, room c)
 pass : (c : At tie.Else1)
     → let h = head c in
     Admitted (code (asked c)) (party (asked c)) (hub h).control.opening.parties
-    × (requestAt (bytes h) (2 * h.loop.i) ≡ requestFor (code (asked c)) (party (asked c)))
+    × (request_at (bytes h) (2 * h.loop.i) ≡ request_for (code (asked c)) (party (asked c)))
 pass c = is-admitted _ _ _ _ (asked c).admit-at.ensures (not-false _ c.if1.false)
 
 admitted : (c : At tie.Else1) → LetIn (hub (head c)) (party (asked c))
 admitted c = let-in _ _ _ (head c).loop.invariant.0.reachable (pass c).0
 
 -- What the code read for it.
-abbrev placeIndex : At tie.After-waiter-at → ℕ
-placeIndex c = c.before.before.seat-index.result
+abbrev place_index : At tie.After-waiter-at → ℕ
+place_index c = c.before.before.seat-index.result
 
 abbrev seat : At tie.After-waiter-at → PlaceSlot
-seat c = get_or (hub (head (entered c))).places (placeIndex c) emptySeat
+seat c = get_or (hub (head (entered c))).places (place_index c) empty_seat
 
 abbrev near : At tie.After-waiter-at → PartySlot
-near c = get_or (head (entered c)).loop.slots (c.waiter-at.result % PARTIES) freeSlot
+near c = get_or (head (entered c)).loop.slots (c.waiter-at.result % PARTIES) free_slot
 
 abbrev waiter : At tie.After-waiter-at → PartySlot
-waiter c = waiterBy (seat c) (near c)
+waiter c = waiter_by (seat c) (near c)
 
 index : (c : At tie.After-waiter-at)
     → let e = entered c in
-    placeIndex c ≡ ticketOf (read_slot (hub (head e)).slots (party (asked e))).phase % PLACES
+    place_index c ≡ ticket_of (read_slot (hub (head e)).slots (party (asked e))).phase % PLACES
 unfolding read_slot
 index c = c.before.before.seat-index.ensures
 
@@ -181,14 +181,14 @@ reading c =
     let e = entered c in
     reads (hub (head e)) (party (asked e)) _ (index c) _ _
     (head e).loop.inv.1 c.waiter-at.ensures
-    (ap (λ (q : ℕ). cond (ltb q PARTIES) (near c) freeSlot) (sym c.waiter-at.ensures))
+    (ap (λ (q : ℕ). cond (ltb q PARTIES) (near c) free_slot) (sym c.waiter-at.ensures))
 
 -- The effect is that of the call.
 abbrev op : At tie.Else1 → Op
 op e = op_of (code (asked e))
 
 abbrev full : At tie.At-loop → Bool
-full h = isFull h.loop.ring.oldest h.loop.figures.issued h.loop.slots
+full h = is_full h.loop.ring.oldest h.loop.figures.issued h.loop.slots
 
 abbrev sight : At tie.After-waiter-at → Sight
 sight c = sight_of (hub (head (entered c))) (party (asked (entered c))) (seat c) (waiter c)
@@ -196,7 +196,7 @@ sight c = sight_of (hub (head (entered c))) (party (asked (entered c))) (seat c)
 effect_is : (c : At tie.After-decide-for)
     → let e = entering c in
     c.decide-for.result ≡ effect_of (decide (op e) (full (head e)) (sight (seen c))) (sight (seen c))
-unfolding read_slot kindIn handOf
+unfolding read_slot kind_in hand_of
 effect_is c =
     let e = entering c in
     effect-asked (op e) (full (head e)) _ (sight (seen c)) _ c.decide-for.ensures
@@ -208,12 +208,12 @@ move e = decide (op e) (full (head e)) (look (hub (head e)) (party (asked e)))
 -- What the call leaves.
 abbrev leaving : At tie.Else1 → Hub
 leaving e =
-    withPool (radiosAfter (hub (head e)) (party (asked e)) (answer_of (move e)))
+    with_pool (radios_after (hub (head e)) (party (asked e)) (answer_of (move e)))
     (apply (hub (head e)) (look (hub (head e)) (party (asked e))) (move e))
 
 answered : (c : At tie.Else1)
     → let h = head c in
-    respond (hub h) (requestAt (bytes h) (2 * h.loop.i))
+    respond (hub h) (request_at (bytes h) (2 * h.loop.i))
     ≡ record {
       reply = record { party = party (asked c); answer = printed (answer_of (move c)) };
       hub = leaving c;
@@ -245,14 +245,14 @@ turns-most c =
 abbrev untidied : At tie.After-is-untidy → Hub
 untidied s =
     let h = head (within s) in
-    of_fields (set h.loop.ring.places (placeIndex (seen (effected s))) (effect s).seat)
-    (writeSlot (woken (placed s)).if2.slots (party (asked (within s))) (effect s).slot)
-    (controlOf (hub h).control.opening (effect s).figures h.loop.ring.oldest (moving s).if3.pool)
+    of_fields (set h.loop.ring.places (place_index (seen (effected s))) (effect s).seat)
+    (write_slot (woken (placed s)).if2.slots (party (asked (within s))) (effect s).slot)
+    (control_of (hub h).control.opening (effect s).figures h.loop.ring.oldest (moving s).if3.pool)
 
 woken-slots : (s : At tie.After-is-untidy)
     → (woken (placed s)).if2.slots
-    ≡ writeSlot (head (within s)).loop.slots (effect s).woken (effect s).waiter
-unfolding writeSlot
+    ≡ write_slot (head (within s)).loop.slots (effect s).woken (effect s).waiter
+unfolding write_slot
 woken-slots s =
     let h = head (within s) in
     ⊎_elim (λ w. w.2)
@@ -264,20 +264,20 @@ woken-slots s =
 -- The answer moved a radio, on a hub with radios.
 moved-pool : (s : At tie.After-is-untidy)
     → (moving s).if3.pool
-    ≡ radiosAfter (hub (head (within s))) (party (asked (within s))) (effect s).answer
+    ≡ radios_after (hub (head (within s))) (party (asked (within s))) (effect s).answer
 moved-pool s =
     ⊎_elim (λ w. with-radios _ _ _ _ _ w.0.taken (w.2 ∙ w.1.ensures))
     (λ w. w.1 ∙ without-radios _ _ _ _ w.0.left) (moving s).if3.branch
 
 -- What is left, once it is tidied, is what the call leaves.
-leaves : (s : At tie.After-is-untidy) (u : Hub) → u ≡ tidiedBy (effect s).turns (untidied s)
+leaves : (s : At tie.After-is-untidy) (u : Hub) → u ≡ tidied_by (effect s).turns (untidied s)
     → u ≡ leaving (within s)
 unfolding read_slot
 leaves s u e =
     let d = effected s in
     let b = within s in
     e
-    ∙ ap (λ (g : Hub). tidiedBy (effect s).turns (withPool (untidied s).control.pool g))
+    ∙ ap (λ (g : Hub). tidied_by (effect s).turns (with_pool (untidied s).control.pool g))
     (stores (hub (head b)) (party (asked b)) _ (index (seen d)) (effect s) _ (woken-slots s))
     ∙ left _ _ _ _ _ (reading (seen d)) (op b) (effect s) (effect_is d) (untidied s).control.pool (moved-pool s)
 
@@ -294,22 +294,22 @@ replied-with : (s : At tie.After-is-untidy)
     → let b = within s in
     let h = head b in
     (replying (moving s)).put-answer.last.1.0
-    ≡ withReply (form_of (begun h).args.form) (width h * h.loop.i)
+    ≡ with_reply (form_of (begun h).args.form) (width h * h.loop.i)
     (frame_of (party (asked b)) (printed (answer_of (move b)))) h.loop.out
 replied-with s =
     let d = effected s in
     let b = within s in
     let h = head b in
     (replying (moving s)).put-answer.ensures
-    ∙ ap (λ (a : Answer). withReply (form_of (begun h).args.form) (width h * h.loop.i)
+    ∙ ap (λ (a : Answer). with_reply (form_of (begun h).args.form) (width h * h.loop.i)
     (frame_of (party (asked b)) (printed a)) h.loop.out)
     (said _ _ _ _ _ (reading (seen d)) (op b) (effect s) (effect_is d))
 
 -- One more request is answered: its reply is written, and u is the record that is left.
-one_more : (s : At tie.After-is-untidy) (u : Hub) → u ≡ tidiedBy (effect s).turns (untidied s)
+one_more : (s : At tie.After-is-untidy) (u : Hub) → u ≡ tidied_by (effect s).turns (untidied s)
     → let h = head (within s) in
     let a = (begun h).args in
-    Upto (form_of a.form) (ofParts a.opening a.figures a.t3 a.t4 a.t5) a.count (bytes h)
+    Upto (form_of a.form) (of_parts a.opening a.figures a.t3 a.t4 a.t5) a.count (bytes h)
     a.out.now u (replying (moving s)).put-answer.last.1.0 (h.loop.i + 1)
 one_more s u e =
     let b = within s in
@@ -451,12 +451,12 @@ loop-less-2 : At tie.Need-loop-smaller-2
 loop-less-2 c = omega (arith, (turning (asked (within c.before))).loop-test.taken)
 
 loop-again-2 : At tie.Need-loop-preserved-2
-unfolding readSeat writeSlot
+unfolding read_seat write_slot
 loop-again-2 c =
     let s = c.before in
     let nothing =
-    tidy (effect s).turns (ringOf (untidied s)) (sym s.is-untidy.ensures ∙ not-true _ c.if4.true) in
-    (one_more s _ (ap (withRing (untidied s)) nothing), still-32 s)
+    tidy (effect s).turns (ring_of (untidied s)) (sym s.is-untidy.ensures ∙ not-true _ c.if4.true) in
+    (one_more s _ (ap (with_ring (untidied s)) nothing), still-32 s)
 
 reclaim-requires : At tie.Need-reclaim-requires
 reclaim-requires c κs = (low (effected c.before), turns-most (effected c.before))
@@ -465,10 +465,10 @@ loop-less-3 : At tie.Need-loop-smaller-3
 loop-less-3 c = omega (arith, (turning (asked (within (settled c)))).loop-test.taken)
 
 loop-again-3 : At tie.Need-loop-preserved-3
-unfolding writeSlot
+unfolding write_slot
 loop-again-3 c =
     let s = settled c in
-    (one_more s _ (ap (withRing (untidied s)) c.reclaim.ensures), still-32 s)
+    (one_more s _ (ap (with_ring (untidied s)) c.reclaim.ensures), still-32 s)
 
 same_length : At tie.Need-same-length
 same_length c = search rules

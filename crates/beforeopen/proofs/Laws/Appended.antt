@@ -5,15 +5,15 @@ use mathlib.Core.Bool.{Bool, true, false, cond}
 use mathlib.Core.List.{List, [], ◌∷◌, ◌++◌, append_assoc}
 use lib.Dec.{eqb}
 use Rattle.hub.specs.declared.record.Hub.{Hub}
-use Rattle.encoding.specs.Form.{asText}
-use Rattle.line.specs.Program.{respond, replies, after, replyIn, rendered, repliesIn}
-use Rattle.line.specs.Requests.{Request, requestOf}
+use Rattle.encoding.specs.Form.{as_text}
+use Rattle.line.specs.Program.{respond, replies, after, reply_in, rendered, replies_in}
+use Rattle.line.specs.Requests.{Request, request_of}
 use Rattle.reader.specs.declared.Reader.{Reader}
-use Rattle.reader.specs.Reading.{lineIn, next, past, asked}
+use Rattle.reader.specs.Reading.{line_in, next, past, asked}
 
 -- What is printed for some requests.
 abbrev pub lines : Hub → List Request → List ℕ
-lines = repliesIn asText
+lines = replies_in as_text
 
 -- Requests in two parts.
 pub replies-append : (rs qs : List Request) (h : Hub)
@@ -22,7 +22,7 @@ unfolding replies rendered after
 replies-append [] qs h = refl
 replies-append (r ∷ rs) qs h =
     let t = respond h r in
-    let text = replyIn asText t.reply in
+    let text = reply_in as_text t.reply in
     ap (λ (l : List ℕ). text ++ l) (replies-append rs qs t.hub)
     ∙ sym (append_assoc text (lines t.hub rs) (lines (after t.hub rs) qs))
 
@@ -43,8 +43,8 @@ asked-append [] b r = refl
 asked-append (c ∷ a) b r = go (eqb c 0x0A) (asked-append a b (next r c))
   where
     go : (e : Bool) → asked (next r c) (a ++ b) ≡ asked (next r c) a ++ asked (past (next r c) a) b
-        → cond e (requestOf (lineIn r) ∷ asked (next r c) (a ++ b)) (asked (next r c) (a ++ b))
-        ≡ cond e (requestOf (lineIn r) ∷ asked (next r c) a) (asked (next r c) a)
+        → cond e (request_of (line_in r) ∷ asked (next r c) (a ++ b)) (asked (next r c) (a ++ b))
+        ≡ cond e (request_of (line_in r) ∷ asked (next r c) a) (asked (next r c) a)
         ++ asked (past (next r c) a) b
-    go true f = ap (λ (l : List Request). requestOf (lineIn r) ∷ l) f
+    go true f = ap (λ (l : List Request). request_of (line_in r) ∷ l) f
     go false f = f

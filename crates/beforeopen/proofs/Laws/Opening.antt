@@ -17,11 +17,11 @@ use Rattle.hub.specs.Answers.{plain}
 use Rattle.hub.specs.Opening.{fresh, opening, tests}
 use Rattle.hub.proofs.Laws.Bools.{if-true, if-false}
 use Rattle.hub.proofs.Laws.Opening.{Ends, ends as opening-ends, opened as accepted, refused}
-use Rattle.encoding.specs.Form.{asText}
+use Rattle.encoding.specs.Form.{as_text}
 use Rattle.encoding.specs.Frame.{code_of}
-use Rattle.line.specs.Program.{unopened, isOpen, Response, beforeOpen, respond, after}
-use Rattle.line.specs.Program.{replies, replyIn, rendered}
-use Rattle.line.specs.Requests.{Request, malformed, toOpen, toCall, requestOf, headerOf, isOpening}
+use Rattle.line.specs.Program.{unopened, is_open, Response, before_open, respond, after}
+use Rattle.line.specs.Program.{replies, reply_in, rendered}
+use Rattle.line.specs.Requests.{Request, malformed, to_open, to_call, request_of, header_of, is_opening}
 use Rattle.encoding.proofs.Laws.Parts.{parts, put-length}
 use Rattle.line.proofs.Laws.Schedules.{respond-before}
 use Rattle.batch.specs.Batch.{Reachable}
@@ -29,9 +29,9 @@ use Rattle.batch.proofs.Laws.Reachable.{reachable-open, opening-reachable, respo
 use Rattle.beforeopen.specs.declared.opening.Begun.{Begun}
 use Rattle.reader.specs.declared.Read.{Read}
 use Rattle.reader.specs.declared.Reader.{Reader}
-use Rattle.beforeopen.specs.Opening.{SessionHub, refusal, opensHub, untilOpen, open_at, early, begunBy}
-use Rattle.reader.specs.Reading.{lineIn, next, past, asked}
-use Rattle.reader.specs.Reading.{headerBytes, requestBytes, requestsWritten}
+use Rattle.beforeopen.specs.Opening.{SessionHub, refusal, opens_hub, until_open, open_at, early, begun_by}
+use Rattle.reader.specs.Reading.{line_in, next, past, asked}
+use Rattle.reader.specs.Reading.{header_bytes, request_bytes, requests_written}
 use Rattle.reader.proofs.Laws.Pieces.{Kept, past-kept}
 use Rattle.beforeopen.proofs.Laws.Appended.{lines, replies-append, after-append}
 use Rattle.beforeopen.proofs.Laws.Appended.{past-append, asked-append}
@@ -40,16 +40,16 @@ use Rattle.beforeopen.proofs.Laws.Sizes.{replies-size, asked-few}
 not-both : {A : Type 0} {b : Bool} → b ≡ true → b ≡ false → A
 not-both e f = let z : ◌≡◌ {A = ℕ} 0 1 = cc in let y : ⊥ = omega arith in absurd y
 
-pub shut : isOpen unopened ≡ false
+pub shut : is_open unopened ≡ false
 unfolding fresh
 shut = refl
 
 -- A session has no hub, or one that is reached from its opening.
-pub session-open : (h : Hub) → SessionHub h → isOpen h ≡ true → Reachable h
-session-open h (inl e) o = not-both o (ap isOpen e ∙ shut)
+pub session-open : (h : Hub) → SessionHub h → is_open h ≡ true → Reachable h
+session-open h (inl e) o = not-both o (ap is_open e ∙ shut)
 session-open h (inr r) o = r
 
-pub session-shut : (h : Hub) → SessionHub h → isOpen h ≡ false → h ≡ unopened
+pub session-shut : (h : Hub) → SessionHub h → is_open h ≡ false → h ≡ unopened
 session-shut h (inl e) o = e
 session-shut h (inr r) o = not-both (reachable-open h r) o
 
@@ -62,15 +62,15 @@ opening-session o = go _ _ (opening-ends o (tests o)) refl
         inr (subst (λ (x : Outcome). Reachable x.hub) e
         (opening-reachable o (ap (λ (x : Outcome). x.answer) e)))
 
-before-session : (q : Request) → SessionHub (beforeOpen q).hub
-unfolding beforeOpen
+before-session : (q : Request) → SessionHub (before_open q).hub
+unfolding before_open
 before-session malformed = inl refl
-before-session (toOpen o) = opening-session o
-before-session (toCall c) = inl refl
+before-session (to_open o) = opening-session o
+before-session (to_call c) = inl refl
 
 respond-session : (h : Hub) (q : Request) → SessionHub h → SessionHub (respond h q).hub
 respond-session h q (inl e) =
-    subst (λ (t : Response). SessionHub t.hub) (sym (respond-before h q (ap isOpen e ∙ shut)))
+    subst (λ (t : Response). SessionHub t.hub) (sym (respond-before h q (ap is_open e ∙ shut)))
     (before-session q)
 respond-session h q (inr r) = inr (response-reachable h q r)
 
@@ -80,76 +80,76 @@ after-session [] h k = k
 after-session (r ∷ rs) h k = after-session rs (respond h r).hub (respond-session h r k)
 
 -- A line that opens no hub leaves none.
-pub stays-shut : (q : Request) → opensHub q ≡ false → (beforeOpen q).hub ≡ unopened
-stays-shut q e = session-shut (beforeOpen q).hub (before-session q) e
+pub stays-shut : (q : Request) → opens_hub q ≡ false → (before_open q).hub ≡ unopened
+stays-shut q e = session-shut (before_open q).hub (before-session q) e
 
-until-few : (cs : List ℕ) (r : Reader) → untilOpen r cs ≤ length cs
-unfolding untilOpen
+until-few : (cs : List ℕ) (r : Reader) → until_open r cs ≤ length cs
+unfolding until_open
 until-few [] r = omega arith
 until-few (c ∷ cs) r =
-    go (eqb c 0x0A && opensHub (requestOf (lineIn r))) (until-few cs (next r c))
+    go (eqb c 0x0A && opens_hub (request_of (line_in r))) (until-few cs (next r c))
   where
-    go : (b : Bool) → untilOpen (next r c) cs ≤ length cs
-        → suc (cond b 0 (untilOpen (next r c) cs)) ≤ suc (length cs)
+    go : (b : Bool) → until_open (next r c) cs ≤ length cs
+        → suc (cond b 0 (until_open (next r c) cs)) ≤ suc (length cs)
     go true l = omega arith
     go false l = omega arith
 
 -- If no hub is open in the end, all was read.
 all-until : (cs : List ℕ) (r : Reader)
-    → isOpen (after unopened (asked r (take (untilOpen r cs) cs))) ≡ false
-    → untilOpen r cs ≡ length cs
-unfolding untilOpen asked after
+    → is_open (after unopened (asked r (take (until_open r cs) cs))) ≡ false
+    → until_open r cs ≡ length cs
+unfolding until_open asked after
 all-until [] r z = refl
 all-until (c ∷ cs) r z =
-    let q = requestOf (lineIn r) in
-    ap suc (go (eqb c 0x0A) q (opensHub q) refl (all-until cs (next r c)) z)
+    let q = request_of (line_in r) in
+    ap suc (go (eqb c 0x0A) q (opens_hub q) refl (all-until cs (next r c)) z)
   where
-    go : (t : Bool) (q : Request) (o : Bool) → opensHub q ≡ o
-        → (isOpen (after unopened (asked (next r c) (take (untilOpen (next r c) cs) cs))) ≡ false
-        → untilOpen (next r c) cs ≡ length cs)
-        → isOpen
+    go : (t : Bool) (q : Request) (o : Bool) → opens_hub q ≡ o
+        → (is_open (after unopened (asked (next r c) (take (until_open (next r c) cs) cs))) ≡ false
+        → until_open (next r c) cs ≡ length cs)
+        → is_open
         (after unopened
-        (let rs = asked (next r c) (take (cond (t && o) 0 (untilOpen (next r c) cs)) cs) in
+        (let rs = asked (next r c) (take (cond (t && o) 0 (until_open (next r c) cs)) cs) in
         cond t (q ∷ rs) rs))
         ≡ false
-        → cond (t && o) 0 (untilOpen (next r c) cs) ≡ length cs
+        → cond (t && o) 0 (until_open (next r c) cs) ≡ length cs
     go true q true e f z =
-        not-both (ap (λ (t : Response). isOpen t.hub) (respond-before unopened q shut) ∙ e) z
+        not-both (ap (λ (t : Response). is_open t.hub) (respond-before unopened q shut) ∙ e) z
     go true q false e f z =
-        f (ap (λ (h : Hub). isOpen (after h (asked (next r c) (take (untilOpen (next r c) cs) cs))))
+        f (ap (λ (h : Hub). is_open (after h (asked (next r c) (take (until_open (next r c) cs) cs))))
         (sym (ap (λ (t : Response). t.hub) (respond-before unopened q shut) ∙ stays-shut q e))
         ∙ z)
     go false q o e f z = f z
 
 module _ (h : Hub) (r : Reader) (piece : List ℕ) where
   pub open-few : open_at h r piece ≤ length piece
-  open-few = go (isOpen h)
+  open-few = go (is_open h)
     where
-      go : (b : Bool) → cond b 0 (untilOpen r piece) ≤ length piece
+      go : (b : Bool) → cond b 0 (until_open r piece) ≤ length piece
       go true = omega arith
       go false = until-few piece r
 
-  pub all_read : SessionHub h → isOpen (after h (asked r (early h r piece))) ≡ false
+  pub all_read : SessionHub h → is_open (after h (asked r (early h r piece))) ≡ false
       → open_at h r piece ≡ length piece
   unfolding asked after
-  all_read k z = go (isOpen h) refl z
+  all_read k z = go (is_open h) refl z
     where
-      go : (b : Bool) → isOpen h ≡ b
-          → isOpen (after h (asked r (take (cond b 0 (untilOpen r piece)) piece))) ≡ false
-          → cond b 0 (untilOpen r piece) ≡ length piece
+      go : (b : Bool) → is_open h ≡ b
+          → is_open (after h (asked r (take (cond b 0 (until_open r piece)) piece))) ≡ false
+          → cond b 0 (until_open r piece) ≡ length piece
       go true e z = not-both e z
       go false e z =
           all-until piece r
-          (ap (λ (g : Hub). isOpen (after g (asked r (take (untilOpen r piece) piece))))
+          (ap (λ (g : Hub). is_open (after g (asked r (take (until_open r piece) piece))))
           (sym (session-shut h k e)) ∙ z)
 
 -- A line that is no opening is refused, by its header, and opens nothing.
-pub refused-line : (q : Request) (c p : ℕ) → c ≡ (headerOf q).code → p ≡ (headerOf q).party
-    → (c ≡ 0x01 → ⊥) → (refusal c p ≡ (beforeOpen q).reply) × (opensHub q ≡ false)
-unfolding beforeOpen
+pub refused-line : (q : Request) (c p : ℕ) → c ≡ (header_of q).code → p ≡ (header_of q).party
+    → (c ≡ 0x01 → ⊥) → (refusal c p ≡ (before_open q).reply) × (opens_hub q ≡ false)
+unfolding before_open
 refused-line malformed c p e f m = ((λ i. refusal (e i) (f i)), shut)
-refused-line (toOpen o) c p e f m = absurd (m e)
-refused-line (toCall a) c p e f m = (
+refused-line (to_open o) c p e f m = absurd (m e)
+refused-line (to_call a) c p e f m = (
   (λ i. refusal (e i) (f i))
       ∙ (λ i. record { party = a.party; answer = plain (call-code a.op i) }),
   shut,
@@ -162,10 +162,10 @@ refused-line (toCall a) c p e f m = (
     call-code Op.Release = refl
     call-code Op.Radio = refl
 
-pub opening-header : (q : Request) → (headerOf q).code ≡ 0x01 → isOpening q ≡ true
+pub opening-header : (q : Request) → (header_of q).code ≡ 0x01 → is_opening q ≡ true
 opening-header malformed e = absurd (omega arith)
-opening-header (toOpen o) e = refl
-opening-header (toCall c) e = absurd (go c.op e)
+opening-header (to_open o) e = refl
+opening-header (to_call c) e = absurd (go c.op e)
   where
     go : (o : Op) → code_of o ≡ 0x01 → ⊥
     go Op.Acquire e = omega arith
@@ -177,16 +177,16 @@ opening-header (toCall c) e = absurd (go c.op e)
 -- What is known once the reading stops.
 abbrev pub Stops : Hub → Reader → List ℕ → List ℕ → Begun → List ℕ → Type 0
 Stops h r piece out₀ b out =
-    (b ≡ begunBy h r piece)
+    (b ≡ begun_by h r piece)
     × (out ≡ lines h (asked r (early h r piece))
     ++ drop (15 * length (asked r (early h r piece))) out₀)
 
 -- A hub that is open already.
-pub already-open : (h : Hub) (r : Reader) (piece out : List ℕ) → isOpen h ≡ true
+pub already-open : (h : Hub) (r : Reader) (piece out : List ℕ) → is_open h ≡ true
     → Stops h r piece out (record { hub = h; reader = r; read = 0; lines = 0 }) out
 unfolding past asked after replies rendered
 already-open h r piece out e =
-    let f : 0 ≡ open_at h r piece = sym (if-true (isOpen h) 0 (untilOpen r piece) e) in (
+    let f : 0 ≡ open_at h r piece = sym (if-true (is_open h) 0 (until_open r piece) e) in (
       (λ i. record {
         hub = after h (asked r (take (f i) piece));
         reader = past r (take (f i) piece);
@@ -207,7 +207,7 @@ pub record Upto (r₀ : Reader) (piece out₀ : List ℕ) (r : Reader) (out : Li
   pub count : n ≡ length (asked r₀ (take i piece))
   pub none : after unopened (asked r₀ (take i piece)) ≡ unopened
   pub same : out ≡ lines unopened (asked r₀ (take i piece)) ++ drop (15 * n) out₀
-  pub ahead : i + untilOpen r (drop i piece) ≡ untilOpen r₀ piece
+  pub ahead : i + until_open r (drop i piece) ≡ until_open r₀ piece
 
 pub start : (r : Reader) (piece out : List ℕ) → Kept r
     → 15 * length (asked r piece) ≤ length out → Upto r piece out r out 0 0
@@ -226,7 +226,7 @@ start r piece out s l =
     }
 
 -- Through character n, if that is where the hub is open or the piece ends.
-stops : (r₀ : Reader) (piece out₀ : List ℕ) (n : ℕ) → n ≡ untilOpen r₀ piece
+stops : (r₀ : Reader) (piece out₀ : List ℕ) (n : ℕ) → n ≡ until_open r₀ piece
     → Stops unopened r₀ piece out₀
     (record {
       hub = after unopened (asked r₀ (take n piece));
@@ -237,7 +237,7 @@ stops : (r₀ : Reader) (piece out₀ : List ℕ) (n : ℕ) → n ≡ untilOpen 
     (lines unopened (asked r₀ (take n piece)) ++ drop (15 * length (asked r₀ (take n piece))) out₀)
 stops r₀ piece out₀ n e =
     let f : n ≡ open_at unopened r₀ piece =
-    e ∙ sym (if-false (isOpen unopened) 0 (untilOpen r₀ piece) shut) in (
+    e ∙ sym (if-false (is_open unopened) 0 (until_open r₀ piece) shut) in (
       (λ i. record {
         hub = after unopened (asked r₀ (take (f i) piece));
         reader = past r₀ (take (f i) piece);
@@ -253,13 +253,13 @@ module _ {r₀ : Reader} {piece out₀ : List ℕ} {r : Reader} {out : List ℕ}
   -- At the end of the piece.
   pub ended : length piece ≤ i → (h : Hub) → h ≡ unopened
       → Stops h r₀ piece out₀ (record { hub = h; reader = r; read = i; lines = n }) out
-  unfolding untilOpen
+  unfolding until_open
   ended l h none =
-      let e : i ≡ untilOpen r₀ piece =
+      let e : i ≡ until_open r₀ piece =
       omega (
         arith,
         u.ahead,
-        ap (λ (k : List ℕ). untilOpen r k) (drop_of_length-le piece {i = i} l),
+        ap (λ (k : List ℕ). until_open r k) (drop_of_length-le piece {i = i} l),
       ) in
       let s = stops r₀ piece out₀ i e in
       subst
@@ -322,28 +322,28 @@ module _ {r₀ : Reader} {piece out₀ : List ℕ} {r : Reader} {out : List ℕ}
     unfolding past
     next-is = ap (past r) one_char
 
-    asked_is : asked r chunk ≡ cond (eqb c 0x0A) (requestOf (lineIn r) ∷ []) []
+    asked_is : asked r chunk ≡ cond (eqb c 0x0A) (request_of (line_in r) ∷ []) []
     unfolding asked
     asked_is = ap (asked r) one_char
 
-    ahead-is : i + untilOpen r (drop i piece)
+    ahead-is : i + until_open r (drop i piece)
         ≡ i + 1
-        + cond (eqb c 0x0A && opensHub (requestOf (lineIn r))) 0
-        (untilOpen (next r c) (drop (i + 1) piece))
-    unfolding untilOpen
-    ahead-is = ap (λ (l : List ℕ). i + untilOpen r l) here ∙ omega arith
+        + cond (eqb c 0x0A && opens_hub (request_of (line_in r))) 0
+        (until_open (next r c) (drop (i + 1) piece))
+    unfolding until_open
+    ahead-is = ap (λ (l : List ℕ). i + until_open r l) here ∙ omega arith
 
     module _ (header : List ℕ) {read : Read} {header' : List ℕ}
         (e : read ≡ record { reader = past r chunk; count = length (asked r chunk) })
-        (f : header' ≡ requestsWritten (asked r chunk) header) where
-      counted : read.count ≡ length (cond (eqb c 0x0A) (requestOf (lineIn r) ∷ []) [])
+        (f : header' ≡ requests_written (asked r chunk) header) where
+      counted : read.count ≡ length (cond (eqb c 0x0A) (request_of (line_in r) ∷ []) [])
       counted = ap (λ (x : Read). x.count) e ∙ ap length asked_is
 
       -- The character ends no line.
       pub within-line : read.count ≡ 0 → Upto r₀ piece out₀ read.reader out n (i + 1)
       within-line z = go (eqb c 0x0A) refl (sym counted ∙ z)
         where
-          go : (b : Bool) → eqb c 0x0A ≡ b → length (cond b (requestOf (lineIn r) ∷ []) []) ≡ 0
+          go : (b : Bool) → eqb c 0x0A ≡ b → length (cond b (request_of (line_in r) ∷ []) []) ≡ 0
               → Upto r₀ piece out₀ read.reader out n (i + 1)
           go true b z = absurd (omega arith)
           go false b z =
@@ -363,20 +363,20 @@ module _ {r₀ : Reader} {piece out₀ : List ℕ} {r : Reader} {out : List ℕ}
                 none = ap (after unopened) a ∙ u.none;
                 same = u.same ∙ ap (λ (l : List Request). lines unopened l ++ drop (15 * n) out₀) (sym a);
                 ahead =
-                    ap (λ (q : Reader). i + 1 + untilOpen q (drop (i + 1) piece)) (is ∙ next-is)
+                    ap (λ (q : Reader). i + 1 + until_open q (drop (i + 1) piece)) (is ∙ next-is)
                     ∙ sym (ahead-is ∙ rw b) ∙ u.ahead;
               }
 
       -- The character ends a line.
       module _ (some : read.count ≡ 0 → ⊥) where
         abbrev q : Request
-        q = requestOf (lineIn r)
+        q = request_of (line_in r)
 
         ends : eqb c 0x0A ≡ true
         ends = go (eqb c 0x0A) refl counted
           where
             go : (b : Bool) → eqb c 0x0A ≡ b
-                → read.count ≡ length (cond b (requestOf (lineIn r) ∷ []) []) → eqb c 0x0A ≡ true
+                → read.count ≡ length (cond b (request_of (line_in r) ∷ []) []) → eqb c 0x0A ≡ true
             go true b z = b
             go false b z = absurd (some z)
 
@@ -399,18 +399,18 @@ module _ {r₀ : Reader} {piece out₀ : List ℕ} {r : Reader} {out : List ℕ}
                   (asked (past r₀ (take (i + 1) piece)) (drop (i + 1) piece)),
             )
 
-        header_is : header' ≡ headerBytes (headerOf q) ++ drop 2 header
-        unfolding requestBytes
-        header_is = f ∙ ap (λ (l : List Request). requestsWritten l header) asks
+        header_is : header' ≡ header_bytes (header_of q) ++ drop 2 header
+        unfolding request_bytes
+        header_is = f ∙ ap (λ (l : List Request). requests_written l header) asks
 
-        pub code_is : get_or header' 0 0 ≡ (headerOf q).code
+        pub code_is : get_or header' 0 0 ≡ (header_of q).code
         code_is = ap (λ (l : List ℕ). get_or l 0 0) header_is
 
-        pub party-is : get_or header' 1 0 ≡ (headerOf q).party
+        pub party-is : get_or header' 1 0 ≡ (header_of q).party
         party-is = ap (λ (l : List ℕ). get_or l 1 0) header_is
 
         -- Its reply is written.
-        module _ {part : List ℕ} (p : part ≡ replyIn asText (beforeOpen q).reply) where
+        module _ {part : List ℕ} (p : part ≡ reply_in as_text (before_open q).reply) where
           abbrev out' : List ℕ
           out' = put_mid (15 * n) (15 * n + 15 - 15 * n) out part
 
@@ -426,7 +426,7 @@ module _ {r₀ : Reader} {piece out₀ : List ℕ} {r : Reader} {out : List ℕ}
               (ap length all_asked ∙ length-append (asked r₀ (take i piece)) (q ∷ [])
               ∙ ap (λ (k : ℕ). k + 1) (sym u.count))
 
-          hub' : after unopened (asked r₀ (take (i + 1) piece)) ≡ (beforeOpen q).hub
+          hub' : after unopened (asked r₀ (take (i + 1) piece)) ≡ (before_open q).hub
           unfolding after
           hub' =
               ap (after unopened) all_asked
@@ -442,8 +442,8 @@ module _ {r₀ : Reader} {piece out₀ : List ℕ} {r : Reader} {out : List ℕ}
               ∙ replies-append (asked r₀ (take i piece)) (q ∷ []) unopened
               ∙ ap (λ (h : Hub). lines unopened (asked r₀ (take i piece)) ++ lines h (q ∷ [])) u.none
               ∙ ap (λ (l : List ℕ). lines unopened (asked r₀ (take i piece)) ++ l)
-              (ap (λ (t : Response). replyIn asText t.reply ++ []) (respond-before unopened q shut)
-              ∙ append-nil (replyIn asText (beforeOpen q).reply) ∙ sym p)
+              (ap (λ (t : Response). reply_in as_text t.reply ++ []) (respond-before unopened q shut)
+              ∙ append-nil (reply_in as_text (before_open q).reply) ∙ sym p)
 
           front : length (lines unopened (asked r₀ (take i piece))) ≡ 15 * n
           front =
@@ -478,7 +478,7 @@ module _ {r₀ : Reader} {piece out₀ : List ℕ} {r : Reader} {out : List ℕ}
           long-still = put-length out part (15 * n) 15 room-for-one size
 
           -- No hub is open yet.
-          pub onward : opensHub q ≡ false → Upto r₀ piece out₀ read.reader out' (n + 1) (i + 1)
+          pub onward : opens_hub q ≡ false → Upto r₀ piece out₀ read.reader out' (n + 1) (i + 1)
           onward o =
               record {
                 within = omega arith;
@@ -490,17 +490,17 @@ module _ {r₀ : Reader} {piece out₀ : List ℕ} {r : Reader} {out : List ℕ}
                 none = hub' ∙ stays-shut q o;
                 same = out'-is;
                 ahead =
-                    ap (λ (q : Reader). i + 1 + untilOpen q (drop (i + 1) piece)) (is ∙ next-is)
+                    ap (λ (q : Reader). i + 1 + until_open q (drop (i + 1) piece)) (is ∙ next-is)
                     ∙ sym (ahead-is ∙ rw (ends, o)) ∙ u.ahead;
               }
 
           -- This line opens it.
-          pub opened : opensHub q ≡ true → (h₀ : Hub) → h₀ ≡ unopened → (h : Hub)
-              → h ≡ (beforeOpen q).hub
+          pub opened : opens_hub q ≡ true → (h₀ : Hub) → h₀ ≡ unopened → (h : Hub)
+              → h ≡ (before_open q).hub
               → Stops h₀ r₀ piece out₀
               (record { hub = h; reader = read.reader; read = i + 1; lines = n + 1 }) out'
           opened o h₀ none h g =
-              let here : i + 1 ≡ untilOpen r₀ piece = nought i ∙ sym (ahead-is ∙ rw (ends, o)) ∙ u.ahead in
+              let here : i + 1 ≡ until_open r₀ piece = nought i ∙ sym (ahead-is ∙ rw (ends, o)) ∙ u.ahead in
               let s = stops r₀ piece out₀ (i + 1) here in
               subst
               (λ (h₀ : Hub). Stops h₀ r₀ piece out₀

@@ -11,24 +11,24 @@ use lib.ListN.{take-append-drop}
 use lib.Seq.{drop-cons}
 use Rattle.hub.specs.declared.record.Hub.{Hub}
 use Rattle.hub.proofs.Laws.Bools.{if-true, if-false}
-use Rattle.encoding.specs.Form.{asText}
-use Rattle.line.specs.Program.{unopened, respond, replies, after, rendered, repliesIn, closing}
-use Rattle.line.specs.Program.{lines_from, lines_of, outputOf}
-use Rattle.line.specs.Requests.{Request, requestOf}
+use Rattle.encoding.specs.Form.{as_text}
+use Rattle.line.specs.Program.{unopened, respond, replies, after, rendered, replies_in, closing}
+use Rattle.line.specs.Program.{lines_from, lines_of, output_of}
+use Rattle.line.specs.Requests.{Request, request_of}
 use Rattle.reader.specs.declared.Reader.{Reader}
 use Rattle.reader.specs.Reading.{next, asked}
 
-pub replies-size : (rs : List Request) (h : Hub) → length (repliesIn asText h rs) ≡ 15 * length rs
+pub replies-size : (rs : List Request) (h : Hub) → length (replies_in as_text h rs) ≡ 15 * length rs
 unfolding replies rendered
 replies-size [] h = refl
 replies-size (r ∷ rs) h = omega (arith, replies-size rs (respond h r).hub)
 
-pub output-size : (input : List ℕ) → length (outputOf input) ≡ 15 * (length (lines_of input) + 1)
-unfolding outputOf
+pub output-size : (input : List ℕ) → length (output_of input) ≡ 15 * (length (lines_of input) + 1)
+unfolding output_of
 output-size input =
-    let rs = map requestOf (lines_of input) in
-    length-append (repliesIn asText unopened rs) (closing (after unopened rs))
-    ∙ omega (arith, replies-size rs unopened, length-map (lines_of input) requestOf)
+    let rs = map request_of (lines_of input) in
+    length-append (replies_in as_text unopened rs) (closing (after unopened rs))
+    ∙ omega (arith, replies-size rs unopened, length-map (lines_of input) request_of)
 
 -- A piece has at least as many characters as lines that end in it.
 pub asked-few : (cs : List ℕ) (r : Reader) → length (asked r cs) ≤ length cs
@@ -43,9 +43,9 @@ asked-few (c ∷ cs) r = go (eqb c 0x0A) _ (asked (next r c) cs) (asked-few cs (
 
 -- How many lines there are, once i characters are counted: within a line or not is all that
 -- matters of what is read of it.
-abbrev cutLine : ℕ → List ℕ
-cutLine zero = []
-cutLine (suc n) = 0 ∷ []
+abbrev cut_line : ℕ → List ℕ
+cut_line zero = []
+cut_line (suc n) = 0 ∷ []
 
 some-line : (cs : List ℕ) (x y : ℕ) (l m : List ℕ)
     → length (lines_from (x ∷ l) cs) ≡ length (lines_from (y ∷ m) cs)
@@ -63,7 +63,7 @@ pub record Counted (input : List ℕ) (n cut i : ℕ) : Type 0 where
   pub within : i ≤ length input
   pub few : n ≤ i
   pub flag : cut ≤ 1
-  pub same : n + length (lines_from (cutLine cut) (drop i input)) ≡ length (lines_of input)
+  pub same : n + length (lines_from (cut_line cut) (drop i input)) ≡ length (lines_of input)
 
 pub counted_none : (input : List ℕ) → Counted input 0 0 0
 counted_none input =
@@ -86,7 +86,7 @@ module _ (input : List ℕ) (n cut i : ℕ) (k : Counted input n cut i) where
     pub counted-end : c ≡ 0x0A → Counted input (n + 1) 0 (i + 1)
     unfolding lines_from
     counted-end e =
-        let f : lines_from (cutLine cut) (c ∷ cs) ≡ cutLine cut ∷ lines_from [] cs =
+        let f : lines_from (cut_line cut) (c ∷ cs) ≡ cut_line cut ∷ lines_from [] cs =
         if-true (eqb c 0x0A) _ _ (eq-eqb c 0x0A e) in
         record {
           within = omega arith;
@@ -96,7 +96,7 @@ module _ (input : List ℕ) (n cut i : ℕ) (k : Counted input n cut i) where
               omega (
                 arith,
                 k.same,
-                ap (λ (l : List ℕ). length (lines_from (cutLine cut) l)) here,
+                ap (λ (l : List ℕ). length (lines_from (cut_line cut) l)) here,
                 ap length f,
               );
         }
@@ -104,7 +104,7 @@ module _ (input : List ℕ) (n cut i : ℕ) (k : Counted input n cut i) where
     pub counted-within : (c ≡ 0x0A → ⊥) → Counted input n 1 (i + 1)
     unfolding lines_from
     counted-within e =
-        let f : lines_from (cutLine cut) (c ∷ cs) ≡ lines_from (cutLine cut ++ (c ∷ [])) cs =
+        let f : lines_from (cut_line cut) (c ∷ cs) ≡ lines_from (cut_line cut ++ (c ∷ [])) cs =
         if-false (eqb c 0x0A) _ _ (ne_eqb c 0x0A e) in
         record {
           within = omega arith;
@@ -114,13 +114,13 @@ module _ (input : List ℕ) (n cut i : ℕ) (k : Counted input n cut i) where
               omega (
                 arith,
                 k.same,
-                ap (λ (l : List ℕ). length (lines_from (cutLine cut) l)) here,
+                ap (λ (l : List ℕ). length (lines_from (cut_line cut) l)) here,
                 ap length f,
                 any cut,
               );
         }
       where
-        any : (b : ℕ) → length (lines_from (cutLine b ++ (c ∷ [])) cs) ≡ length (lines_from (0 ∷ []) cs)
+        any : (b : ℕ) → length (lines_from (cut_line b ++ (c ∷ [])) cs) ≡ length (lines_from (0 ∷ []) cs)
         any zero = some-line cs c 0 [] []
         any (suc b) = some-line cs 0 0 (c ∷ []) []
 
@@ -130,11 +130,11 @@ module _ (input : List ℕ) (n cut i : ℕ) (k : Counted input n cut i) where
       omega (
         arith,
         k.same,
-        ap (λ (l : List ℕ). length (lines_from (cutLine cut) l)) (drop_of_length-le input {i = i} m),
+        ap (λ (l : List ℕ). length (lines_from (cut_line cut) l)) (drop_of_length-le input {i = i} m),
         last cut k.flag,
       )
     where
-      last : (b : ℕ) → b ≤ 1 → length (lines_from (cutLine b) []) ≡ b
+      last : (b : ℕ) → b ≤ 1 → length (lines_from (cut_line b) []) ≡ b
       last zero l = refl
       last (suc zero) l = refl
       last (suc (suc b)) l = absurd (omega arith)

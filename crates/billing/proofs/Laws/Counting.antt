@@ -7,46 +7,46 @@ use native.Mathlib.Omega.{arith}
 use borrow.Author.Tests.{eq-eqb, ne_eqb}
 use lib.ListN.{get_or, set, replicate}
 use Rattle.hub.specs.Basics.{among, bit}
-use Rattle.billing.specs.Counting.{sum, countBelow, table, linesIn, code_at, partyAt, wokenAt}
-use Rattle.billing.specs.Counting.{receiverOf, grants, grantsOf}
+use Rattle.billing.specs.Counting.{sum, count_below, table, lines_in, code_at, party_at, woken_at}
+use Rattle.billing.specs.Counting.{receiver_of, grants, grants_of}
 use Rattle.billing.proofs.Laws.Sums.{bit-true, bit-false, sum-next, count_most}
 use Rattle.billing.proofs.Laws.Tables.{table-get, table_same, table-set, table-zeros}
 
 -- To whom a line gives a link.
 module _ (c p w : ℕ) where
-  pub to-party : among (0x21 ∷ 0x25 ∷ []) c ≡ true → receiverOf c p w ≡ p
-  unfolding receiverOf
+  pub to-party : among (0x21 ∷ 0x25 ∷ []) c ≡ true → receiver_of c p w ≡ p
+  unfolding receiver_of
   to-party e = rw e
 
-  pub to-woken : c ≡ 0x2A → receiverOf c p w ≡ w
-  unfolding receiverOf
+  pub to-woken : c ≡ 0x2A → receiver_of c p w ≡ w
+  unfolding receiver_of
   to-woken e = rw e
 
-  pub to-nobody : (c ≡ 0x21 → ⊥) → (c ≡ 0x25 → ⊥) → (c ≡ 0x2A → ⊥) → receiverOf c p w ≡ 0xFF
-  unfolding receiverOf
+  pub to-nobody : (c ≡ 0x21 → ⊥) → (c ≡ 0x25 → ⊥) → (c ≡ 0x2A → ⊥) → receiver_of c p w ≡ 0xFF
+  unfolding receiver_of
   to-nobody i j k = rw (ne_eqb c 0x21 i, ne_eqb c 0x25 j, ne_eqb c 0x2A k)
 
 -- Whoever got a link, by i lines.
 abbrev so_far : List ℕ → ℕ → ℕ → ℕ
-so_far l i p = countBelow (grants l p) i
+so_far l i p = count_below (grants l p) i
 
 pub record Counted (l : List ℕ) (i : ℕ) (a : List ℕ) : Type 0 where
-  pub within : i ≤ linesIn l
+  pub within : i ≤ lines_in l
   pub counts : a ≡ table 32 (so_far l i)
 
 pub counted_none : (l : List ℕ) → Counted l 0 (replicate 32 0)
 unfolding sum
 counted_none l = record { within = omega arith; counts = table-zeros 32 }
 
-pub counted-most : (l : List ℕ) (p : ℕ) → grantsOf l p ≤ linesIn l
-unfolding grantsOf
-counted-most l p = count_most (grants l p) (linesIn l)
+pub counted-most : (l : List ℕ) (p : ℕ) → grants_of l p ≤ lines_in l
+unfolding grants_of
+counted-most l p = count_most (grants l p) (lines_in l)
 
 module _ {l : List ℕ} {i : ℕ} {a : List ℕ} (c : Counted l i a) where
-  pub counted-all : linesIn l ≤ i → a ≡ table 32 (grantsOf l)
-  unfolding grantsOf
+  pub counted-all : lines_in l ≤ i → a ≡ table 32 (grants_of l)
+  unfolding grants_of
   counted-all h =
-      let e : i ≡ linesIn l = omega (arith, c.within) in
+      let e : i ≡ lines_in l = omega (arith, c.within) in
       c.counts ∙ ap (λ (n : ℕ). table 32 (so_far l n)) e
 
   counted-at : (p : ℕ) → p < 32 → get_or a p 0 ≡ so_far l i p
@@ -58,9 +58,9 @@ module _ {l : List ℕ} {i : ℕ} {a : List ℕ} (c : Counted l i a) where
 
   -- One line more.
   module _
-      (h : i < linesIn l)
+      (h : i < lines_in l)
       {q : ℕ}
-      (e : q ≡ receiverOf (code_at l i) (partyAt l i) (wokenAt l i))
+      (e : q ≡ receiver_of (code_at l i) (party_at l i) (woken_at l i))
     where
       other : (p : ℕ) → (q ≡ p → ⊥) → so_far l i p ≡ so_far l (i + 1) p
       unfolding grants

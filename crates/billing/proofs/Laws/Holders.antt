@@ -20,12 +20,12 @@ use Rattle.hub.specs.Answers.{printed}
 use Rattle.hub.specs.Basics.{among, bit, count, weight, all_from}
 use Rattle.hub.specs.Calls.{called}
 use Rattle.hub.specs.Demand3.{Accounts, Demand3, ReachedFits}
-use Rattle.hub.specs.Fits.{fits, figuresFit, kindsFit, partyFits, placeFits, placeListed, stateFits, ticketFits}
-use Rattle.hub.specs.Ledger.{Ledger, opened, ledger, enter, succeeded, phaseIn, phaseAfter, phasesAfter}
+use Rattle.hub.specs.Fits.{fits, figures_fit, kinds_fit, party_fits, place_fits, place_listed, state_fits, ticket_fits}
+use Rattle.hub.specs.Ledger.{Ledger, opened, ledger, enter, succeeded, phase_in, phase_after, phases_after}
 use Rattle.hub.specs.Ledger.{gives, takes}
 use Rattle.hub.specs.Look.{look}
 use Rattle.hub.specs.Opening.{fresh, opening}
-use Rattle.hub.specs.Phases.{isFree, isOneOf, holds}
+use Rattle.hub.specs.Phases.{is_free, is_one_of, holds}
 use Rattle.hub.specs.Record.{PARTIES, read_slot}
 use Rattle.hub.specs.Ring.{PLACES}
 use Rattle.hub.specs.Schedule.{Entry, run, entries}
@@ -36,7 +36,7 @@ use Rattle.hub.proofs.Laws.Opening.{kept-opening}
 use Rattle.hub.proofs.Laws.Phases.{one_of}
 use Rattle.hub.proofs.Laws.Ranges.{one-true}
 use Rattle.hub.proofs.Laws.Slots.{read-phase}
-use Rattle.billing.specs.Counting.{receiverOf}
+use Rattle.billing.specs.Counting.{receiver_of}
 use Rattle.billing.proofs.Laws.Counting.{to-party, to-woken, to-nobody}
 use Rattle.billing.proofs.Laws.Lines.{granting}
 use Rattle.billing.proofs.Laws.Sums.{bit-true, bit-false}
@@ -56,7 +56,7 @@ dropped l p y e = go (dec_le (length l) p)
         )
 
 -- The same, where the phase that is then read there holds nothing.
-unseen : (l : List Phase) (p : ℕ) (y : Phase) → holds (phaseIn (set l p y) p) ≡ false
+unseen : (l : List Phase) (p : ℕ) (y : Phase) → holds (phase_in (set l p y) p) ≡ false
     → count holds (set l p y) ≤ count holds l
 unseen l p y e = go (dec_le (length l) p)
   where
@@ -64,30 +64,30 @@ unseen l p y e = go (dec_le (length l) p)
     go (yes h) = rw (set_out l p y h) (omega arith)
     go (no h) = dropped l p y (ap holds (sym (get_or-set_same l p y Phase.Free (omega arith))) ∙ e)
 
-free-holds-none : (f : Phase) → isFree f ≡ true → holds f ≡ false
-unfolding isOneOf
+free-holds-none : (f : Phase) → is_free f ≡ true → holds f ≡ false
+unfolding is_one_of
 free-holds-none f e = ap holds (one_of Phase.Free f e)
 
 -- In a record that fits the parties from n up are free.
 free-beyond : (h : Hub) → fits h ≡ true → (p : ℕ) → h.control.opening.parties ≤ p → p < PARTIES
-    → isFree (read_slot h.slots p).phase ≡ true
-unfolding fits stateFits partyFits
+    → is_free (read_slot h.slots p).phase ≡ true
+unfolding fits state_fits party_fits
 free-beyond h e p n b =
-    let state = first (stateFits h) (kindsFit h.control.opening) e in
-    let figures = figuresFit h.control.opening h.control.figures h.control.oldest in
-    let parties = all_from (partyFits h) 0 PARTIES in
-    let places = all_from (placeFits h) h.control.oldest PLACES in
+    let state = first (state_fits h) (kinds_fit h.control.opening) e in
+    let figures = figures_fit h.control.opening h.control.figures h.control.oldest in
+    let parties = all_from (party_fits h) 0 PARTIES in
+    let places = all_from (place_fits h) h.control.oldest PLACES in
     let all =
     second figures parties (first (figures && parties) places (first (figures && parties && places) _ state)) in
     let f = (read_slot h.slots p).phase in
-    let there = ltb p h.control.opening.parties || isFree f in
-    let tickets = ticketFits h.control.figures h.control.oldest f in
-    let listed = placeListed f (look h p).seat.place in
+    let there = ltb p h.control.opening.parties || is_free f in
+    let tickets = ticket_fits h.control.figures h.control.oldest f in
+    let listed = place_listed f (look h p).seat.place in
     absent (ltb p h.control.opening.parties) (le-ltb p _ n)
     (first there tickets
     (first (there && tickets) listed
     (first (there && tickets && listed) _
-    (one-true (partyFits h) 0 PARTIES p all (omega arith) (omega arith)))))
+    (one-true (party_fits h) 0 PARTIES p all (omega arith) (omega arith)))))
   where
     absent : (a : Bool) {b : Bool} → a ≡ false → a || b ≡ true → b ≡ true
     absent true e i = let z : ◌≡◌ {A = ℕ} 0 1 = cc in absurd (omega arith)
@@ -126,7 +126,7 @@ module _ (e : Ledger) (x : Entry) (s : 0x20 ≤ x.answer.code) where
   -- Only a 2A moves anybody else.
   one-moved : (x.answer.code ≡ 0x2A → ⊥)
       → (y : Phase) × ((enter e x).phases ≡ set e.phases x.call.party y)
-  unfolding phasesAfter
+  unfolding phases_after
   one-moved n =
       (_, entered (λ d. d.phases) ∙ unmoved _ _ _ _ _ (ne_eqb x.answer.code 0x2A n))
     where
@@ -139,7 +139,7 @@ module _ (e : Ledger) (x : Entry) (s : 0x20 ≤ x.answer.code) where
       × ((enter e x).phases
       ≡ set (set e.phases x.answer.woken Phase.Holding) x.call.party y)
       × (holds y ≡ false)
-  unfolding phasesAfter phaseAfter isOneOf
+  unfolding phases_after phase_after is_one_of
   two-moved i =
       (_, entered (λ d. d.phases) ∙ moved _ _ _ _ _ (eq-eqb x.answer.code 0x2A i), rw i)
     where
@@ -153,7 +153,7 @@ unfolding enter
 refused-same e x k = if-true (ltb x.answer.code 0x20) e _ (lt-ltb x.answer.code 0x20 k)
 
 size-kept : (e : Ledger) (x : Entry) → length (enter e x).phases ≡ length e.phases
-unfolding enter phasesAfter
+unfolding enter phases_after
 size-kept e x =
     go (ltb x.answer.code 0x20) _
     (length-set (cond (eqb x.answer.code 0x2A) _ e.phases) x.call.party _
@@ -211,17 +211,17 @@ module _ (o : Opening) (a : (opening o).answer ≡ Answer.Opened) where
 
     -- Its holders, and the parties from n up.
     pub balance : count holds e.phases + e.took ≡ e.gave
-    balance = omega (arith, accounts.holders, accounts.heldWhole)
+    balance = omega (arith, accounts.holders, accounts.held_whole)
 
-    beyond : (p : ℕ) → o.parties ≤ p → holds (phaseIn e.phases p) ≡ false
-    unfolding ReachedFits isOneOf
+    beyond : (p : ℕ) → o.parties ≤ p → holds (phase_in e.phases p) ≡ false
+    unfolding ReachedFits is_one_of
     beyond p n = go (dec_le PARTIES p)
       where
-        go : Dec (PARTIES ≤ p) → holds (phaseIn e.phases p) ≡ false
+        go : Dec (PARTIES ≤ p) → holds (phase_in e.phases p) ≡ false
         go (yes k) =
             ap holds (get_or-eq_default e.phases Phase.Free {n = p} (omega (arith, s.size)))
         go (no k) =
-            ap (λ (l : List Phase). holds (phaseIn l p)) (sym accounts.phases)
+            ap (λ (l : List Phase). holds (phase_in l p)) (sym accounts.phases)
             ∙ ap holds (sym (read-phase h.slots p))
             ∙ free-holds-none (read_slot h.slots p).phase
             (free-beyond h (ap fits s.hub ∙ every-record-fits o a s.calls) p
@@ -253,7 +253,7 @@ module _ (o : Opening) (a : (opening o).answer ≡ Answer.Opened) where
             let m = one-moved e seen k n in
             let z =
             unseen e.phases c.party m.0
-            (ap (λ (l : List Phase). holds (phaseIn l c.party)) (sym m.1) ∙ beyond next c.party i) in
+            (ap (λ (l : List Phase). holds (phase_in l c.party)) (sym m.1) ∙ beyond next c.party i) in
             absurd (omega (arith, risen k g t, ap (count holds) m.1))
 
     woken-below : code ≡ 0x2A → seen.answer.woken < o.parties
@@ -292,7 +292,7 @@ module _ (o : Opening) (a : (opening o).answer ≡ Answer.Opened) where
             let z =
             unseen e.phases q Phase.Holding
             (ap holds (sym (get_or-set_other w p q m.0 Phase.Free d))
-            ∙ ap (λ (l : List Phase). holds (phaseIn l q)) (sym m.1)
+            ∙ ap (λ (l : List Phase). holds (phase_in l q)) (sym m.1)
             ∙ beyond next q j) in
             absurd (omega (arith, up, ap (count holds) m.1))
 
@@ -305,7 +305,7 @@ module _ (o : Opening) (a : (opening o).answer ≡ Answer.Opened) where
         n = o.parties
 
         -- The party that gets it, if it is below n.
-        one : (r : ℕ) → receiverOf code c.party (seen.answer.woken % 256) ≡ r → 0x20 ≤ code
+        one : (r : ℕ) → receiver_of code c.party (seen.answer.woken % 256) ≡ r → 0x20 ≤ code
             → gives code ≡ 1 → r < n
             → granting n code c.party (seen.answer.woken % 256) + e.gave ≡ (enter e seen).gave
         one r i k g b =
@@ -344,11 +344,11 @@ module _ (o : Opening) (a : (opening o).answer ≡ Answer.Opened) where
             )
 
   -- Over all calls from there on.
-  abbrev pub worthIn : Entry → ℕ
-  worthIn x = granting o.parties x.answer.code x.call.party (x.answer.woken % 256)
+  abbrev pub worth_in : Entry → ℕ
+  worth_in x = granting o.parties x.answer.code x.call.party (x.answer.woken % 256)
 
   pub all-given : {h : Hub} {e : Ledger} → Standing h e → (cs : List Call)
-      → weight worthIn (entries h cs) + e.gave ≡ (ledger e (entries h cs)).gave
+      → weight worth_in (entries h cs) + e.gave ≡ (ledger e (entries h cs)).gave
   unfolding weight entries ledger
   all-given s [] = omega arith
   all-given s (c ∷ cs) = omega (arith, line-worth s c, all-given (onward s c) cs)

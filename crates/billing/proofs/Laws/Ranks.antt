@@ -10,7 +10,7 @@ use native.Mathlib.Omega.{arith}
 use borrow.Author.Tests.{lt-ltb, le-ltb, eq-eqb, ne_eqb}
 use lib.Dec.{ltb}
 use Rattle.hub.specs.Basics.{bit}
-use Rattle.billing.specs.Counting.{sum, countBelow}
+use Rattle.billing.specs.Counting.{sum, count_below}
 use Rattle.billing.specs.Sharing.{precedes, rank}
 use Rattle.billing.proofs.Laws.Sums.{bit-most, bit-true, bit-false, sum-le, sum_lt, sum_same}
 use Rattle.billing.proofs.Laws.Sums.{count_most}
@@ -188,7 +188,7 @@ module _ (r : ℕ → ℕ) where
 
   -- Whoever has no remainder comes behind all that have one.
   abbrev pub remains : ℕ → ℕ
-  remains n = countBelow (λ q. ltb 0 (r q)) n
+  remains n = count_below (λ q. ltb 0 (r q)) n
 
   pub rank-none : (n p : ℕ) → r p ≡ 0 → remains n ≤ rank r n p
   unfolding rank

@@ -15,8 +15,8 @@ use Rattle.hub.specs.Basics.{bit}
 use Rattle.billing.specs.declared.Terms.{Terms}
 use Rattle.billing.specs.Counting.{sum}
 use Rattle.billing.specs.Promises.{EveryBill}
-use Rattle.billing.specs.Sharing.{granted, weighed, weight, whole, roundedDown, remainder}
-use Rattle.billing.specs.Sharing.{leftOver, precedes, rank, share, up_to, Billable}
+use Rattle.billing.specs.Sharing.{granted, weighed, weight, whole, rounded_down, remainder}
+use Rattle.billing.specs.Sharing.{left_over, precedes, rank, share, up_to, Billable}
 use Rattle.billing.proofs.Laws.Ranks.{places, remains, rank-none}
 use Rattle.billing.proofs.Laws.Sums.{bit-false, sum-le, sum_same, sum-add}
 use Rattle.billing.proofs.Laws.Sums.{sum-mul, sum-const, sum-part, sum-next, count_most}
@@ -54,22 +54,22 @@ module _ (t : Terms) where
         go (yes e) = omega (arith, whole-none e)
         go (no e) = omega (arith, whole-some e)
 
-    portion : (p : ℕ) → whole t * roundedDown t p + remainder t p ≡ t.fee * weight t p
+    portion : (p : ℕ) → whole t * rounded_down t p + remainder t p ≡ t.fee * weight t p
     portion p = omega (arith, div-add-mod' (t.fee * weight t p) (whole t))
 
     part : (p : ℕ) → remainder t p < whole t
     part p = mod-lt (t.fee * weight t p) whole_pos
 
     abbrev down : ℕ → ℕ
-    down k = sum (roundedDown t) k
+    down k = sum (rounded_down t) k
 
     portions : whole t * down t.parties + sum (remainder t) t.parties ≡ whole t * t.fee
     portions =
         omega (
           arith,
-          sum-mul (whole t) (roundedDown t) t.parties,
-          sum-add (λ p. whole t * roundedDown t p) (remainder t) t.parties,
-          sum_same (λ p. whole t * roundedDown t p + remainder t p) (λ p. t.fee * weight t p)
+          sum-mul (whole t) (rounded_down t) t.parties,
+          sum-add (λ p. whole t * rounded_down t p) (remainder t) t.parties,
+          sum_same (λ p. whole t * rounded_down t p + remainder t p) (λ p. t.fee * weight t p)
               t.parties (λ p h. portion p),
           sum-mul t.fee (weight t) t.parties,
         )
@@ -79,7 +79,7 @@ module _ (t : Terms) where
     down-most k h =
         omega (
           arith,
-          sum-part (roundedDown t) t.parties h,
+          sum-part (rounded_down t) t.parties h,
           le_of_mul-le-mul_left (within portions) whole_pos,
         )
       where
@@ -88,7 +88,7 @@ module _ (t : Terms) where
         within e = omega arith
 
     -- The cents left over are no more than the parties that have a remainder.
-    left-most : leftOver t ≤ remains (remainder t) t.parties
+    left-most : left_over t ≤ remains (remainder t) t.parties
     left-most = le_of_mul-le-mul_left within whole_pos
       where
         one : (p : ℕ) → Dec (remainder t p ≤ 0)
@@ -96,7 +96,7 @@ module _ (t : Terms) where
         one p (yes k) = omega (arith, bit-false (le-ltb 0 (remainder t p) k))
         one p (no k) = rw (lt-ltb 0 (remainder t p) (omega arith)) (omega (arith, part p))
 
-        within : whole t * leftOver t ≤ whole t * remains (remainder t) t.parties
+        within : whole t * left_over t ≤ whole t * remains (remainder t) t.parties
         within =
             split (whole t) (down t.parties) t.fee _ _ _ (down-most t.parties (omega arith))
             portions
@@ -112,13 +112,13 @@ module _ (t : Terms) where
                 omega arith
 
     abbrev extra : ℕ → ℕ
-    extra p = bit (ltb (rank (remainder t) t.parties p) (leftOver t))
+    extra p = bit (ltb (rank (remainder t) t.parties p) (left_over t))
 
     -- A cent more goes to a party only if it has a remainder.
     only-remains : (p : ℕ) → remainder t p ≡ 0 → extra p ≡ 0
     only-remains p e =
         bit-false
-        (le-ltb (rank (remainder t) t.parties p) (leftOver t)
+        (le-ltb (rank (remainder t) t.parties p) (left_over t)
         (omega (arith, rank-none (remainder t) t.parties p e, left-most)))
 
     shares-exact : sum (share t) t.parties ≡ t.fee
@@ -126,8 +126,8 @@ module _ (t : Terms) where
     shares-exact =
         omega (
           arith,
-          sum-add (roundedDown t) extra t.parties,
-          places (remainder t) t.parties (leftOver t)
+          sum-add (rounded_down t) extra t.parties,
+          places (remainder t) t.parties (left_over t)
               (omega (arith, left-most, count_most (λ q. ltb 0 (remainder t q)) t.parties)),
           down-most t.parties (omega arith),
         )
@@ -151,26 +151,26 @@ every-bill t s =
     record {
       exact = shares-exact t s;
       below = λ p h.
-          share-below (whole t) (roundedDown t p) (remainder t p) _ _ (portion t s p) (part t s p);
+          share-below (whole t) (rounded_down t p) (remainder t p) _ _ (portion t s p) (part t s p);
       above = λ p h.
-          share-above (whole t) (roundedDown t p) (remainder t p) _
-          (ltb (rank (remainder t) t.parties p) (leftOver t)) (portion t s p) (part t s p)
+          share-above (whole t) (rounded_down t p) (remainder t p) _
+          (ltb (rank (remainder t) t.parties p) (left_over t)) (portion t s p) (part t s p)
           (only-remains t s p);
     }
 
 -- The portions of the first p parties are worked out, and what is left of the fee.
 pub record Divided (t : Terms) (l m : List ℕ) (x p : ℕ) : Type 0 where
   pub within : p ≤ t.parties
-  pub cents : l ≡ up_to p (roundedDown t)
+  pub cents : l ≡ up_to p (rounded_down t)
   pub remainders : m ≡ up_to p (remainder t)
-  pub left : x + sum (roundedDown t) p ≡ t.fee
+  pub left : x + sum (rounded_down t) p ≡ t.fee
 
 pub divided-none : (t : Terms) → Divided t (replicate 32 0) (replicate 32 0) t.fee 0
 unfolding sum
 divided-none t =
     record {
       within = omega arith;
-      cents = up-to-none (roundedDown t);
+      cents = up-to-none (rounded_down t);
       remainders = up-to-none (remainder t);
       left = omega arith;
     }
@@ -188,16 +188,16 @@ module _ {t : Terms} (b : Billable t) where
   exact-most p h = omega (arith, mul-le-mul b.fee (weight-most p h))
 
   module _ {cents remainders : List ℕ} {left p : ℕ} (d : Divided t cents remainders left p) where
-    pub next-within : p < t.parties → roundedDown t p ≤ left
+    pub next-within : p < t.parties → rounded_down t p ≤ left
     next-within h =
         omega (
           arith,
           d.left,
-          sum-next (roundedDown t) p,
+          sum-next (rounded_down t) p,
           down-most t b.some (p + 1) (omega arith),
         )
 
-    pub divided-next : p < t.parties → {x y : List ℕ} {z v w : ℕ} → v ≡ roundedDown t p
+    pub divided-next : p < t.parties → {x y : List ℕ} {z v w : ℕ} → v ≡ rounded_down t p
         → w ≡ remainder t p → x ≡ set cents p v → y ≡ set remainders p w → z ≡ left - v
         → Divided t x y z (p + 1)
     divided-next h {v = v} {w = w} i j e f g =
@@ -205,21 +205,21 @@ module _ {t : Terms} (b : Billable t) where
           within = omega arith;
           cents =
               e ∙ ap (λ (l : List ℕ). set l p v) d.cents
-              ∙ up-to-more (roundedDown t) p v (omega (arith, b.parties)) i;
+              ∙ up-to-more (rounded_down t) p v (omega (arith, b.parties)) i;
           remainders =
               f ∙ ap (λ (l : List ℕ). set l p w) d.remainders
               ∙ up-to-more (remainder t) p w (omega (arith, b.parties)) j;
-          left = omega (arith, d.left, sum-next (roundedDown t) p, next-within h);
+          left = omega (arith, d.left, sum-next (rounded_down t) p, next-within h);
         }
 
     pub divided-all : t.parties ≤ p
-        → (cents ≡ up_to t.parties (roundedDown t))
-        × (remainders ≡ up_to t.parties (remainder t)) × (left ≡ leftOver t)
+        → (cents ≡ up_to t.parties (rounded_down t))
+        × (remainders ≡ up_to t.parties (remainder t)) × (left ≡ left_over t)
     divided-all h =
         let e : p ≡ t.parties = omega (arith, d.within) in (
-          d.cents ∙ ap (λ (k : ℕ). up_to k (roundedDown t)) e,
+          d.cents ∙ ap (λ (k : ℕ). up_to k (rounded_down t)) e,
           d.remainders ∙ ap (λ (k : ℕ). up_to k (remainder t)) e,
-          omega (arith, d.left, ap (sum (roundedDown t)) e),
+          omega (arith, d.left, ap (sum (rounded_down t)) e),
         )
 
 rank_same : (r s : ℕ → ℕ) (n p : ℕ) → ((q : ℕ) → q < n → r q ≡ s q) → p < n → rank r n p ≡ rank s n p
@@ -238,8 +238,8 @@ module _
     (b : Billable t)
     {cents remainders : List ℕ}
     {left : ℕ}
-    (d : (cents ≡ up_to t.parties (roundedDown t))
-    × (remainders ≡ up_to t.parties (remainder t)) × (left ≡ leftOver t))
+    (d : (cents ≡ up_to t.parties (rounded_down t))
+    × (remainders ≡ up_to t.parties (remainder t)) × (left ≡ left_over t))
   where
     at : (l : List ℕ) (f : ℕ → ℕ) → l ≡ up_to t.parties f → (p : ℕ) → p < t.parties
         → get_or l p 0 ≡ f p
@@ -251,8 +251,8 @@ module _
     cents-most p h =
         omega (
           arith,
-          at cents (roundedDown t) d.0 p h,
-          sum-next (roundedDown t) p,
+          at cents (rounded_down t) d.0 p h,
+          sum-next (rounded_down t) p,
           down-most t b.some (p + 1) (omega arith),
           b.fee,
         )
@@ -262,7 +262,7 @@ module _
     unfolding share
     handed-shares =
         up-to-same t.parties (handed cents remainders left t.parties) (share t)
-        (λ p h. (λ i. at cents (roundedDown t) d.0 p h i + bit (ltb (ranked p h i) (d.2 i))))
+        (λ p h. (λ i. at cents (rounded_down t) d.0 p h i + bit (ltb (ranked p h i) (d.2 i))))
       where
         ranked : (p : ℕ) → p < t.parties
             → rank (λ q. get_or remainders q 0) t.parties p ≡ rank (remainder t) t.parties p

@@ -8,7 +8,7 @@ use native.Mathlib.Omega.{arith}
 use borrow.Author.Tests.{lt-ltb, le-ltb, eq-eqb, ne_eqb}
 use lib.Dec.{ltb, eqb}
 use Rattle.hub.specs.Basics.{bit}
-use Rattle.billing.specs.Counting.{sum, countBelow}
+use Rattle.billing.specs.Counting.{sum, count_below}
 
 pub bit-most : (b : Bool) → bit b ≤ 1
 bit-most true = omega arith
@@ -77,18 +77,18 @@ unfolding sum
 sum-front f zero = omega arith
 sum-front f (suc n) = omega (arith, sum-front f n)
 
-pub count_most : (f : ℕ → Bool) (n : ℕ) → countBelow f n ≤ n
+pub count_most : (f : ℕ → Bool) (n : ℕ) → count_below f n ≤ n
 count_most f n =
     omega (arith, sum-le (λ i. bit (f i)) (λ i. 1) n (λ i h. bit-most (f i)), sum-const 1 n)
 
 -- A number is once below n, or not at all.
-pub count-one : (r n : ℕ) → countBelow (eqb r) n ≡ bit (ltb r n)
+pub count-one : (r n : ℕ) → count_below (eqb r) n ≡ bit (ltb r n)
 unfolding sum
 count-one r zero = omega (arith, bit-false (le-ltb r 0 (omega arith)))
 count-one r (suc n) = go (ℕ_discrete r n) (dec_le n r) (count-one r n)
   where
-    go : Dec (r ≡ n) → Dec (n ≤ r) → countBelow (eqb r) n ≡ bit (ltb r n)
-        → countBelow (eqb r) n + bit (eqb r n) ≡ bit (ltb r (suc n))
+    go : Dec (r ≡ n) → Dec (n ≤ r) → count_below (eqb r) n ≡ bit (ltb r n)
+        → count_below (eqb r) n + bit (eqb r n) ≡ bit (ltb r (suc n))
     go (yes e) d i =
         omega (
           arith,

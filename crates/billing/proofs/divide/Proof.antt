@@ -5,7 +5,7 @@ use mathlib.Core.Logic.{⊎_elim}
 use mathlib.Core.Path.{◌≡◌, refl, sym, ap, ◌∙◌}
 use native.Mathlib.Omega.{arith}
 use Rattle.billing.specs.declared.Terms.{Terms}
-use Rattle.billing.specs.Sharing.{granted, weighed, weight, whole, roundedDown, remainder}
+use Rattle.billing.specs.Sharing.{granted, weighed, weight, whole, rounded_down, remainder}
 use Rattle.billing.specs.Sharing.{Billable}
 use Rattle.billing.proofs.Laws.Shares.{whole-none, whole-some, whole_pos, Divided, divided-none}
 use Rattle.billing.proofs.Laws.Shares.{exact-most, next-within, divided-next, divided-all}
@@ -48,7 +48,7 @@ terms c = (head c).before.before.before.args.t1
 -- What the turn works out.
 down_is : (c : Weighed)
     → (terms c).fee * c.weight.result / (head c).before.if1.whole
-    ≡ roundedDown (terms c) (head c).loop.p
+    ≡ rounded_down (terms c) (head c).loop.p
 down_is c = (λ i. (terms c).fee * weight_is c i / whole_is (head c).before i)
 
 rest-is : (c : Weighed)
@@ -63,7 +63,7 @@ whole-some-cents : (c : Weighed) → 0 < (head c).before.if1.whole
 whole-some-cents c =
     omega (arith, whole_is (head c).before, whole_pos (terms c) (billable c).some)
 
-fits : (c : Weighed) → roundedDown (terms c) (head c).loop.p ≤ (head c).loop.left
+fits : (c : Weighed) → rounded_down (terms c) (head c).loop.p ≤ (head c).loop.left
 fits c = next-within (billable c) (head c).loop.invariant c.before.before.loop-test.true
 
 cast-n : tie.Need-overflow-cast-n invariant-loop decreases-loop

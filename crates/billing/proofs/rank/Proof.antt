@@ -7,7 +7,7 @@ use mathlib.Core.Logic.{⊎_elim}
 use mathlib.Core.Path.{◌≡◌, refl, sym, ap, ◌∙◌}
 use lib.ListN.{get_or}
 use Rattle.hub.specs.Basics.{bit}
-use Rattle.billing.specs.Counting.{sum, countBelow}
+use Rattle.billing.specs.Counting.{sum, count_below}
 use Rattle.billing.specs.Sharing.{precedes, rank}
 use Rattle.billing.proofs.Laws.Sums.{bit-true, bit-false, sum-next}
 use Rattle.billing.proofs.rank.Statement.{statement}
@@ -15,7 +15,7 @@ use Rattle.billing.proofs.rank.Tie as tie
 
 abbrev invariant-loop : tie.invariant-loop
 invariant-loop parties p remainders n own before₀ q₀ before q =
-    (q ≤ parties) × (before ≤ q) × (before ≡ countBelow (λ x. precedes (get_or remainders x 0) x own p) q)
+    (q ≤ parties) × (before ≤ q) × (before ≡ count_below (λ x. precedes (get_or remainders x 0) x own p) q)
 
 abbrev decreases-loop : tie.decreases-loop
 decreases-loop parties p remainders n own before₀ q₀ before q = parties - q
@@ -74,7 +74,7 @@ returns c =
     let l = c.before in
     let a = l.before.args in
     l.loop.invariant.2
-    ∙ ap (countBelow (λ x. precedes (get_or a.t2 x 0) x (get_or a.t2 a.p 0) a.p)) (omega arith)
+    ∙ ap (count_below (λ x. precedes (get_or a.t2 x 0) x (get_or a.t2 a.p 0) a.p)) (omega arith)
 
 pub rank-spec : {M : Type 1} → statement M
 rank-spec =

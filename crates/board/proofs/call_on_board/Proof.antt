@@ -128,11 +128,11 @@ use Rattle.hub.proofs.record.Hub.TheLaws as T'
 use Rattle.hub.specs.contracts.record.Outcome as R
 use Rattle.hub.proofs.record.Outcome.TheLaws as R'
 use Rattle.shellwalk.proofs.Locals.{holds, unset}
-use Rattle.shellwalk.proofs.OverFields.{hubVal}
+use Rattle.shellwalk.proofs.OverFields.{hub_val}
 use Rattle.shellwalk.proofs.OnBoard as on
-use Rattle.shellwalk.proofs.OnBoard.{AtEnd, clauses, meets, opVal, reaches}
+use Rattle.shellwalk.proofs.OnBoard.{AtEnd, clauses, meets, op_val, reaches}
 use Rattle.shellwalk.proofs.Shell.{Kind, Shell}
-use Rattle.shellwalk.proofs.Tagged.{answer_val, by-op, kind, outcomeVal, parts}
+use Rattle.shellwalk.proofs.Tagged.{answer_val, by-op, kind, outcome_val, parts}
 use Rattle.shellwalk.proofs.Lent.{to-shell, loan, lends, comes_back}
 use Rattle.board.proofs.acquire.Symbol as acquire
 use Rattle.board.proofs.acquire.Met as acquire-thm
@@ -213,8 +213,8 @@ function key = record {
 
 -- what comes back is the answer's machine value, and an outcome's
 outcome :
-    (o : Outcome) (v : Val) → Is P.the_row o.answer (v ∷ []) → Is T.the_row o.hub (hubVal o.hub ∷ [])
-    → (v ≡ answer_val o.answer) × Is R.the_row o (outcomeVal o ∷ [])
+    (o : Outcome) (v : Val) → Is P.the_row o.answer (v ∷ []) → Is T.the_row o.hub (hub_val o.hub ∷ [])
+    → (v ≡ answer_val o.answer) × Is R.the_row o (outcome_val o ∷ [])
 outcome o v p is =
     let t = ap only (EL.tells P.the_type P'.the_laws o.answer _ p) in
     let q = subst (λ (u : Val). Is P.the_row o.answer (u ∷ [])) t p in
@@ -222,7 +222,7 @@ outcome o v p is =
 
 module _ {M : Type 1} {𝓤 : Ura M} (𝓛 : Logic 𝓤)
     (D : Hub → Op → ℕ → Outcome) (h : Hub) (n : ℕ) (fits : n < 2 ^ 8)
-    (is : Is T.the_row h (hubVal h ∷ [])) where
+    (is : Is T.the_row h (hub_val h ∷ [])) where
   open 𝓛 use {H}
 
   abbrev Post : Op → Val → SProp 𝓤
@@ -235,8 +235,8 @@ module _ {M : Type 1} {𝓤 : Ura M} (𝓛 : Logic 𝓤)
   abbrev party : Lfts 1 → ℕ × Unit {0}
   party κs = (n, tt)
 
-  abbrev partyVal : Lfts 1 → List Val × Unit {0}
-  partyVal κs = (vint w8 n ∷ [], tt)
+  abbrev party_val : Lfts 1 → List Val × Unit {0}
+  party_val κs = (vint w8 n ∷ [], tt)
 
   module _ (key : Op → Name) (C : Calls 𝓤 H) (Λ : Loops 𝓤 H) (fm : FmC 𝓤 H 𝓛.laws C)
       (known : (o : Op) → Triple 𝓤 (C (key o)) (Shell 𝓛 (shell o)))
@@ -262,16 +262,16 @@ module _ {M : Type 1} {𝓤 : Ura M} (𝓛 : Logic 𝓤)
         (unset ref l₁₁ (unset ref l₁₀ (unset ref l₉ (unset ref l₈ (unset ref l₇ Γ)))))
 
     abbrev passed : Op → List (Item 𝓤)
-    passed o = holds O'.mir l₂ (opVal o) (holds T'.mir l₁ (hubVal h) (unset R'.mir l₀ []))
+    passed o = holds O'.mir l₂ (op_val o) (holds T'.mir l₁ (hub_val h) (unset R'.mir l₀ []))
 
     abbrev Before : Op → List (Item 𝓤)
     Before o =
         refs (unset P'.mir l₆ (unset P'.mir l₅
-        (holds T'.mir l₄ (hubVal h) (holds (ty_int w8) l₃ (vint w8 n) (passed o)))))
+        (holds T'.mir l₄ (hub_val h) (holds (ty_int w8) l₃ (vint w8 n) (passed o)))))
 
     abbrev After : Op → List (Item 𝓤)
     After o =
-        cell T'.mir l₄ (hubVal (D h o n).hub) ∷ cell (ty_int w8) l₃ (vint w8 n)
+        cell T'.mir l₄ (hub_val (D h o n).hub) ∷ cell (ty_int w8) l₃ (vint w8 n)
         ∷ cell P'.mir l₆ (answer_val (D h o n).answer)
         ∷ refs (dies P'.mir l₆ ∷ unset P'.mir l₅ (dies T'.mir l₄ ∷ dies (ty_int w8) l₃ ∷ passed o))
 
@@ -281,7 +281,7 @@ module _ {M : Type 1} {𝓤 : Ura M} (𝓛 : Logic 𝓤)
         any_q (after_seq 𝓤 H (Wp 𝓤 H C Λ E rest (at_return 𝓤 H E (Post o))) (at_return 𝓤 H E (Post o)))
 
     leaves :
-        (o : Op) → Is O.the_row o (opVal o ∷ []) → Is R.the_row (D h o n) (outcomeVal (D h o n) ∷ [])
+        (o : Op) → Is O.the_row o (op_val o ∷ []) → Is R.the_row (D h o n) (outcome_val (D h o n) ∷ [])
         → Sq 𝓛 (After o) (prop (Wp 𝓤 H C Λ E rest (at_return 𝓤 H E (Post o))))
     leaves o iso r =
         exec ! C Λ E rest (at_ret E (Post o)) $
@@ -300,38 +300,38 @@ module _ {M : Type 1} {𝓤 : Ura M} (𝓛 : Logic 𝓤)
         move ! (0 ∷ 13 ∷ []) $ free1 ! $ move ! (10 ∷ 11 ∷ []) $ free1 ! $ move ! (8 ∷ 9 ∷ []) $ free1 ! $
         move ! (6 ∷ 7 ∷ []) $ free1 ! $ move ! (4 ∷ 5 ∷ []) $ free1 ! $ move ! (2 ∷ 3 ∷ []) $ free1 ! $
         free1 ! $ free0 ! $
-        by ! (reaches 𝓛 R.the_row (λ z. z.answer) D h o n is iso fits (outcomeVal (D h o n))
+        by ! (reaches 𝓛 R.the_row (λ z. z.answer) D h o n is iso fits (outcome_val (D h o n))
         (LL.makes R.the_type R'.the_plain 𝓛 (D h o n) _ r))
 
     -- one arm: the local's record is lent for the call; q is what is to hold after it
     armed :
         (o : Op) (Δ : List (Item 𝓤)) (q : Kit.Post 𝓤 H)
         → Holds (has_ty (spot_of 𝓤 H E (slot o)).0 (vptr l₄ 0)) × WT (vptr l₄ 0)
-        → (Is R.the_row (D h o n) (outcomeVal (D h o n) ∷ [])
+        → (Is R.the_row (D h o n) (outcome_val (D h o n) ∷ [])
         → Sq 𝓛
         (room (spot_of 𝓤 H E (slot o)).0 (spot_of 𝓤 H E (slot o)).1
-        ∷ cell T'.mir l₄ (hubVal (D h o n).hub) ∷ cell (ty_int w8) l₃ (vint w8 n)
+        ∷ cell T'.mir l₄ (hub_val (D h o n).hub) ∷ cell (ty_int w8) l₃ (vint w8 n)
         ∷ cell P'.mir l₆ (answer_val (D h o n).answer) ∷ Δ)
         (prop (Kit.post 𝓤 H q next)))
         → Sq 𝓛
         (room (spot_of 𝓤 H E (slot o)).0 (spot_of 𝓤 H E (slot o)).1
-        ∷ cell T'.mir l₄ (hubVal h) ∷ cell (ty_int w8) l₃ (vint w8 n) ∷ room P'.mir l₆ ∷ Δ)
+        ∷ cell T'.mir l₄ (hub_val h) ∷ cell (ty_int w8) l₃ (vint w8 n) ∷ room P'.mir l₆ ∷ Δ)
         (runs C Λ E (calls key o) q)
     armed o Δ q ok k =
         assigns ! (addr ! (from ! (stop !))) (from ! (stop !)) (init ! 0 refl ok) $ move ! (1 ∷ []) $
         use1 𝓛 (later (some (λ (α : ℕ). some (λ (γ : GName).
-        raw ((Shell 𝓛 (shell o)).pre (to-shell 𝓛 (shell o) l₄ h party partyVal α γ))
-        ⊛ ‵ (loan 𝓛 (shell o) l₄ h party partyVal α γ)))))
-        (lends 𝓛 (shell o) l₄ h party partyVal
+        raw ((Shell 𝓛 (shell o)).pre (to-shell 𝓛 (shell o) l₄ h party party_val α γ))
+        ⊛ ‵ (loan 𝓛 (shell o) l₄ h party party_val α γ)))))
+        (lends 𝓛 (shell o) l₄ h party party_val
         (λ κs. qed 𝓛 [] ∵ nothing ! $ owned ! u8 (Is u8) (uint_Makes 𝓛 w8) n _ (refl, fits) $ fjoin ! $ done !) is) $
         await ! tt $ pick ! (λ α. pick ! (λ γ. split ! $
         -- [what the shell asks; the loan; _j; the party; room for the answer; …]
-        calls_at_last ! fm (Shell 𝓛 (shell o)) (known o) (to-shell 𝓛 (shell o) l₄ h party partyVal α γ)
+        calls_at_last ! fm (Shell 𝓛 (shell o)) (known o) (to-shell 𝓛 (shell o) l₄ h party party_val α γ)
         (and_then ! (load ! (from ! (stop !)) (look ! 2 refl))
         (and_then ! (load ! (from ! (stop !)) (look ! 3 refl)) (no_more !))) (λ v.
         use2 𝓛 (later (given
-        (Is P.the_row (D h o n).answer (v ∷ []) × Is T.the_row (D h o n).hub (hubVal (D h o n).hub ∷ []))
-        (cell T'.mir l₄ (hubVal (D h o n).hub)))) (comes_back 𝓛 (shell o) l₄ h party partyVal α γ v) $
+        (Is P.the_row (D h o n).answer (v ∷ []) × Is T.the_row (D h o n).hub (hub_val (D h o n).hub ∷ []))
+        (cell T'.mir l₄ (hub_val (D h o n).hub)))) (comes_back 𝓛 (shell o) l₄ h party party_val α γ v) $
         await ! tt $ learn ! (λ e.
         regoal ! (λ (u : Val). settles E (place 6 []) u q) (outcome (D h o n) v e.0 e.1).0 refl $
         land_last ! (from ! (stop !)) (init ! 3 refl ((EL.lawful P.the_type P'.the_laws 𝓛 tt).typed
@@ -339,7 +339,7 @@ module _ {M : Type 1} {𝓤 : Ura M} (𝓛 : Logic 𝓤)
         forget ! 1 refl $ move ! (1 ∷ 0 ∷ []) $ k (outcome (D h o n) v e.0 e.1).1))))
 
     -- the tag is a numeral in each case, and what is left computes to the arm that runs
-    matched : (o : Op) → Is O.the_row o (opVal o ∷ []) → Sq 𝓛 (Before o) (runs C Λ E (match key) (Then o))
+    matched : (o : Op) → Is O.the_row o (op_val o ∷ []) → Sq 𝓛 (Before o) (runs C Λ E (match key) (Then o))
     matched Op.Acquire iso =
         switches_on ! (load ! (from ! (vrt ! refl (fld ! refl (stop !)))) (look_tag ! 20 (whole !))) $
         exec ! C Λ E (calls key Op.Acquire) (Then Op.Acquire) $ move ! (10 ∷ 16 ∷ 18 ∷ 12 ∷ []) $
@@ -369,10 +369,10 @@ module _ {M : Type 1} {𝓤 : Ura M} (𝓛 : Logic 𝓤)
   module _ (key : Op → Name) (C : Calls 𝓤 H) (Λ : Loops 𝓤 H) (fm : FmC 𝓤 H 𝓛.laws C)
       (known : (o : Op) → Triple 𝓤 (C (key o)) (Shell 𝓛 (shell o))) where
     walk :
-        (o : Op) → Is O.the_row o (opVal o ∷ [])
-        → Sq 𝓛 [] (prop (WpFn 𝓤 H C Λ (function key) (hubVal h ∷ opVal o ∷ vint w8 n ∷ []) (Post o)))
+        (o : Op) → Is O.the_row o (op_val o ∷ [])
+        → Sq 𝓛 [] (prop (WpFn 𝓤 H C Λ (function key) (hub_val h ∷ op_val o ∷ vint w8 n ∷ []) (Post o)))
     walk o iso =
-        enter ! C Λ (function key) (hubVal h ∷ opVal o ∷ vint w8 n ∷ []) _ $
+        enter ! C Λ (function key) (hub_val h ∷ op_val o ∷ vint w8 n ∷ []) _ $
         alloc1 ! (λ l₀. alloc1 ! (λ l₁. alloc1 ! (λ l₂. alloc1 ! (λ l₃. alloc1 ! (λ l₄. alloc1 ! (λ l₅.
         alloc1 ! (λ l₆. alloc1 ! (λ l₇. alloc1 ! (λ l₈. alloc1 ! (λ l₉. alloc1 ! (λ l₁₀. alloc1 ! (λ l₁₁.
         alloc1 ! (λ l₁₂. alloc0 ! $ params1 ! $

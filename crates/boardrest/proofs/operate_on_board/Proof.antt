@@ -109,17 +109,17 @@ use Rattle.shellwalk.proofs.Body.{OfTy}
 use Rattle.shellwalk.proofs.Locals.{unset}
 use Rattle.shellwalk.proofs.Lent.{comes_back, lends, loan, to-shell}
 use Rattle.shellwalk.proofs.OnBoard as on
-use Rattle.shellwalk.proofs.OnBoard.{AtEnd, clauses, meets, opVal, reaches}
-use Rattle.shellwalk.proofs.OverFields.{hubVal}
+use Rattle.shellwalk.proofs.OnBoard.{AtEnd, clauses, meets, op_val, reaches}
+use Rattle.shellwalk.proofs.OverFields.{hub_val}
 use Rattle.shellwalk.proofs.Shell.{Shell}
 use Rattle.shellwalk.proofs.Tagged.{answer_val}
 use Rattle.operations.specs.declared.Operated.{Operated}
-use Rattle.operations.specs.Operation.{toldOf}
+use Rattle.operations.specs.Operation.{told_of}
 use Rattle.operations.specs.contracts.Operated as R
 use Rattle.operations.proofs.Operated.TheLaws as R'
 use Rattle.operations.specs.contracts.Told as Q
 use Rattle.operations.proofs.Told.TheLaws as Q'
-use Rattle.boardrest.proofs.Shell.{kind, operatedVal, operating, passed, told_is, toldVal}
+use Rattle.boardrest.proofs.Shell.{kind, operated_val, operating, passed, told_is, told_val}
 use Rattle.boardrest.proofs.operate.Met.{met}
 use Rattle.boardrest.proofs.operate.Symbol as shell
 use Rattle.boardrest.specs.contracts.operate_on_board.Key.{name}
@@ -195,17 +195,17 @@ module _ {M : Type 1} {𝓤 : Ura M} (𝓛 : Logic 𝓤) (C : Calls 𝓤 𝓛.H)
 
 -- what comes back is the machine value of what is told, and of what the operation came to
 came :
-    (o : Operated) (v : Val) → Is Q.the_row (toldOf o) (v ∷ []) → Is T.the_row o.hub (hubVal o.hub ∷ [])
-    → (v ≡ toldVal (toldOf o)) × Is R.the_row o (operatedVal o ∷ [])
+    (o : Operated) (v : Val) → Is Q.the_row (told_of o) (v ∷ []) → Is T.the_row o.hub (hub_val o.hub ∷ [])
+    → (v ≡ told_val (told_of o)) × Is R.the_row o (operated_val o ∷ [])
 came o v p is =
-    let w = LL.owed Q.the_type Q'.the_laws (toldOf o) _ p in (
-      ap only (LL.tells Q.the_type Q'.the_laws (toldOf o) _ p),
+    let w = LL.owed Q.the_type Q'.the_laws (told_of o) _ p in (
+      ap only (LL.tells Q.the_type Q'.the_laws (told_of o) _ p),
       LL.owes R.the_type R'.the_laws o (w.0, (w.1.0, (w.1.1.0, (is, tt)))),
     )
 
 module _ {M : Type 1} {𝓤 : Ura M} (𝓛 : Logic 𝓤)
     (D : Hub → Op → ℕ → Operated) (h : Hub) (a : Op) (n : ℕ) (fits : n < 2 ^ 8)
-    (is : Is T.the_row h (hubVal h ∷ [])) (is-op : Is O.the_row a (opVal a ∷ [])) where
+    (is : Is T.the_row h (hub_val h ∷ [])) (is-op : Is O.the_row a (op_val a ∷ [])) where
   open 𝓛 use {H}
 
   abbrev Post : Val → SProp 𝓤
@@ -215,14 +215,14 @@ module _ {M : Type 1} {𝓤 : Ura M} (𝓛 : Logic 𝓤)
   abbrev call-of : Lfts 1 → Op × (ℕ × Unit {0})
   call-of κs = (a, (n, tt))
 
-  abbrev callVal : Lfts 1 → List Val × (List Val × Unit {0})
-  callVal κs = (opVal a ∷ [], (vint w8 n ∷ [], tt))
+  abbrev call_val : Lfts 1 → List Val × (List Val × Unit {0})
+  call_val κs = (op_val a ∷ [], (vint w8 n ∷ [], tt))
 
   module _ (key : Name) (C : Calls 𝓤 H) (Λ : Loops 𝓤 H) (fm : FmC 𝓤 H 𝓛.laws C)
       (known : Triple 𝓤 (C key) (Shell 𝓛 (kind D))) where
-    walk : Sq 𝓛 [] (prop (WpFn 𝓤 H C Λ (function key) (hubVal h ∷ opVal a ∷ vint w8 n ∷ []) Post))
+    walk : Sq 𝓛 [] (prop (WpFn 𝓤 H C Λ (function key) (hub_val h ∷ op_val a ∷ vint w8 n ∷ []) Post))
     walk =
-        enter ! C Λ (function key) (hubVal h ∷ opVal a ∷ vint w8 n ∷ []) _ $
+        enter ! C Λ (function key) (hub_val h ∷ op_val a ∷ vint w8 n ∷ []) _ $
         alloc1 ! (λ l₀. alloc1 ! (λ l₁. alloc1 ! (λ l₂. alloc1 ! (λ l₃. alloc1 ! (λ l₄. alloc1 ! (λ l₅.
         alloc1 ! (λ l₆. alloc1 ! (λ l₇. alloc0 ! $ params1 ! $
         pass1 ! (init ! 12 refl ((LL.lawful T.the_type T'.the_laws 𝓛).typed h _ is).0) $
@@ -232,30 +232,30 @@ module _ {M : Type 1} {𝓤 : Ura M} (𝓛 : Logic 𝓤)
         (init ! 6 refl ((LL.lawful T.the_type T'.the_laws 𝓛).typed h _ is).0) $
         assigns ! (addr ! (from ! (stop !))) (from ! (stop !)) (init ! 2 refl (tt, tt)) $ move ! (6 ∷ []) $
         use1 𝓛 (later (some (λ (α : ℕ). some (λ (γ : GName).
-        raw ((Shell 𝓛 (kind D)).pre (to-shell 𝓛 (kind D) l₄ h call-of callVal α γ))
-        ⊛ ‵ (loan 𝓛 (kind D) l₄ h call-of callVal α γ)))))
-        (lends 𝓛 (kind D) l₄ h call-of callVal (λ κs. passed 𝓛 a n is-op fits) is) $
+        raw ((Shell 𝓛 (kind D)).pre (to-shell 𝓛 (kind D) l₄ h call-of call_val α γ))
+        ⊛ ‵ (loan 𝓛 (kind D) l₄ h call-of call_val α γ)))))
+        (lends 𝓛 (kind D) l₄ h call-of call_val (λ κs. passed 𝓛 a n is-op fits) is) $
         await ! tt $ pick ! (λ α. pick ! (λ γ. split ! $
         -- [what the shell asks; the loan; _7; …; _6; …; _5; …]
-        calls_at ! fm (Shell 𝓛 (kind D)) known (to-shell 𝓛 (kind D) l₄ h call-of callVal α γ)
+        calls_at ! fm (Shell 𝓛 (kind D)) known (to-shell 𝓛 (kind D) l₄ h call-of call_val α γ)
         (and_then ! (load ! (from ! (stop !)) (look ! 4 refl))
         (and_then ! (load ! (from ! (stop !)) (look ! 11 refl))
         (and_then ! (load ! (from ! (stop !)) (look ! 9 refl)) (no_more !)))) (λ v.
         use2 𝓛 (later (given
-        (Is Q.the_row (toldOf (D h a n)) (v ∷ []) × Is T.the_row (D h a n).hub (hubVal (D h a n).hub ∷ []))
-        (cell 𝓛 C Λ l₀ l₁ l₂ l₃ l₄ l₅ l₆ l₇ T'.mir l₄ (hubVal (D h a n).hub))))
-        (comes_back 𝓛 (kind D) l₄ h call-of callVal α γ v) $ await ! tt $ learn ! (λ e.
+        (Is Q.the_row (told_of (D h a n)) (v ∷ []) × Is T.the_row (D h a n).hub (hub_val (D h a n).hub ∷ []))
+        (cell 𝓛 C Λ l₀ l₁ l₂ l₃ l₄ l₅ l₆ l₇ T'.mir l₄ (hub_val (D h a n).hub))))
+        (comes_back 𝓛 (kind D) l₄ h call-of call_val α γ v) $ await ! tt $ learn ! (λ e.
         regoal ! (λ (u : Val). lands C Λ (E 𝓛 C Λ l₀ l₁ l₂ l₃ l₄ l₅ l₆ l₇) (place 5 []) u rest
         (at_ret (E 𝓛 C Λ l₀ l₁ l₂ l₃ l₄ l₅ l₆ l₇) Post)) (came (D h a n) v e.0 e.1).0 refl $
         land ! (from ! (stop !)) (init ! 5 refl
-        ((LL.lawful Q.the_type Q'.the_laws 𝓛).typed (toldOf (D h a n)) _
+        ((LL.lawful Q.the_type Q'.the_laws 𝓛).typed (told_of (D h a n)) _
         (told_is (D h a n) _ (came (D h a n) v e.0 e.1).1)).0) $
         forget ! 3 refl $ forget ! 8 refl $ forget ! 10 refl $ forget ! 12 refl $
         leaves 𝓛 C Λ l₀ l₁ l₂ l₃ l₄ l₅ l₆ l₇ (answer_val (D h a n).answer) (vint w32 (D h a n).woken)
-        (vint w32 (D h a n).steps) (hubVal (D h a n).hub) Post
+        (vint w32 (D h a n).steps) (hub_val (D h a n).hub) Post
         ((LL.lawful T.the_type T'.the_laws 𝓛).typed (D h a n).hub _ e.1).0
         ((LL.lawful R.the_type R'.the_laws 𝓛).typed (D h a n) _ (came (D h a n) v e.0 e.1).1).0
-        (reaches 𝓛 R.the_row (λ z. z.answer) D h a n is is-op fits (operatedVal (D h a n))
+        (reaches 𝓛 R.the_row (λ z. z.answer) D h a n is is-op fits (operated_val (D h a n))
         (LL.makes R.the_type R'.the_plain 𝓛 (D h a n) _ (came (D h a n) v e.0 e.1).1))))))))))))))
 
 pub operate-on-board-spec : {M : Type 1} → statement M

@@ -6,27 +6,27 @@ use native.Mathlib.Numerals.{add-one}
 use native.Mathlib.Omega.{arith}
 use lib.ListN.{length, get_or, take, set, length-set}
 use lib.Seq.{take_all, take-suc, take-suc-set}
-use Rattle.encoding.specs.Hex.{charOf, hexOf, text_of}
+use Rattle.encoding.specs.Hex.{char_of, hex_of, text_of}
 
-hex-append : (l m : List ℕ) → hexOf (l ++ m) ≡ hexOf l ++ hexOf m
+hex-append : (l m : List ℕ) → hex_of (l ++ m) ≡ hex_of l ++ hex_of m
 hex-append [] m = refl
 hex-append (b ∷ l) m =
-    ap (λ (r : List ℕ). charOf (b / 16 % 16) ∷ charOf (b % 16) ∷ r) (hex-append l m)
+    ap (λ (r : List ℕ). char_of (b / 16 % 16) ∷ char_of (b % 16) ∷ r) (hex-append l m)
 
 -- The first i bytes are written.
 pub record Upto (bytes out : List ℕ) (i at : ℕ) : Type 0 where
   pub within : i ≤ length bytes
   pub twice : at ≡ 2 * i
   pub long : length out ≡ 2 * length bytes + 1
-  pub written : take at out ≡ hexOf (take i bytes)
+  pub written : take at out ≡ hex_of (take i bytes)
 
 module _ (bytes out : List ℕ) where
   pub start : length out ≡ 2 * length bytes + 1 → Upto bytes out 0 0
   start e = record { within = omega arith; twice = refl; long = e; written = refl }
 
 module _ (bytes out : List ℕ) (i at : ℕ) (u : Upto bytes out i at) where
-  pub onward : (a b : ℕ) → i < length bytes → a ≡ charOf (get_or bytes i 0 / 16 % 16)
-      → b ≡ charOf (get_or bytes i 0 % 16) → Upto bytes (set (set out at a) (at + 1) b) (i + 1) (at + 2)
+  pub onward : (a b : ℕ) → i < length bytes → a ≡ char_of (get_or bytes i 0 / 16 % 16)
+      → b ≡ char_of (get_or bytes i 0 % 16) → Upto bytes (set (set out at a) (at + 1) b) (i + 1) (at + 2)
   onward a b h e f =
       record {
         within = omega arith;
@@ -41,7 +41,7 @@ module _ (bytes out : List ℕ) (i at : ℕ) (u : Upto bytes out i at) where
       two : (n : ℕ) → n + 2 ≡ suc (n + 1)
       two n = omega arith
 
-      pair : take (suc (at + 1)) both ≡ hexOf (take i bytes) ++ (a ∷ b ∷ [])
+      pair : take (suc (at + 1)) both ≡ hex_of (take i bytes) ++ (a ∷ b ∷ [])
       pair =
           take-suc-set (set out at a) (at + 1) b
           (simp length-set (omega (arith, u.twice, u.long)))
@@ -50,15 +50,15 @@ module _ (bytes out : List ℕ) (i at : ℕ) (u : Upto bytes out i at) where
           ∙ append_assoc (take at out) (a ∷ []) (b ∷ [])
           ∙ ap (λ (l : List ℕ). l ++ (a ∷ b ∷ [])) u.written
 
-      more : hexOf (take (i + 1) bytes) ≡ hexOf (take i bytes) ++ (a ∷ b ∷ [])
+      more : hex_of (take (i + 1) bytes) ≡ hex_of (take i bytes) ++ (a ∷ b ∷ [])
       more =
-          ap (λ (n : ℕ). hexOf (take n bytes)) (add-one i)
-          ∙ ap hexOf (take-suc bytes i 0 h)
+          ap (λ (n : ℕ). hex_of (take n bytes)) (add-one i)
+          ∙ ap hex_of (take-suc bytes i 0 h)
           ∙ hex-append (take i bytes) (get_or bytes i 0 ∷ [])
-          ∙ (λ j. hexOf (take i bytes) ++ (sym e j ∷ sym f j ∷ []))
+          ∙ (λ j. hex_of (take i bytes) ++ (sym e j ∷ sym f j ∷ []))
 
   pub ended : length bytes ≤ i → set out at 0x0A ≡ text_of bytes
   ended h =
       sym (take_all (suc at) (set out at 0x0A) (simp length-set (omega (arith, u.twice, u.long, u.within))))
       ∙ take-suc-set out at 0x0A (omega (arith, u.twice, u.long, u.within))
-      ∙ ap (λ (l : List ℕ). l ++ (0x0A ∷ [])) (u.written ∙ ap hexOf (take_all i bytes h))
+      ∙ ap (λ (l : List ℕ). l ++ (0x0A ∷ [])) (u.written ∙ ap hex_of (take_all i bytes h))

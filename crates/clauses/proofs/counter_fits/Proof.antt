@@ -9,17 +9,17 @@ use lib.Signed.{lt_z, le_z}
 use mir.Facts.{to_z-of_z}
 use mir.Syntax.{w32}
 use mir.Val.{SFits}
-use Rattle.hub.specs.Fits.{counterFits}
+use Rattle.hub.specs.Fits.{counter_fits}
 use Rattle.clauses.proofs.counter_fits.Statement.{statement}
 use Rattle.clauses.proofs.counter_fits.Tie as tie
 
-low : (z : ℤ) → lt_z z (negsuc 31) ≡ true → false ≡ counterFits z
-unfolding counterFits
+low : (z : ℤ) → lt_z z (negsuc 31) ≡ true → false ≡ counter_fits z
+unfolding counter_fits
 low (pos n) e = absurd (true≢false (sym e))
 low (negsuc n) e = sym (le-ltb n 32 (omega (arith, ltb-true 31 n e)))
 
-high : (z : ℤ) → lt_z z (negsuc 31) ≡ false → le_z z (pos 32) ≡ counterFits z
-unfolding counterFits
+high : (z : ℤ) → lt_z z (negsuc 31) ≡ false → le_z z (pos 32) ≡ counter_fits z
+unfolding counter_fits
 high (pos n) e = refl
 high (negsuc n) e = sym (lt-ltb n 32 (omega (arith, ltb-false 31 n e)))
 

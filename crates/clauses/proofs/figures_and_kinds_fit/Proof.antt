@@ -3,7 +3,7 @@ use borrow.Author.Rules.{rules}
 use borrow.Author.Tests.{not-true, not-false}
 use mathlib.Core.Bool.{Bool, ◌&&◌}
 use mathlib.Core.Path.{sym, ap, ◌∙◌}
-use Rattle.hub.specs.Fits.{kindsFit}
+use Rattle.hub.specs.Fits.{kinds_fit}
 use Rattle.clauses.proofs.figures_and_kinds_fit.Statement.{statement}
 use Rattle.clauses.proofs.figures_and_kinds_fit.Tie as tie
 
@@ -12,7 +12,7 @@ figures-fit-requires c κs = search rules
 
 returns : tie.Need-returns
 returns c =
-    sym (ap (λ (b : Bool). b && kindsFit c.before.before.args.opening)
+    sym (ap (λ (b : Bool). b && kinds_fit c.before.before.args.opening)
     (sym c.before.figures-fit.ensures ∙ not-true _ c.if1.true))
 
 kinds-fit-requires : tie.Need-kinds-fit-requires
@@ -22,7 +22,7 @@ returns-2 : tie.Need-returns-2
 returns-2 c =
     let b = c.before in
     c.kinds-fit.ensures
-    ∙ sym (ap (λ (x : Bool). x && kindsFit b.before.before.args.opening)
+    ∙ sym (ap (λ (x : Bool). x && kinds_fit b.before.before.args.opening)
     (sym b.before.figures-fit.ensures ∙ not-false _ b.if1.false))
 
 pub figures-and-kinds-fit-spec : {M : Type 1} → statement M

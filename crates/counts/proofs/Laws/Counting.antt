@@ -9,8 +9,8 @@ use lib.ListN.{length, get_or, drop, drop_of_length-le}
 use lib.Seq.{drop-cons}
 use Rattle.hub.specs.declared.record.PartySlot.{PartySlot}
 use Rattle.hub.specs.Basics.{bit, count, weight}
-use Rattle.hub.specs.Phases.{drawsTicket}
-use Rattle.hub.specs.Record.{phasesOf}
+use Rattle.hub.specs.Phases.{draws_ticket}
+use Rattle.hub.specs.Record.{phases_of}
 use Rattle.hub.proofs.Laws.Lists.{weight-length, weight-map}
 
 pub bit-most : (b : Bool) → bit b ≤ 1
@@ -53,11 +53,11 @@ module _ {A : Type 0} (f : A → Bool) (l : List A) (N p n : ℕ) (c : Counting 
       )
 
 -- No more parties may draw a ticket than there are slots.
-pub draws-few : (l : List PartySlot) → count drawsTicket (phasesOf l) ≤ length l
+pub draws-few : (l : List PartySlot) → count draws_ticket (phases_of l) ≤ length l
 draws-few l =
     omega (
       arith,
-      weight-map (λ x. bit (drawsTicket x)) (λ (s : PartySlot). s.phase) l,
-      weight-length (λ (s : PartySlot). bit (drawsTicket s.phase))
-          (λ s. bit-most (drawsTicket s.phase)) l,
+      weight-map (λ x. bit (draws_ticket x)) (λ (s : PartySlot). s.phase) l,
+      weight-length (λ (s : PartySlot). bit (draws_ticket s.phase))
+          (λ s. bit-most (draws_ticket s.phase)) l,
     )

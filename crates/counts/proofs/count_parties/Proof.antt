@@ -7,7 +7,7 @@ use Prim.Native.Nat.{ℕ, ◌-◌}
 use Rattle.hub.specs.declared.record.PartySlot.{PartySlot}
 use Rattle.hub.specs.declared.record.Phase.{Phase}
 use Rattle.hub.specs.Basics.{bit}
-use Rattle.hub.specs.Record.{freeSlot}
+use Rattle.hub.specs.Record.{free_slot}
 use Rattle.hub.proofs.Laws.Lists.{weight-map}
 use Rattle.counts.specs.Tallies.{tally_of}
 use Rattle.counts.proofs.Laws.Counting.{Counting, bit-most, counting-on, counting-all}
@@ -58,7 +58,7 @@ loop-again : tie.Need-loop-preserved invariant-loop decreases-loop
 loop-again c =
     let l = c.before.before.before.before in
     let tally = l.before.args.tally in
-    counting-on _ _ _ _ _ l.loop.invariant freeSlot _ c.before.before.before.loop-test.true
+    counting-on _ _ _ _ _ l.loop.invariant free_slot _ c.before.before.before.loop-test.true
     (c.one-if.ensures ∙ ap (λ (x : ℕ). bit (eqb x tally)) c.before.tally-of.ensures)
 
 returns : tie.Need-returns invariant-loop decreases-loop

@@ -7,8 +7,8 @@ use Prim.Native.Nat.{ℕ, ◌-◌}
 use Rattle.hub.specs.declared.record.PlaceSlot.{PlaceSlot}
 use Rattle.hub.specs.declared.record.Place.{Place}
 use Rattle.hub.specs.Basics.{bit, weight}
-use Rattle.hub.specs.Phases.{placeRank}
-use Rattle.hub.specs.Record.{emptySeat, places_of}
+use Rattle.hub.specs.Phases.{place_rank}
+use Rattle.hub.specs.Record.{empty_seat, places_of}
 use Rattle.hub.proofs.Laws.Lists.{weight-map}
 use Rattle.counts.proofs.Laws.Counting.{Counting, bit-most, counting-on, counting-all}
 use Rattle.counts.proofs.count_places.Statement.{statement}
@@ -16,7 +16,7 @@ use Rattle.counts.proofs.count_places.Tie as tie
 
 abbrev invariant-loop : tie.invariant-loop
 invariant-loop places state n₀ i₀ n i =
-    Counting (λ (s : PlaceSlot). eqb (placeRank s.place) state) places 256 i n
+    Counting (λ (s : PlaceSlot). eqb (place_rank s.place) state) places 256 i n
 
 abbrev decreases-loop : tie.decreases-loop
 decreases-loop places state n₀ i₀ n i = 256 - i
@@ -62,7 +62,7 @@ loop-again : tie.Need-loop-preserved invariant-loop decreases-loop
 loop-again c =
     let l = c.before.before.before.before in
     let s = l.before.place-rank.result in
-    counting-on _ _ _ _ _ l.loop.invariant emptySeat _ c.before.before.before.loop-test.true
+    counting-on _ _ _ _ _ l.loop.invariant empty_seat _ c.before.before.before.loop-test.true
     (c.one-if.ensures ∙ ap (λ (x : ℕ). bit (eqb x s)) c.before.place-rank2.ensures)
 
 returns : tie.Need-returns invariant-loop decreases-loop
@@ -70,7 +70,7 @@ returns c =
     let i = c.before.loop.invariant in
     let b = c.before.before in
     let a = b.before.args in
-    let passing : ℕ → Place → ℕ = λ x f. bit (eqb (placeRank f) x) in (
+    let passing : ℕ → Place → ℕ = λ x f. bit (eqb (place_rank f) x) in (
       counting-all _ _ _ _ _ i c.loop-test.false
           ∙ sym (weight-map (passing b.place-rank.result) (λ (s : PlaceSlot). s.place) a.t1)
           ∙ ap (λ (x : ℕ). weight (passing x) (places_of a.t1)) b.place-rank.ensures,

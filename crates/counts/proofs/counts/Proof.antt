@@ -5,7 +5,7 @@ use native.Mathlib.Omega.{arith}
 use mir.Facts.{to_z-of_z}
 use mir.Syntax.{w32}
 use mir.Val.{SFits}
-use Rattle.hub.specs.Ledger.{atCounter}
+use Rattle.hub.specs.Ledger.{at_counter}
 use Rattle.counts.proofs.Laws.Shown.{shown}
 use Rattle.counts.proofs.counts.Statement.{statement}
 use Rattle.counts.proofs.counts.Tie as tie
@@ -52,7 +52,7 @@ returns c =
           c.before.before.before.before.before.before.count-parties2.ensures.0
           c.before.before.before.before.before.count-places2.ensures.0
           c.before.before.before.before.count-parties3.ensures.0
-          (c.before.at-counter.ensures ∙ ap atCounter (to_z-of_z f))
+          (c.before.at-counter.ensures ∙ ap at_counter (to_z-of_z f))
           c.before.before.before.count-parties4.ensures.0 refl,
       omega (arith, c.before.before.before.before.count-parties3.ensures.1),
     )
@@ -68,7 +68,7 @@ returns-2 c =
           c.before.before.before.before.before.before.count-parties2.ensures.0
           c.before.before.before.before.before.count-places2.ensures.0
           c.before.before.before.before.count-parties3.ensures.0
-          (c.before.at-counter.ensures ∙ ap atCounter (to_z-of_z f))
+          (c.before.at-counter.ensures ∙ ap at_counter (to_z-of_z f))
           c.before.before.before.count-parties4.ensures.0 (omega (arith, c.if1.false)),
       omega (arith, c.before.before.before.before.count-parties3.ensures.1),
     )

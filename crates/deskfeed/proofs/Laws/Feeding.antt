@@ -9,48 +9,48 @@ use borrow.Author.Tests.{eq-eqb, ne_eqb}
 use lib.ListN.{length, get_or, drop, drop_of_length-le, length-replicate, length-set, set}
 use lib.Seq.{drop-cons}
 use Rattle.hub.specs.declared.opening.Opening.{Opening}
-use Rattle.hub.specs.Opening.{allPassed, nobody, tests}
+use Rattle.hub.specs.Opening.{all_passed, nobody, tests}
 use Rattle.reader.specs.declared.Reader.{Reader}
-use Rattle.reader.specs.Reading.{KEPT, asked, emptied, lineIn, next, past}
+use Rattle.reader.specs.Reading.{KEPT, asked, emptied, line_in, next, past}
 use Rattle.reader.proofs.Laws.Pieces.{asked-end, asked-within, ended, full, kept, past_one}
-use Rattle.line.specs.Requests.{Request, requestOf}
+use Rattle.line.specs.Requests.{Request, request_of}
 use Rattle.screen.specs.declared.record.Line.{Line}
 use Rattle.screen.specs.declared.record.Operation.{Operation}
-use Rattle.screen.specs.Fits.{lineFits}
-use Rattle.screen.specs.Line.{openedLine}
-use Rattle.screen.specs.Moves.{lineMove, lineOpening, noLine}
+use Rattle.screen.specs.Fits.{line_fits}
+use Rattle.screen.specs.Line.{opened_line}
+use Rattle.screen.specs.Moves.{line_move, line_opening, no_line}
 use Rattle.screen.proofs.Laws.Answers.{unfit}
 use Rattle.screen.proofs.Laws.Fit.{fit}
 use Rattle.screen.proofs.Reached.Moved.{move-sound}
 use Rattle.deskreply.specs.declared.DeskReply.{DeskReply}
 use Rattle.deskfeed.specs.declared.session.Fed.{Fed}
 use Rattle.deskfeed.specs.declared.session.Session.{Session}
-use Rattle.deskreply.specs.Replies.{Asked, anOpening, anOperation, askedBy, isOpenLine, nothing, openingReply}
-use Rattle.deskreply.specs.Replies.{operationReply, replyTo}
+use Rattle.deskreply.specs.Replies.{Asked, an_opening, an_operation, asked_by, is_open_line, nothing, opening_reply}
+use Rattle.deskreply.specs.Replies.{operation_reply, reply_to}
 use Rattle.deskfeed.specs.Session.{Printable, Sound, fed, left, said, told}
-use Rattle.deskline.specs.Text.{LONGEST-TEXT, lineText, put_at}
+use Rattle.deskline.specs.Text.{LONGEST_TEXT, line_text, put_at}
 use Rattle.deskline.proofs.Laws.PutAt.{Written, from_start, next as then, none, put-at-length}
 
 -- Every answer leaves a line that can be printed.
-pub opened-printable : (o : Opening) → Printable (openedLine o)
-unfolding openedLine
+pub opened-printable : (o : Opening) → Printable (opened_line o)
+unfolding opened_line
 opened-printable o =
     record { holding = length-replicate 32 false; queue = length-replicate {A = ℕ} 32 0; few = omega arith }
 
-move-printable : (l : Line) (o : Operation) (p : ℕ) → Printable l → Printable (lineMove l o p).line
-move-printable l o p r = go (lineFits l) refl
+move-printable : (l : Line) (o : Operation) (p : ℕ) → Printable l → Printable (line_move l o p).line
+move-printable l o p r = go (line_fits l) refl
   where
-    go : (b : Bool) → lineFits l ≡ b → Printable (lineMove l o p).line
+    go : (b : Bool) → line_fits l ≡ b → Printable (line_move l o p).line
     go false e = subst (λ m. Printable m.line) (sym (unfit l p o e)) r
     go true e =
         let s = move-sound l o p (record { fit = fit l e; holding = r.holding; queue = r.queue }) in
         record { holding = s.holding; queue = s.queue; few = s.fit.short }
 
-opening-printable : (o : Opening) → Printable (lineOpening o).line
-unfolding lineOpening
-opening-printable o = go (allPassed (tests o))
+opening-printable : (o : Opening) → Printable (line_opening o).line
+unfolding line_opening
+opening-printable o = go (all_passed (tests o))
   where
-    go : (b : Bool) → Printable (cond b (openedLine o) noLine)
+    go : (b : Bool) → Printable (cond b (opened_line o) no_line)
     go true = opened-printable o
     go false = opened-printable nobody
 
@@ -58,13 +58,13 @@ either : (b : Bool) (r t : DeskReply) → Printable r.line → Printable t.line 
 either true r t p q = p
 either false r t p q = q
 
-pub printable : (l : Line) (a : Asked) → Printable l → Printable (replyTo l a).line
-unfolding replyTo openingReply operationReply
+pub printable : (l : Line) (a : Asked) → Printable l → Printable (reply_to l a).line
+unfolding reply_to opening_reply operation_reply
 printable l nothing r = r
-printable l (anOpening o) r = either (isOpenLine l) _ _ r (opening-printable o)
-printable l (anOperation o p) r = either (isOpenLine l) _ _ (move-printable l o p r) r
+printable l (an_opening o) r = either (is_open_line l) _ _ r (opening-printable o)
+printable l (an_operation o p) r = either (is_open_line l) _ _ (move-printable l o p r) r
 
-pub reply-printable : (l : Line) (a : Asked) (r : DeskReply) → Printable l → r ≡ replyTo l a → Printable r.line
+pub reply-printable : (l : Line) (a : Asked) (r : DeskReply) → Printable l → r ≡ reply_to l a → Printable r.line
 reply-printable l a r p e = subst (λ (x : DeskReply). Printable x.line) (sym e) (printable l a p)
 
 -- After i characters, from the line l₀, the reader r₀ and the buffer out₀; n lines have ended.
@@ -76,9 +76,9 @@ pub record Upto (l₀ : Line) (r₀ : Reader) (piece out₀ : List ℕ) (l : Lin
   pub printable : Printable l
   pub short : r.len ≤ KEPT
   pub size : length r.line ≡ KEPT
-  pub room : LONGEST-TEXT * length (asked r₀ piece) ≤ length out₀
+  pub room : LONGEST_TEXT * length (asked r₀ piece) ≤ length out₀
   pub long : length out ≡ length out₀
-  pub small : at ≤ LONGEST-TEXT * lines
+  pub small : at ≤ LONGEST_TEXT * lines
   pub reader : past r (drop i piece) ≡ past r₀ piece
   pub line : left l (asked r (drop i piece)) ≡ left l₀ (asked r₀ piece)
   pub count : lines + length (asked r (drop i piece)) ≡ length (asked r₀ piece)
@@ -86,7 +86,7 @@ pub record Upto (l₀ : Line) (r₀ : Reader) (piece out₀ : List ℕ) (l : Lin
   pub sum : text ++ said l (asked r (drop i piece)) ≡ said l₀ (asked r₀ piece)
 
 pub start : (s : Session) (piece out : List ℕ) → Sound s
-    → LONGEST-TEXT * length (asked s.reader piece) ≤ length out
+    → LONGEST_TEXT * length (asked s.reader piece) ≤ length out
     → Upto s.line s.reader piece out s.line s.reader out 0 0
 start s piece out o h =
     record {
@@ -148,22 +148,22 @@ module _ {l₀ : Line} {r₀ : Reader} {piece out₀ : List ℕ} {l : Line} {r :
   char-lost h f m = onward h f r u.short u.size (full r _ f m)
 
   asked_here : i < length piece → get_or piece i 0 ≡ 0x0A
-      → asked r (drop i piece) ≡ requestOf (lineIn r) ∷ asked (emptied r) (drop (i + 1) piece)
+      → asked r (drop i piece) ≡ request_of (line_in r) ∷ asked (emptied r) (drop (i + 1) piece)
   asked_here h f =
       let c = get_or piece i 0 in
       let cs = drop (i + 1) piece in
       ap (asked r) (here h) ∙ asked-end r c cs (eq-eqb c 0x0A f)
-      ∙ ap (λ (p : Reader). requestOf (lineIn r) ∷ asked p cs) (ended r c f)
+      ∙ ap (λ (p : Reader). request_of (line_in r) ∷ asked p cs) (ended r c f)
 
   -- There is room for one line more.
-  pub line-room : i < length piece → get_or piece i 0 ≡ 0x0A → at + LONGEST-TEXT ≤ length out
+  pub line-room : i < length piece → get_or piece i 0 ≡ 0x0A → at + LONGEST_TEXT ≤ length out
   line-room h f =
       omega (arith, u.room, u.long, u.small, u.count, ap length (asked_here h f))
 
   -- The end of a line: it is answered, and the answer is printed.
   pub line-end : i < length piece → get_or piece i 0 ≡ 0x0A → (a : DeskReply)
-      → a ≡ replyTo l (askedBy (requestOf (lineIn r))) → (end : ℕ) (v : List ℕ) → end ≡ at + length (lineText a)
-      → v ≡ put_at at (lineText a) out → end ≤ at + LONGEST-TEXT
+      → a ≡ reply_to l (asked_by (request_of (line_in r))) → (end : ℕ) (v : List ℕ) → end ≡ at + length (line_text a)
+      → v ≡ put_at at (line_text a) out → end ≤ at + LONGEST_TEXT
       → Upto l₀ r₀ piece out₀ a.line (emptied r) v end (i + 1)
   unfolding said left
   line-end h f a e end v x y z =
@@ -174,23 +174,23 @@ module _ {l₀ : Line} {r₀ : Reader} {piece out₀ : List ℕ} {l : Line} {r :
       let k = line-room h f in
       record {
         lines = u.lines + 1;
-        text = u.text ++ lineText a;
+        text = u.text ++ line_text a;
         within = omega arith;
         printable = reply-printable l _ a u.printable e;
         short = omega arith;
         size = u.size;
         room = u.room;
-        long = ap length y ∙ put-at-length out (lineText a) at (omega (arith, x)) ∙ u.long;
+        long = ap length y ∙ put-at-length out (line_text a) at (omega (arith, x)) ∙ u.long;
         small = omega (arith, u.small);
         reader =
             sym (ap (past r) (here h) ∙ past_one r c cs ∙ ap (λ (p : Reader). past p cs) (ended r c f))
             ∙ u.reader;
         line = ap (λ (p : DeskReply). left p.line rs) e ∙ ap (left l) (sym b) ∙ u.line;
         count = omega (arith, u.count, ap length b);
-        done = then u.done (lineText a) x y (omega (arith, x, u.long));
+        done = then u.done (line_text a) x y (omega (arith, x, u.long));
         sum =
-            append_assoc u.text (lineText a) (said a.line rs)
-            ∙ ap (λ (p : DeskReply). u.text ++ (lineText p ++ said p.line rs)) e
+            append_assoc u.text (line_text a) (said a.line rs)
+            ∙ ap (λ (p : DeskReply). u.text ++ (line_text p ++ said p.line rs)) e
             ∙ ap (λ (q : List Request). u.text ++ said l q) (sym b)
             ∙ u.sum;
       }

@@ -5,21 +5,21 @@ use mathlib.Core.List.{List, [], ◌∷◌, ◌++◌, append_assoc}
 use native.Mathlib.Omega.{arith}
 use borrow.Author.Tests.{eq-eqb, ne_eqb}
 use lib.ListN.{drop, length, length-replicate}
-use Rattle.reader.specs.Reading.{KEPT, asked, lineIn, past}
+use Rattle.reader.specs.Reading.{KEPT, asked, line_in, past}
 use Rattle.frame.specs.Session.{joined, rest}
 use Rattle.frame.proofs.Laws.Lines.{lines-read}
 use Rattle.reader.proofs.Laws.Pieces.{past-kept}
 use Rattle.beforeopen.proofs.Laws.Appended.{asked-append, past-append}
 use Rattle.hub.specs.Opening.{nobody}
-use Rattle.line.specs.Requests.{Request, requestOf}
+use Rattle.line.specs.Requests.{Request, request_of}
 use Rattle.screen.specs.declared.record.Line.{Line}
-use Rattle.screen.specs.Moves.{noLine}
+use Rattle.screen.specs.Moves.{no_line}
 use Rattle.deskfeed.specs.declared.session.Fed.{Fed}
 use Rattle.deskfeed.specs.declared.session.Session.{Session}
-use Rattle.deskreply.specs.Replies.{askedBy, replyTo}
-use Rattle.deskfeed.specs.Session.{InPieces, Printable, Sound, at_start, fed, finished, left, outputOf, said}
-use Rattle.deskfeed.specs.Session.{told, toldAll}
-use Rattle.deskline.specs.Text.{LONGEST-TEXT, lineText}
+use Rattle.deskreply.specs.Replies.{asked_by, reply_to}
+use Rattle.deskfeed.specs.Session.{InPieces, Printable, Sound, at_start, fed, finished, left, output_of, said}
+use Rattle.deskfeed.specs.Session.{told, told_all}
+use Rattle.deskline.specs.Text.{LONGEST_TEXT, line_text}
 use Rattle.deskfeed.proofs.Laws.Feeding.{opened-printable, printable}
 
 pub start-sound : Sound at_start
@@ -33,7 +33,7 @@ start-sound =
 left-printable : (l : Line) (qs : List Request) → Printable l → Printable (left l qs)
 unfolding left
 left-printable l [] p = p
-left-printable l (q ∷ qs) p = left-printable _ qs (printable l (askedBy q) p)
+left-printable l (q ∷ qs) p = left-printable _ qs (printable l (asked_by q) p)
 
 pub fed-sound : (s : Session) (piece : List ℕ) → Sound s → Sound (fed s piece)
 unfolding fed
@@ -46,9 +46,9 @@ said-append : (qs rs : List Request) (l : Line) → said l (qs ++ rs) ≡ said l
 unfolding said left
 said-append [] rs l = refl
 said-append (q ∷ qs) rs l =
-    let r = replyTo l (askedBy q) in
-    ap (λ (x : List ℕ). lineText r ++ x) (said-append qs rs r.line)
-    ∙ sym (append_assoc (lineText r) (said r.line qs) (said (left r.line qs) rs))
+    let r = reply_to l (asked_by q) in
+    ap (λ (x : List ℕ). line_text r ++ x) (said-append qs rs r.line)
+    ∙ sym (append_assoc (line_text r) (said r.line qs) (said (left r.line qs) rs))
 
 left-append : (qs rs : List Request) (l : Line) → left l (qs ++ rs) ≡ left (left l qs) rs
 unfolding left
@@ -73,20 +73,20 @@ fed-append s a b =
     })
 
 from-session : (ps : List (List ℕ)) (s : Session)
-    → toldAll s ps ≡ told s (joined ps) ++ finished (fed s (joined ps))
-unfolding toldAll joined told fed said left asked past
+    → told_all s ps ≡ told s (joined ps) ++ finished (fed s (joined ps))
+unfolding told_all joined told fed said left asked past
 from-session [] s = refl
 from-session (p ∷ ps) s =
     ap (λ (x : List ℕ). told s p ++ x) (from-session ps (fed s p))
     ∙ sym (append_assoc (told s p) (told (fed s p) (joined ps)) (finished (fed (fed s p) (joined ps))))
     ∙ (λ i. sym (told-append s p (joined ps)) i ++ finished (sym (fed-append s p (joined ps)) i))
 
-in_one : (input : List ℕ) → told at_start input ++ finished (fed at_start input) ≡ outputOf input
-unfolding told fed finished outputOf
+in_one : (input : List ℕ) → told at_start input ++ finished (fed at_start input) ≡ output_of input
+unfolding told fed finished output_of
 in_one input =
     let r = at_start.reader in
-    sym (said-append (asked r input) (rest (past r input)) noLine)
-    ∙ ap (said noLine)
+    sym (said-append (asked r input) (rest (past r input)) no_line)
+    ∙ ap (said no_line)
     (lines-read input r []
     (record { size = length-replicate {A = ℕ} KEPT 0; short = omega arith; same = refl }))
 
@@ -100,12 +100,12 @@ module _ (s : Session) where
   unfolding finished said
   no-rest e = rw (eq-eqb s.reader.len 0 e)
 
-  one-asked : asked s.reader (0x0A ∷ []) ≡ requestOf (lineIn s.reader) ∷ []
+  one-asked : asked s.reader (0x0A ∷ []) ≡ request_of (line_in s.reader) ∷ []
   unfolding asked
   one-asked = refl
 
-  pub last-room : (out : List ℕ) → LONGEST-TEXT ≤ length out
-      → LONGEST-TEXT * length (asked s.reader (0x0A ∷ [])) ≤ length out
+  pub last-room : (out : List ℕ) → LONGEST_TEXT ≤ length out
+      → LONGEST_TEXT * length (asked s.reader (0x0A ∷ [])) ≤ length out
   last-room out h = omega (arith, ap length one-asked)
 
   pub last-told : (s.reader.len ≡ 0 → ⊥) → told s (0x0A ∷ []) ≡ finished s

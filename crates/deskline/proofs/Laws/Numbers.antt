@@ -9,20 +9,20 @@ use borrow.Author.Tests.{le-ltb, lt-ltb}
 use lib.Dec.{eqb, ltb}
 use lib.ListN.{length, get_or, take, drop, drop_of_length-le, length-append}
 use lib.Seq.{drop-cons, get_or-take, length-take-le}
-use Rattle.screen.specs.Line.{holdersFrom}
-use Rattle.deskline.specs.Text.{HELD, SPACE, WAITING, decimal, decimalChar, numbers, put_at, stepsText}
+use Rattle.screen.specs.Line.{holders_from}
+use Rattle.deskline.specs.Text.{HELD, SPACE, WAITING, decimal, decimal_char, numbers, put_at, steps_text}
 use Rattle.deskline.proofs.Laws.PutAt.{Written, gives, next, none, put-at-length, text-is}
 
-pub one-digit : (n : ℕ) → n < 10 → decimal n ≡ decimalChar n ∷ []
+pub one-digit : (n : ℕ) → n < 10 → decimal n ≡ decimal_char n ∷ []
 unfolding decimal
 one-digit n h = rw (lt-ltb n 10 h)
 
-pub two_digits : (n : ℕ) → 10 ≤ n → n < 100 → decimal n ≡ decimalChar (n / 10) ∷ decimalChar n ∷ []
+pub two_digits_lem : (n : ℕ) → 10 ≤ n → n < 100 → decimal n ≡ decimal_char (n / 10) ∷ decimal_char n ∷ []
 unfolding decimal
-two_digits n h k = rw (le-ltb n 10 h, lt-ltb n 100 k)
+two_digits_lem n h k = rw (le-ltb n 10 h, lt-ltb n 100 k)
 
 pub three-digits : (n : ℕ) → 10 ≤ n → 100 ≤ n
-    → decimal n ≡ decimalChar (n / 100) ∷ decimalChar (n / 10) ∷ decimalChar n ∷ []
+    → decimal n ≡ decimal_char (n / 100) ∷ decimal_char (n / 10) ∷ decimal_char n ∷ []
 unfolding decimal
 three-digits n h k = rw (le-ltb n 10 h, le-ltb n 100 k)
 
@@ -31,9 +31,9 @@ unfolding decimal
 decimal-short n = go (ltb n 10) (ltb n 100)
   where
     go : (a b : Bool)
-        → length (cond a (decimalChar n ∷ [])
-        (cond b (decimalChar (n / 10) ∷ decimalChar n ∷ [])
-        (decimalChar (n / 100) ∷ decimalChar (n / 10) ∷ decimalChar n ∷ [])))
+        → length (cond a (decimal_char n ∷ [])
+        (cond b (decimal_char (n / 10) ∷ decimal_char n ∷ [])
+        (decimal_char (n / 100) ∷ decimal_char (n / 10) ∷ decimal_char n ∷ [])))
         ≤ 3
     go true b = omega arith
     go false true = omega arith
@@ -129,10 +129,10 @@ module _ {at : ℕ} {out₀ all rest : List ℕ} {i end : ℕ} {out : List ℕ} 
       ∙ ap (λ (r : List ℕ). l.text ++ numbers r) (sym e) ∙ l.sum)
       l.done)
 
-pub none_left : (hs : List Bool) (p : ℕ) → length hs ≡ 32 → 32 ≤ p → holdersFrom p (drop p hs) ≡ []
-unfolding holdersFrom
+pub none_left : (hs : List Bool) (p : ℕ) → length hs ≡ 32 → 32 ≤ p → holders_from p (drop p hs) ≡ []
+unfolding holders_from
 none_left hs p s h =
-    ap (holdersFrom p) (drop_of_length-le hs {i = p} (omega arith))
+    ap (holders_from p) (drop_of_length-le hs {i = p} (omega arith))
 
 -- Of the m that wait in a queue q, the next, and the end.
 module _ (q : List ℕ) (m i : ℕ) (size : length q ≡ 32) (short : m ≤ 32) where
@@ -146,8 +146,8 @@ module _ (q : List ℕ) (m i : ℕ) (size : length q ≡ 32) (short : m ≤ 32) 
   no_more h = drop_of_length-le (take m q) {i = i} (omega (arith, all))
 
 -- How long the steps can be.
-pub steps-short : (code steps : ℕ) → length (stepsText code steps) ≤ 3
-unfolding stepsText
+pub steps-short : (code steps : ℕ) → length (steps_text code steps) ≤ 3
+unfolding steps_text
 steps-short code steps = go (eqb code 0x20)
   where
     go : (b : Bool) → length (cond b (decimal steps) (0x2D ∷ [])) ≤ 3

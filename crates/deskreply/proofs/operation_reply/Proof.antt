@@ -2,7 +2,7 @@
 use borrow.Author.Rules.{rules}
 use borrow.Author.Tests.{not-false, not-true}
 use mathlib.Core.Path.{sym, ◌∙◌}
-use Rattle.deskreply.proofs.Laws.Replies.{does, not_yet}
+use Rattle.deskreply.proofs.Laws.Replies.{does, not_yet_lem}
 use Rattle.deskreply.proofs.operation_reply.Statement.{statement}
 use Rattle.deskreply.proofs.operation_reply.Tie as tie
 
@@ -13,7 +13,7 @@ code-reply-requires : tie.Need-code-reply-requires
 code-reply-requires c κs = search rules
 
 returns : tie.Need-returns
-returns c = c.code-reply.ensures ∙ sym (not_yet _ _ _ (sym c.before.before.is-open-line.ensures ∙ not-true _
+returns c = c.code-reply.ensures ∙ sym (not_yet_lem _ _ _ (sym c.before.before.is-open-line.ensures ∙ not-true _
     c.before.if1.true))
 
 steps-to-rest-requires : tie.Need-steps-to-rest-requires

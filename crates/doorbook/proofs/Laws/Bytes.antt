@@ -7,19 +7,19 @@ use native.Mathlib.Omega.{arith}
 use lib.ListN.{length, get_or, set, take, drop, length-append, length-take, length-drop}
 use lib.Seq.{sets-eq}
 use Rattle.doorbook.specs.declared.Answer.{Answer}
-use Rattle.doorbook.specs.Book.{answerTo, isAccepted}
-use Rattle.doorbook.specs.Bytes.{locksOf, fittedAt, bytesAfter}
-use Rattle.doorbook.specs.Frame.{number, number_at, doorOf, newLock}
+use Rattle.doorbook.specs.Book.{answer_to, is_accepted}
+use Rattle.doorbook.specs.Bytes.{locks_of, fitted_at, bytes_after}
+use Rattle.doorbook.specs.Frame.{number, number_at, door_of, new_lock}
 
-pub length-locks : (l : List ℕ) → length (locksOf l) ≡ length l / 4
-unfolding locksOf
+pub length-locks : (l : List ℕ) → length (locks_of l) ≡ length l / 4
+unfolding locks_of
 length-locks [] = refl
 length-locks (a ∷ []) = refl
 length-locks (a ∷ b ∷ []) = refl
 length-locks (a ∷ b ∷ c ∷ []) = refl
 length-locks (a ∷ b ∷ c ∷ d ∷ l) = let e = length-locks l in omega arith
 
-pub locks-200 : (l : List ℕ) → length l ≡ 800 → length (locksOf l) ≡ 200
+pub locks-200 : (l : List ℕ) → length l ≡ 800 → length (locks_of l) ≡ 200
 locks-200 l e = omega (arith, length-locks l)
 
 four-on : (n : ℕ) → 4 * suc n ≡ suc (suc (suc (suc (4 * n))))
@@ -35,8 +35,8 @@ past a b c d l i k e =
     ap (λ (k : ℕ). get_or (a ∷ b ∷ c ∷ d ∷ l) k 0) f
 
 pub lock-there : (i : ℕ) (l : List ℕ) → 4 * i + 4 ≤ length l
-    → get_or (locksOf l) i 0 ≡ number_at l (4 * i)
-unfolding locksOf
+    → get_or (locks_of l) i 0 ≡ number_at l (4 * i)
+unfolding locks_of
 lock-there i [] h = absurd (omega arith)
 lock-there i (a ∷ []) h = absurd (omega arith)
 lock-there i (a ∷ b ∷ []) h = absurd (omega arith)
@@ -52,7 +52,7 @@ lock-there (suc i) (a ∷ b ∷ c ∷ d ∷ l) h =
     )
 
 pub length-fitted : (at : ℕ) (l f : List ℕ) → at + 4 ≤ length l
-    → length (fittedAt at l f) ≡ length l
+    → length (fitted_at at l f) ≡ length l
 length-fitted at l f h = simp (length-append, length-take, length-drop) (omega arith)
 
 abbrev spliced : ℕ → ℕ → List ℕ → List ℕ → List ℕ
@@ -61,15 +61,15 @@ spliced at end l f =
 
 -- The new lock stands where its bytes were written, and the others stand as before.
 pub locks-fitted : (d : ℕ) (l f : List ℕ) → 4 * d + 4 ≤ length l
-    → locksOf (fittedAt (4 * d) l f) ≡ set (locksOf l) d (newLock f)
-unfolding locksOf
+    → locks_of (fitted_at (4 * d) l f) ≡ set (locks_of l) d (new_lock f)
+unfolding locks_of
 locks-fitted d [] f h = absurd (omega arith)
 locks-fitted d (a ∷ []) f h = absurd (omega arith)
 locks-fitted d (a ∷ b ∷ []) f h = absurd (omega arith)
 locks-fitted d (a ∷ b ∷ c ∷ []) f h = absurd (omega arith)
 locks-fitted zero (a ∷ b ∷ c ∷ e ∷ l) f h = refl
 locks-fitted (suc d) (a ∷ b ∷ c ∷ e ∷ l) f h =
-    ap locksOf
+    ap locks_of
     (ap (λ (k : ℕ). spliced k (4 * suc d + 4) (a ∷ b ∷ c ∷ e ∷ l) f) (four-on d)
     ∙ ap (λ (k : ℕ). spliced (suc (suc (suc (suc (4 * d))))) k (a ∷ b ∷ c ∷ e ∷ l) f) (eight-on d))
     ∙ ap (λ (m : List ℕ). number a b c e ∷ m) (locks-fitted d l f (omega arith))
@@ -86,12 +86,12 @@ four-written l at p q r s h =
 
 -- How a frame leaves the bytes.
 module _ (b f : List ℕ) where
-  pub refused : {a : Answer} → isAccepted a ≡ false → a ≡ answerTo (locksOf b) f
-      → (a ≡ answerTo (locksOf b) f) × (b ≡ bytesAfter b f)
-  unfolding bytesAfter
+  pub refused : {a : Answer} → is_accepted a ≡ false → a ≡ answer_to (locks_of b) f
+      → (a ≡ answer_to (locks_of b) f) × (b ≡ bytes_after b f)
+  unfolding bytes_after
   refused k e = (e, rw (← e, k))
 
-  pub fitted : {l : List ℕ} → l ≡ fittedAt (4 * doorOf f) b f → Answer.Entered ≡ answerTo (locksOf b) f
-      → (Answer.Entered ≡ answerTo (locksOf b) f) × (l ≡ bytesAfter b f)
-  unfolding bytesAfter
+  pub fitted : {l : List ℕ} → l ≡ fitted_at (4 * door_of f) b f → Answer.Entered ≡ answer_to (locks_of b) f
+      → (Answer.Entered ≡ answer_to (locks_of b) f) × (l ≡ bytes_after b f)
+  unfolding bytes_after
   fitted l e = (e, rw (← e) l)

@@ -3,14 +3,14 @@ use borrow.Author.Rules.{rules}
 use native.Mathlib.Omega.{arith}
 use mathlib.Core.Path.{refl, sym, ◌∙◌}
 use Prim.Native.Nat.{◌-◌}
-use Rattle.doorbook.specs.Bytes.{locksOf}
+use Rattle.doorbook.specs.Bytes.{locks_of}
 use Rattle.doorbook.proofs.Laws.Bytes.{locks-200, lock-there}
 use Rattle.doorbook.proofs.Laws.Search.{Searched, found, onward, nowhere}
 use Rattle.doorbytes.proofs.stands_in.Statement.{statement}
 use Rattle.doorbytes.proofs.stands_in.Tie as tie
 
 abbrev invariant-loop : tie.invariant-loop
-invariant-loop book lock i₀ i = Searched lock (locksOf book) i
+invariant-loop book lock i₀ i = Searched lock (locks_of book) i
 
 abbrev decreases-loop : tie.decreases-loop
 decreases-loop book lock i₀ i = 200 - i

@@ -9,21 +9,21 @@ use lib.Signed.{lt_z}
 use mir.Syntax.{w32}
 use mir.Val.{SFits, to_z, of_z}
 use mir.Facts.{to_z-of_z}
-use Rattle.hub.specs.Fits.{counterFits}
-use Rattle.hub.specs.Table.{aboveZero, belowZero}
+use Rattle.hub.specs.Fits.{counter_fits}
+use Rattle.hub.specs.Table.{above_zero, below_zero}
 use Rattle.effects.specs.Small.{CounterFits}
 
-pub above : (z : ℤ) → lt_z (pos 0) z ≡ aboveZero z
+pub above : (z : ℤ) → lt_z (pos 0) z ≡ above_zero z
 above (pos zero) = refl
 above (pos (suc n)) = lt-ltb 0 (suc n) (omega arith)
 above (negsuc n) = refl
 
-pub below : (z : ℤ) → lt_z z (pos 0) ≡ belowZero z
+pub below : (z : ℤ) → lt_z z (pos 0) ≡ below_zero z
 below (pos n) = le-ltb n 0 (omega arith)
 below (negsuc n) = refl
 
 fits : (z : ℤ) → CounterFits z → SFits w32 z
-unfolding counterFits
+unfolding counter_fits
 fits (pos n) e = record { sfits = omega (arith, leb-true n 32 e) }
 fits (negsuc n) e = record { sfits = omega (arith, ltb-true n 32 e) }
 
@@ -33,13 +33,13 @@ pub sign : (test : ℤ → Bool) (z : ℤ) {r : Bool}
 sign test z e h = sym (h ∙ ap test (to_z-of_z (fits z e)))
 
 pred_fits : (z : ℤ) → CounterFits z → SFits w32 (pred_ℤ z)
-unfolding counterFits
+unfolding counter_fits
 pred_fits (pos zero) e = record { sfits = omega arith }
 pred_fits (pos (suc n)) e = record { sfits = omega (arith, leb-true (suc n) 32 e) }
 pred_fits (negsuc n) e = record { sfits = omega (arith, ltb-true n 32 e) }
 
 suc-fits : (z : ℤ) → CounterFits z → SFits w32 (suc_ℤ z)
-unfolding counterFits
+unfolding counter_fits
 suc-fits (pos n) e = record { sfits = omega (arith, leb-true n 32 e) }
 suc-fits (negsuc zero) e = record { sfits = omega arith }
 suc-fits (negsuc (suc n)) e = record { sfits = omega (arith, ltb-true (suc n) 32 e) }

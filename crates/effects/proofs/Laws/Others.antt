@@ -8,8 +8,8 @@ use Rattle.hub.specs.declared.moves.Op.{Op}
 use Rattle.hub.specs.declared.moves.Sight.{Sight}
 use Rattle.hub.specs.declared.record.Phase.{Phase}
 use Rattle.hub.specs.Moves.{Refuse, Tell}
-use Rattle.hub.specs.Phases.{hasRadio}
-use Rattle.hub.specs.Table.{acquire, canCancel, cancel, decide, givenUp, tellRadio, turn}
+use Rattle.hub.specs.Phases.{has_radio}
+use Rattle.hub.specs.Table.{acquire, can_cancel, cancel, decide, given_up, tell_radio, turn}
 use Rattle.effects.specs.declared.effect.Effect.{Effect}
 use Rattle.effects.specs.Effect.{effect_of}
 
@@ -39,13 +39,13 @@ module _ (can three : Bool) (x : Phase) (s : Sight) where
 -- What a phase that is known leads to; a phase in which nobody can give up.
 module _ (s : Sight) where
   pub gives_up : {f : Phase} {e : Effect} → s.slot.phase ≡ f
-      → e ≡ effect_of (cancel (canCancel f) (eqb s.kind 3) (givenUp f) s) s
+      → e ≡ effect_of (cancel (can_cancel f) (eqb s.kind 3) (given_up f) s) s
       → e ≡ effect_of (decide Op.Cancel false s) s
   unfolding decide
   gives_up i h =
-      h ∙ ap (λ (x : Phase). effect_of (cancel (canCancel x) (eqb s.kind 3) (givenUp x) s) s) (sym i)
+      h ∙ ap (λ (x : Phase). effect_of (cancel (can_cancel x) (eqb s.kind 3) (given_up x) s) s) (sym i)
 
-  pub not-waiting : (x : Phase) → canCancel s.slot.phase ≡ false
+  pub not-waiting : (x : Phase) → can_cancel s.slot.phase ≡ false
       → decide Op.Cancel false s ≡ cancel false (eqb s.kind 3) x s
   unfolding decide cancel
   not-waiting x e = rw e
@@ -53,15 +53,15 @@ module _ (s : Sight) where
 -- Which radio: none on a hub without radios, nor in a phase without one.
 module _ (s : Sight) where
   pub unnamed : s.named ≡ false → decide Op.Radio false s ≡ Tell Answer.NoRadio
-  unfolding decide tellRadio
+  unfolding decide tell_radio
   unnamed e = rw e
 
-  pub has-none : s.named ≡ true → hasRadio s.slot.phase ≡ false
+  pub has-none : s.named ≡ true → has_radio s.slot.phase ≡ false
       → decide Op.Radio false s ≡ Tell Answer.NoRadio
-  unfolding decide tellRadio
+  unfolding decide tell_radio
   has-none e f = rw (e, f)
 
-  pub has-radio : s.named ≡ true → hasRadio s.slot.phase ≡ true
+  pub has-radio : s.named ≡ true → has_radio s.slot.phase ≡ true
       → decide Op.Radio false s ≡ Tell (Answer.Radio s.radio)
-  unfolding decide tellRadio
+  unfolding decide tell_radio
   has-radio e f = rw (e, f)

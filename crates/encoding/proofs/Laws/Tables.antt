@@ -10,7 +10,7 @@ use lib.ListN.{length, get_or}
 use Rattle.hub.proofs.Laws.Bools.{first, second}
 use Rattle.hub.specs.Answers.{Printed}
 use Rattle.encoding.specs.Frame.{frame_of}
-use Rattle.encoding.specs.Hex.{digitOf, isDigit, spelled, byte_of, charOf, text_of}
+use Rattle.encoding.specs.Hex.{digit_of, is_digit, spelled, byte_of, char_of, text_of}
 use Rattle.encoding.specs.Tables.{Pairs, Values, value_of}
 
 -- The test passes at each entry and its place, counted from i.
@@ -40,32 +40,32 @@ at f l t k h = subst (λ (m : ℕ). f m (get_or l k 0) ≡ true) (none k) (from 
     none n = omega arith
 
 -- The characters of each byte.
-abbrev highRight : ℕ → ℕ → Bool
-highRight b x = eqb (x % 256) (charOf (b / 16 % 16))
+abbrev high_right : ℕ → ℕ → Bool
+high_right b x = eqb (x % 256) (char_of (b / 16 % 16))
 
-abbrev lowRight : ℕ → ℕ → Bool
-lowRight b x = eqb (x / 256 % 256) (charOf (b % 16))
+abbrev low_right : ℕ → ℕ → Bool
+low_right b x = eqb (x / 256 % 256) (char_of (b % 16))
 
-abbrev pub pairRight : ℕ → ℕ → Bool
-pairRight b x = highRight b x && lowRight b x
+abbrev pub pair_right : ℕ → ℕ → Bool
+pair_right b x = high_right b x && low_right b x
 
-pub pairs-right : (l : List ℕ) → length l ≡ 256 → every pairRight 0 l ≡ true → Pairs l
+pub pairs-right : (l : List ℕ) → length l ≡ 256 → every pair_right 0 l ≡ true → Pairs l
 pairs-right l n t =
     record {
-      first = λ b h. eqb-true _ _ (first (highRight b (get_or l b 0)) (lowRight b (get_or l b 0)) (right b h));
-      second = λ b h. eqb-true _ _ (second (highRight b (get_or l b 0)) (lowRight b (get_or l b 0)) (right b h));
+      first = λ b h. eqb-true _ _ (first (high_right b (get_or l b 0)) (low_right b (get_or l b 0)) (right b h));
+      second = λ b h. eqb-true _ _ (second (high_right b (get_or l b 0)) (low_right b (get_or l b 0)) (right b h));
     }
   where
-    right : (b : ℕ) → b < 256 → pairRight b (get_or l b 0) ≡ true
-    right b h = at pairRight l t b (omega arith)
+    right : (b : ℕ) → b < 256 → pair_right b (get_or l b 0) ≡ true
+    right b h = at pair_right l t b (omega arith)
 
 -- Bytes written by the table, in front of other characters.
-abbrev pub byPairs : List ℕ → List ℕ → List ℕ → List ℕ
-byPairs t [] l = l
-byPairs t (b ∷ bs) l = get_or t b 0 % 256 ∷ get_or t b 0 / 256 % 256 ∷ byPairs t bs l
+abbrev pub by_pairs : List ℕ → List ℕ → List ℕ → List ℕ
+by_pairs t [] l = l
+by_pairs t (b ∷ bs) l = get_or t b 0 % 256 ∷ get_or t b 0 / 256 % 256 ∷ by_pairs t bs l
 
 pub line-by-pairs : (t : List ℕ) → Pairs t → (p : ℕ) (r : Printed) → p < 256 → r.code < 256
-    → byPairs t (frame_of p r) (0x0A ∷ []) ≡ text_of (frame_of p r)
+    → by_pairs t (frame_of p r) (0x0A ∷ []) ≡ text_of (frame_of p r)
 line-by-pairs t s p r l m =
     one r.code m
     (one p l
@@ -74,32 +74,32 @@ line-by-pairs t s p r l m =
   where
     one : (b : ℕ) → b < 256 → {k l : List ℕ} → k ≡ l
         → get_or t b 0 % 256 ∷ get_or t b 0 / 256 % 256 ∷ k
-        ≡ charOf (b / 16 % 16) ∷ charOf (b % 16) ∷ l
+        ≡ char_of (b / 16 % 16) ∷ char_of (b % 16) ∷ l
     one b h e = λ i. s.first b h i ∷ s.second b h i ∷ e i
 
 -- The value of each digit.
-abbrev pub valueRight : ℕ → ℕ → Bool
-valueRight c x = eqb x (value_of c)
+abbrev pub value_right : ℕ → ℕ → Bool
+value_right c x = eqb x (value_of c)
 
-pub values-right : (l : List ℕ) → length l ≡ 256 → every valueRight 0 l ≡ true → Values l
-values-right l n t = record { at = λ c h. eqb-true _ _ (at valueRight l t c (omega arith)) }
+pub values-right : (l : List ℕ) → length l ≡ 256 → every value_right 0 l ≡ true → Values l
+values-right l n t = record { at = λ c h. eqb-true _ _ (at value_right l t c (omega arith)) }
 
 -- Two values make the byte that their characters spell, or more than any byte.
-value-digit : (c : ℕ) (d : Bool) → isDigit c ≡ d → cond d (digitOf c) 256 ≡ value_of c
-value-digit c d e = ap (λ (b : Bool). cond b (digitOf c) 256) (sym e)
+value-digit : (c : ℕ) (d : Bool) → is_digit c ≡ d → cond d (digit_of c) 256 ≡ value_of c
+value-digit c d e = ap (λ (b : Bool). cond b (digit_of c) 256) (sym e)
 
 pub value-most : (t : List ℕ) → Values t → (c : ℕ) → c < 256 → get_or t c 0 ≤ 256
-value-most t s c h = go (isDigit c) refl
+value-most t s c h = go (is_digit c) refl
   where
-    go : (d : Bool) → isDigit c ≡ d → get_or t c 0 ≤ 256
-    go true e = omega (arith, s.at c h, value-digit c true e, ltb-true (digitOf c) 16 e)
+    go : (d : Bool) → is_digit c ≡ d → get_or t c 0 ≤ 256
+    go true e = omega (arith, s.at c h, value-digit c true e, ltb-true (digit_of c) 16 e)
     go false e = omega (arith, s.at c h, value-digit c false e)
 
 module _ (a b n : ℕ) (e : n ≡ 16 * value_of a + value_of b) where
   pub no_byte : 256 ≤ n → 256 ≡ byte_of (a ∷ b ∷ [])
-  no_byte l = go (isDigit a) (isDigit b) refl refl
+  no_byte l = go (is_digit a) (is_digit b) refl refl
     where
-      go : (d f : Bool) → isDigit a ≡ d → isDigit b ≡ f → 256 ≡ cond (d && f) (spelled a b) 256
+      go : (d f : Bool) → is_digit a ≡ d → is_digit b ≡ f → 256 ≡ cond (d && f) (spelled a b) 256
       go true true p q =
           absurd
           (omega (
@@ -107,16 +107,16 @@ module _ (a b n : ℕ) (e : n ≡ 16 * value_of a + value_of b) where
             e,
             value-digit a true p,
             value-digit b true q,
-            ltb-true (digitOf a) 16 p,
-            ltb-true (digitOf b) 16 q,
+            ltb-true (digit_of a) 16 p,
+            ltb-true (digit_of b) 16 q,
           ))
       go true false p q = refl
       go false f p q = refl
 
   pub a_byte : n < 256 → n ≡ byte_of (a ∷ b ∷ [])
-  a_byte l = go (isDigit a) (isDigit b) refl refl
+  a_byte l = go (is_digit a) (is_digit b) refl refl
     where
-      go : (d f : Bool) → isDigit a ≡ d → isDigit b ≡ f → n ≡ cond (d && f) (spelled a b) 256
+      go : (d f : Bool) → is_digit a ≡ d → is_digit b ≡ f → n ≡ cond (d && f) (spelled a b) 256
       go true true p q = omega (arith, e, value-digit a true p, value-digit b true q)
       go true false p q = absurd (omega (arith, e, value-digit b false q))
       go false f p q = absurd (omega (arith, e, value-digit a false p))

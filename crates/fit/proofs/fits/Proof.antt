@@ -9,30 +9,30 @@ use native.Mathlib.Omega.{arith}
 use lib.ListN.{length}
 use Rattle.hub.specs.declared.record.Hub.{Hub}
 use Rattle.hub.specs.Basics.{all_from}
-use Rattle.hub.specs.Fits.{figuresFit, fits, kindsFit, partyFits, placeFits, radiosFit}
+use Rattle.hub.specs.Fits.{figures_fit, fits, kinds_fit, party_fits, place_fits, radios_fit}
 use Rattle.hub.specs.Record.{read_slot}
-use Rattle.hub.specs.Ring.{readSeat}
+use Rattle.hub.specs.Ring.{read_seat}
 use Rattle.hub.proofs.Laws.Bools.{first, never}
 use Rattle.pool.proofs.Laws.Fits.{unnamed-fit}
-use Rattle.clauses.specs.Window.{ticketAt}
+use Rattle.clauses.specs.Window.{ticket_at}
 use Rattle.clauses.proofs.Laws.Bools.{failed, passed}
 use Rattle.clauses.proofs.Laws.Ranges.{Left, one-fails, one_passes, none_left, by_index}
 use Rattle.hub.proofs.Laws.Lists.{mapped-size}
 use Rattle.fit.proofs.Laws.Clauses.{oldest-small, parties-few, permits-few}
 use Rattle.fit.proofs.Laws.Clauses.{party-test, waiting-test, free-fits, past-parties}
 use Rattle.fit.proofs.Laws.Clauses.{waiter-test, not-waited, stands-nowhere}
-use Rattle.fit.proofs.Laws.Clauses.{outline-fails, outlineFits, parties-fail, places-fail, radios-left}
+use Rattle.fit.proofs.Laws.Clauses.{outline-fails, outline_fits, parties-fail, places-fail, radios-left}
 use Rattle.fit.proofs.fits.Statement.{statement}
 use Rattle.fit.proofs.fits.Tie as tie
 
 -- The parties below p are tested, and x is what is noted of them; so are the places below index i.
 abbrev Parties : Hub → Bool → ℕ → Type 0
-Parties h = Left (partyFits h) 32 (all_from (partyFits h) 0 32)
+Parties h = Left (party_fits h) 32 (all_from (party_fits h) 0 32)
 
 abbrev Places : Hub → ℕ → Type 0
 Places h =
-    Left (λ i. placeFits h (ticketAt h.control.oldest i)) 256
-    (all_from (placeFits h) h.control.oldest 256) true
+    Left (λ i. place_fits h (ticket_at h.control.oldest i)) 256
+    (all_from (place_fits h) h.control.oldest 256) true
 
 moved : (h : Hub) {i j : ℕ} → Places h i → i ≡ j → Places h j
 moved h l e = subst (Places h) e l
@@ -103,11 +103,11 @@ hub5 c = hub (loop (turn5 c))
 abbrev index : At tie.At-loop5 → ℕ
 index c = 8 * (turn5 c).loop3.j + c.loop5.k
 
-outline : (c : At tie.At-loop) → outlineFits (hub c) ≡ true
+outline : (c : At tie.At-loop) → outline_fits (hub c) ≡ true
 outline c = passed c.before.before.before.figures-and-kinds-fit.ensures c.before.before.if1.false
 
-figures : (c : At tie.At-loop) → figuresFit (hub c).control.opening (hub c).control.figures (hub c).control.oldest ≡ true
-figures c = first _ (kindsFit (hub c).control.opening) (outline c)
+figures : (c : At tie.At-loop) → figures_fit (hub c).control.opening (hub c).control.figures (hub c).control.oldest ≡ true
+figures c = first _ (kinds_fit (hub c).control.opening) (outline c)
 
 -- No party below n is past the slots, and no sum with the oldest ticket past 32 bits.
 few : (c : At tie.At-loop) → (hub c).control.opening.parties ≤ 32
@@ -124,8 +124,8 @@ abbrev round : At tie.At-match2-branch → At tie.In-loop
 round c = c.before.before.before
 
 told : (c : At tie.At-match2-branch)
-    → c.match2.fitting ≡ partyFits (hub (round c).before) (round c).before.loop.p
-unfolding read_slot readSeat
+    → c.match2.fitting ≡ party_fits (hub (round c).before) (round c).before.loop.p
+unfolding read_slot read_seat
 told c =
     let l = round c in
     let h = hub l.before in
@@ -253,7 +253,7 @@ returns-3 c =
     ∙ none_left _ 32 _ q.loop2.free _ q.loop2.invariant.1 (omega arith))
 
 loop3-holds : At tie.Need-loop3-init
-loop3-holds c = by_index (placeFits (hub c.before.before.before.before)) _
+loop3-holds c = by_index (place_fits (hub c.before.before.before.before)) _
 
 loop4-holds : At tie.Need-loop4-init
 loop4-holds c =
@@ -378,7 +378,7 @@ loop3-again c =
     c.if4.branch
 
 -- Parties and places fit, and the radios are left.
-passes : (l : At tie.At-loop3) → 32 ≤ l.loop3.j → {r : Bool} → r ≡ radiosFit (hub (loop l)) → r ≡ fits (hub (loop l))
+passes : (l : At tie.At-loop3) → 32 ≤ l.loop3.j → {r : Bool} → r ≡ radios_fit (hub (loop l)) → r ≡ fits (hub (loop l))
 passes l i e =
     let q = l.before.before.before in
     radios-left _ (outline (loop l))

@@ -14,23 +14,23 @@ use lib.ListN.{take-append-drop, drop_of_length-le}
 use native.Mathlib.Nat.{le_of_eq}
 use Rattle.hub.specs.declared.record.Hub.{Hub}
 use Rattle.hub.proofs.Laws.Bools.{if-true, if-false}
-use Rattle.encoding.specs.Form.{asText}
-use Rattle.line.specs.Program.{isOpen, Reply, Response, whenOpen}
+use Rattle.encoding.specs.Form.{as_text}
+use Rattle.line.specs.Program.{is_open, Reply, Response, when_open}
 use Rattle.line.specs.Program.{respond, replies, after, rendered, closing}
-use Rattle.line.specs.Requests.{Request, malformed, toOpen, toCall, requestOf, headerOf}
+use Rattle.line.specs.Requests.{Request, malformed, to_open, to_call, request_of, header_of}
 use Rattle.line.proofs.Laws.Codes.{is-call, op-back}
 use Rattle.encoding.proofs.Laws.Parts.{parts, put-length}
 use Rattle.line.proofs.Laws.Schedules.{respond-open, still_open}
-use Rattle.batch.specs.Batch.{requestFor, requestsIn, replied, Reachable}
+use Rattle.batch.specs.Batch.{request_for, requests_in, replied, Reachable}
 use Rattle.batch.proofs.Laws.Reachable.{reachable-open}
 use Rattle.reader.specs.declared.Read.{Read}
 use Rattle.reader.specs.declared.Reader.{Reader}
 use Rattle.frame.specs.declared.session.Fed.{Fed}
 use Rattle.frame.specs.declared.session.Session.{Session}
 use Rattle.beforeopen.specs.declared.opening.Begun.{Begun}
-use Rattle.beforeopen.specs.Opening.{open_at, early, late, begunBy, askedOpen}
-use Rattle.reader.specs.Reading.{KEPT, lineIn, past, asked}
-use Rattle.reader.specs.Reading.{requestBytes, requestsWritten}
+use Rattle.beforeopen.specs.Opening.{open_at, early, late, begun_by, asked_open}
+use Rattle.reader.specs.Reading.{KEPT, line_in, past, asked}
+use Rattle.reader.specs.Reading.{request_bytes, requests_written}
 use Rattle.frame.specs.Session.{at_start, fed, told, rest, finished, Sound}
 use Rattle.beforeopen.proofs.Laws.Opening.{session-open, after-session, open-few, all_read}
 use Rattle.reader.proofs.Laws.Pieces.{past-kept}
@@ -40,44 +40,44 @@ use Rattle.beforeopen.proofs.Laws.Sizes.{replies-size, asked-few}
 
 -- A request as it is read back: an opening's bytes are not there any more.
 abbrev seen : Request → Request
-seen q = requestFor (headerOf q).code (headerOf q).party
+seen q = request_for (header_of q).code (header_of q).party
 
 -- The requests that were written are read.
 requests-back : (rs : List Request) (l : List ℕ)
-    → requestsIn (length rs) (requestBytes rs ++ l) ≡ map seen rs
-unfolding requestsIn requestBytes
+    → requests_in (length rs) (request_bytes rs ++ l) ≡ map seen rs
+unfolding requests_in request_bytes
 requests-back [] l = refl
 requests-back (r ∷ rs) l = ap (λ (q : List Request). seen r ∷ q) (requests-back rs l)
 
-bytes-size : (rs : List Request) → length (requestBytes rs) ≡ 2 * length rs
-unfolding requestBytes
+bytes-size : (rs : List Request) → length (request_bytes rs) ≡ 2 * length rs
+unfolding request_bytes
 bytes-size [] = refl
 bytes-size (r ∷ rs) = omega (arith, bytes-size rs)
 
 pub written-size : (rs : List Request) (l : List ℕ) → 2 * length rs ≤ length l
-    → length (requestsWritten rs l) ≡ length l
+    → length (requests_written rs l) ≡ length l
 written-size rs l m =
     simp (length-append, length-drop) (omega (arith, bytes-size rs))
 
 -- An open hub answers what was read back as it answers what was asked.
-same-open : (h : Hub) (q : Request) → whenOpen h (seen q) ≡ whenOpen h q
-unfolding whenOpen
+same-open : (h : Hub) (q : Request) → when_open h (seen q) ≡ when_open h q
+unfolding when_open
 same-open h malformed = refl
-same-open h (toOpen o) = refl
-same-open h (toCall c) =
-    ap (whenOpen h)
+same-open h (to_open o) = refl
+same-open h (to_call c) =
+    ap (when_open h)
     (if-true _ _ _ (is-call c.op)
-    ∙ (λ i. toCall (record { op = op-back c.op i; party = c.party })))
+    ∙ (λ i. to_call (record { op = op-back c.op i; party = c.party })))
 
-same-replies : (rs : List Request) (h : Hub) → isOpen h ≡ true
+same-replies : (rs : List Request) (h : Hub) → is_open h ≡ true
     → (replies h (map seen rs) ≡ replies h rs) × (after h (map seen rs) ≡ after h rs)
 unfolding replies after
 same-replies [] h o = (refl, refl)
 same-replies (r ∷ rs) h o =
     let e : respond h (seen r) ≡ respond h r =
     respond-open h (seen r) o ∙ same-open h r ∙ sym (respond-open h r o) in
-    let still : isOpen (respond h r).hub ≡ true =
-    ap (λ (t : Response). isOpen t.hub) (respond-open h r o) ∙ still_open h r o in
+    let still : is_open (respond h r).hub ≡ true =
+    ap (λ (t : Response). is_open t.hub) (respond-open h r o) ∙ still_open h r o in
     let i = same-replies rs (respond h r).hub still in (
       (λ j. (e j).reply ∷ replies (e j).hub (map seen rs))
           ∙ ap (λ (l : List Reply). (respond h r).reply ∷ l) i.0,
@@ -102,15 +102,15 @@ fed-sound s piece o =
 module _ (s : Session) (o : Reachable s.hub) (piece spare : List ℕ) (read : Read)
     (bytes : List ℕ)
     (e : read ≡ record { reader = past s.reader piece; count = length (asked s.reader piece) })
-    (f : bytes ≡ requestsWritten (asked s.reader piece) spare) where
+    (f : bytes ≡ requests_written (asked s.reader piece) spare) where
   abbrev rs : List Request
   rs = asked s.reader piece
 
-  read_back : requestsIn read.count bytes ≡ map seen rs
+  read_back : requests_in read.count bytes ≡ map seen rs
   read_back =
-      (λ i. requestsIn (e i).count (f i)) ∙ requests-back rs (drop (2 * length rs) spare)
+      (λ i. requests_in (e i).count (f i)) ∙ requests-back rs (drop (2 * length rs) spare)
 
-  pub open_gives : (h : Hub) → h ≡ after s.hub (requestsIn read.count bytes)
+  pub open_gives : (h : Hub) → h ≡ after s.hub (requests_in read.count bytes)
       → ◌≡◌ {A = Fed} (record { session = record { hub = h; reader = read.reader }; lines = read.count })
       (record { session = fed s piece; lines = length rs })
   unfolding fed
@@ -126,11 +126,11 @@ module _ (s : Session) (o : Reachable s.hub) (piece spare : List ℕ) (read : Re
       })
 
   pub open-prints : (out : List ℕ)
-      → replied asText s.hub read.count bytes out ≡ told s piece ++ drop (15 * length rs) out
+      → replied as_text s.hub read.count bytes out ≡ told s piece ++ drop (15 * length rs) out
   unfolding told
   open-prints out =
       (λ i. lines s.hub (read_back i) ++ drop (15 * (e i).count) out)
-      ∙ ap (λ (l : List Reply). rendered asText l ++ drop (15 * length rs) out)
+      ∙ ap (λ (l : List Reply). rendered as_text l ++ drop (15 * length rs) out)
       (same-replies rs s.hub (reachable-open s.hub o)).0
 
 -- Fed in two parts: what the early one leads to, and the late one.
@@ -145,20 +145,20 @@ module _ (s : Session) (piece : List ℕ) where
   whole = take-append-drop (open_at s.hub s.reader piece) piece
 
   -- The session between them.
-  pub between : (b : Begun) → b ≡ begunBy s.hub s.reader piece
+  pub between : (b : Begun) → b ≡ begun_by s.hub s.reader piece
       → record { hub = b.hub; reader = b.reader } ≡ fed s part
   unfolding fed
   between b e = (λ i. record { hub = (e i).hub; reader = (e i).reader })
 
   asked-parts : asked s.reader piece
-      ≡ asked s.reader part ++ askedOpen s.hub s.reader piece
+      ≡ asked s.reader part ++ asked_open s.hub s.reader piece
   asked-parts = ap (asked s.reader) (sym whole) ∙ asked-append part others s.reader
 
   pub asked-count : length (asked s.reader piece)
-      ≡ length (asked s.reader part) + length (askedOpen s.hub s.reader piece)
+      ≡ length (asked s.reader part) + length (asked_open s.hub s.reader piece)
   asked-count =
       ap length asked-parts
-      ∙ length-append (asked s.reader part) (askedOpen s.hub s.reader piece)
+      ∙ length-append (asked s.reader part) (asked_open s.hub s.reader piece)
 
   pub fed-parts : fed (fed s part) others ≡ fed s piece
   fed-parts = sym (fed-append s part others) ∙ ap (fed s) whole
@@ -186,7 +186,7 @@ module _ (out part : List ℕ) (at end : ℕ) (l : at ≤ length out) (m : lengt
 pub record Early (s : Session) (piece out₀ : List ℕ) (b : Begun) (out₁ : List ℕ) : Type 0 where
   pub sound : Sound s
   pub room : 15 * length (asked s.reader piece) ≤ length out₀
-  pub begun : b ≡ begunBy s.hub s.reader piece
+  pub begun : b ≡ begun_by s.hub s.reader piece
   pub said : out₁ ≡ lines s.hub (asked s.reader (part s piece))
       ++ drop (15 * length (asked s.reader (part s piece))) out₀
 
@@ -241,28 +241,28 @@ module _ {s : Session} {piece out₀ : List ℕ} {b : Begun} {out₁ : List ℕ}
   abbrev Feeds : Fed → List ℕ → List ℕ → List ℕ → Type 0
   Feeds r spare spare' out =
       (r ≡ record { session = fed s piece; lines = length (asked s.reader piece) })
-      × (spare' ≡ requestsWritten (askedOpen s.hub s.reader piece) spare)
+      × (spare' ≡ requests_written (asked_open s.hub s.reader piece) spare)
       × (out ≡ told s piece ++ drop (15 * length (asked s.reader piece)) out₀)
 
   -- No hub is open after all of it.
-  pub feeds-early : isOpen b.hub ≡ false → (spare : List ℕ)
+  pub feeds-early : is_open b.hub ≡ false → (spare : List ℕ)
       → Feeds (record { session = now-open; lines = b.lines }) spare spare out₁
-  unfolding requestBytes asked
+  unfolding request_bytes asked
   feeds-early o spare =
       let n : open_at s.hub s.reader piece ≡ length piece =
       all_read s.hub s.reader piece k.sound.hub
-      (ap (λ (x : Begun). isOpen x.hub) (sym k.begun) ∙ o) in
+      (ap (λ (x : Begun). is_open x.hub) (sym k.begun) ∙ o) in
       let all : part s piece ≡ piece =
       ap (λ (m : ℕ). take m piece) n ∙ take_all (length piece) piece (le_of_eq refl) in
       let nothing : others s piece ≡ [] =
       ap (λ (m : ℕ). drop m piece) n ∙ drop_of_length-le piece {i = length piece} (omega arith) in
       let count = lines-is ∙ ap (λ (l : List ℕ). length (asked s.reader l)) all in (
         (λ i. record { session = (is-between ∙ ap (fed s) all) i; lines = count i }),
-        sym (ap (λ (l : List ℕ). requestsWritten (asked (past s.reader (part s piece)) l) spare) nothing),
+        sym (ap (λ (l : List ℕ). requests_written (asked (past s.reader (part s piece)) l) spare) nothing),
         out₁-is ∙ (λ i. told s (all i) ++ drop (15 * count i) out₀),
       )
 
-  module _ (o : isOpen b.hub ≡ true) where
+  module _ (o : is_open b.hub ≡ true) where
     sound-now : Sound now-open
     sound-now = subst Sound (sym is-between) (fed-sound s (part s piece) k.sound)
 
@@ -289,7 +289,7 @@ module _ {s : Session} {piece out₀ : List ℕ} {b : Begun} {out₁ : List ℕ}
         take_all (length out₁ - 15 * b.lines) (drop (15 * b.lines) out₁)
         (le_of_eq (length-drop (15 * b.lines) out₁))
 
-    asked-rest : asked b.reader rest_of ≡ askedOpen s.hub s.reader piece
+    asked-rest : asked b.reader rest_of ≡ asked_open s.hub s.reader piece
     asked-rest = (λ i. asked (k.begun i).reader (rest-is i))
 
     pub late-few : (m : ℕ) → 2 * length piece ≤ m → 2 * length (asked b.reader rest_of) ≤ m
@@ -312,7 +312,7 @@ module _ {s : Session} {piece out₀ : List ℕ} {b : Begun} {out₁ : List ℕ}
     -- The rest is fed to the open hub.
     module _ (spare : List ℕ) {r : Fed} {spare' printed : List ℕ}
         (x : r ≡ record { session = fed now-open rest_of; lines = length (asked b.reader rest_of) })
-        (y : spare' ≡ requestsWritten (asked b.reader rest_of) spare)
+        (y : spare' ≡ requests_written (asked b.reader rest_of) spare)
         (z : printed ≡ told now-open rest_of ++ drop (15 * length (asked b.reader rest_of)) lent)
       where
         count : b.lines + r.lines ≡ length (asked s.reader piece)
@@ -369,7 +369,7 @@ module _ {s : Session} {piece out₀ : List ℕ} {b : Begun} {out₁ : List ℕ}
                 (ap (λ (f : Fed). f.session) x ∙ (λ j. fed (is-between j) (rest-is j)) ∙ fed-parts s piece) i;
             lines = count i;
           }),
-          y ∙ ap (λ (rs : List Request). requestsWritten rs spare) asked-rest,
+          y ∙ ap (λ (rs : List Request). requests_written rs spare) asked-rest,
           tail-put out₁ printed (15 * b.lines) (length out₁) lines-few refl size
               ∙ (λ i. front i ++ z i)
               ∙ ap (λ (m : ℕ). told s (part s piece) ++ (told now-open rest_of ++ drop (15 * m) lent))
@@ -384,7 +384,7 @@ module _ {s : Session} {piece out₀ : List ℕ} {b : Begun} {out₁ : List ℕ}
 pub rest-few : (r : Reader) → length (rest r) ≤ 1
 rest-few r = go (eqb r.len 0)
   where
-    go : (b : Bool) → length (cond b [] (requestOf (lineIn r) ∷ [])) ≤ 1
+    go : (b : Bool) → length (cond b [] (request_of (line_in r) ∷ [])) ≤ 1
     go true = omega arith
     go false = omega arith
 
@@ -392,7 +392,7 @@ module _ (s : Session) (out : List ℕ) where
   none_left : s.reader.len ≡ 0 → rest s.reader ≡ []
   none_left e = if-true (eqb s.reader.len 0) _ _ (eq-eqb s.reader.len 0 e)
 
-  one_left : (s.reader.len ≡ 0 → ⊥) → rest s.reader ≡ requestOf (lineIn s.reader) ∷ []
+  one_left : (s.reader.len ≡ 0 → ⊥) → rest s.reader ≡ request_of (line_in s.reader) ∷ []
   one_left e = if-false (eqb s.reader.len 0) _ _ (ne_eqb s.reader.len 0 e)
 
   pub finish-one : (text : List ℕ) → 15 ≤ length out → s.reader.len ≡ 0 → text ≡ closing s.hub

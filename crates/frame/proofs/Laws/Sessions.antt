@@ -5,11 +5,11 @@ use mathlib.Core.List.{List, [], ◌∷◌, ◌++◌, map, append_assoc}
 use native.Mathlib.Omega.{arith}
 use lib.ListN.{length-replicate}
 use Rattle.line.specs.Program.{replies, after, rendered}
-use Rattle.line.specs.Program.{closing, lines_of, outputOf}
-use Rattle.line.specs.Requests.{Request, requestOf}
+use Rattle.line.specs.Program.{closing, lines_of, output_of}
+use Rattle.line.specs.Requests.{Request, request_of}
 use Rattle.frame.specs.declared.session.Session.{Session}
 use Rattle.reader.specs.Reading.{KEPT, past, asked}
-use Rattle.frame.specs.Session.{at_start, fed, told, rest, finished, toldAll, joined, InPieces}
+use Rattle.frame.specs.Session.{at_start, fed, told, rest, finished, told_all, joined, InPieces}
 use Rattle.beforeopen.proofs.Laws.Appended.{after-append, asked-append, lines, past-append, replies-append}
 use Rattle.frame.proofs.Laws.Lines.{lines-read}
 
@@ -42,22 +42,22 @@ wholly-append s a b =
     (λ i. told-append s a b i ++ finished (fed-append s a b i))
     ∙ append_assoc (told s a) (told (fed s a) b) (finished (fed (fed s a) b))
 
-in-pieces-from : (ps : List (List ℕ)) (s : Session) → toldAll s ps ≡ wholly s (joined ps)
-unfolding toldAll joined
+in-pieces-from : (ps : List (List ℕ)) (s : Session) → told_all s ps ≡ wholly s (joined ps)
+unfolding told_all joined
 in-pieces-from [] s = one_piece s
 in-pieces-from (p ∷ ps) s =
     ap (λ (l : List ℕ). told s p ++ l) (in-pieces-from ps (fed s p))
     ∙ sym (wholly-append s p (joined ps))
 
 -- An input that comes whole.
-pub in_one : (input : List ℕ) → wholly at_start input ≡ outputOf input
-unfolding told fed finished outputOf
+pub in_one : (input : List ℕ) → wholly at_start input ≡ output_of input
+unfolding told fed finished output_of
 in_one input =
     let r = at_start.reader in
     let h = at_start.hub in
     let rs = asked r input in
     let qs = rest (past r input) in
-    let e : rs ++ qs ≡ map requestOf (lines_of input) =
+    let e : rs ++ qs ≡ map request_of (lines_of input) =
     lines-read input r []
     (record { size = length-replicate {A = ℕ} KEPT 0; short = omega arith; same = refl }) in
     sym (append_assoc (lines h rs) (lines (after h rs) qs) (closing (after (after h rs) qs)))

@@ -11,16 +11,16 @@ use Rattle.hub.specs.declared.record.Figures.{Figures}
 use Rattle.hub.specs.declared.record.Phase.{Phase}
 use Rattle.hub.specs.declared.record.Place.{Place}
 use Rattle.hub.specs.Basics.{bit}
-use Rattle.hub.specs.Ledger.{phaseIn}
+use Rattle.hub.specs.Ledger.{phase_in}
 use Rattle.hub.specs.Queue.{Queue, phases, places}
-use Rattle.hub.specs.Record.{MAX-BEGUN}
+use Rattle.hub.specs.Record.{MAX_BEGUN}
 use Rattle.hub.proofs.Laws.Lists.{weight-le}
 use Rattle.hub.proofs.Invariant.Weights.{same, same-other, lt, lt-pos}
 use Rattle.hub.proofs.Invariant.Weights.{up, down, calm, calm-down, calm-or}
 use Rattle.hub.proofs.Invariant.Weights.{holding, resuming, refusing, drawing, suspending}
 use Rattle.hub.proofs.Invariant.Weights.{live, handing, cancelling, radioed, own, hand, stand, refuse}
-use Rattle.hub.proofs.Invariant.Weights.{stage, above, permitCell, cancelledCell, refusedCell}
-use Rattle.hub.proofs.Invariant.Weights.{spent, served, least, most, sum, cellSum}
+use Rattle.hub.proofs.Invariant.Weights.{stage, above, permit_cell, cancelled_cell, refused_cell}
+use Rattle.hub.proofs.Invariant.Weights.{spent, served, least, most, sum, cell_sum}
 use Rattle.hub.proofs.Invariant.Weights.{refuse-own, refused-spent}
 use Rattle.hub.proofs.Invariant.Tickets.{Tickets, Shift, Owes, Names, keep-tickets}
 
@@ -37,15 +37,15 @@ pub record Inv (k : ℕ) (m : Queue) : Type 0 where
   pub owing : sum holding m + sum suspending m + sum live m + up m.figures.counter
       ≡ k + down m.figures.counter
   -- no permit is promised to two: what is still owed fits behind a ticket that is refused
-  pub order : (t : ℕ) → m.figures.resumed ≤ t → 1 ≤ sum (refuse t) m + refusedCell (places m t)
+  pub order : (t : ℕ) → m.figures.resumed ≤ t → 1 ≤ sum (refuse t) m + refused_cell (places m t)
       → down m.figures.counter ≤ sum suspending m + sum (above t) m
   -- two phases occur on a hub with radios alone
-  pub radios : (p : ℕ) → radioed (phaseIn (phases m) p) ≤ bit m.opening.named
+  pub radios : (p : ℕ) → radioed (phase_in (phases m) p) ≤ bit m.opening.named
 
 -- Held + at the counter + on the way = K.
 pub permits : (k : ℕ) (m : Queue) → Inv k m
-    → sum holding m + sum resuming m + cellSum permitCell m + up m.figures.counter
-    ≡ k + sum refusing m + cellSum refusedCell m
+    → sum holding m + sum resuming m + cell_sum permit_cell m + up m.figures.counter
+    ≡ k + sum refusing m + cell_sum refused_cell m
 permits k m inv = omega (arith, inv.owing, inv.tickets.balance)
 
 abbrev pub ShiftIn : Queue → Queue → ℕ → Phase → Phase → ℕ → Place → Place → Type 0
@@ -58,12 +58,12 @@ pub record Local (f x : Phase) (t : ℕ) (b a : Place) (c c' : ℤ) (n n' d d' g
     : Type 0 where
   pub owing : holding x + suspending x + live x + up c' + down c
       ≡ holding f + suspending f + live f + up c + down c'
-  pub permits : holding x + resuming x + permitCell a + up c' + refusing f + refusedCell b
-      ≡ holding f + resuming f + permitCell b + up c + refusing x + refusedCell a
-  pub line : resuming x + cancelling x + cancelledCell a + d' + down c' + suspending f + n + handing f
-      ≡ resuming f + cancelling f + cancelledCell b + d + down c + suspending x + n' + handing x
+  pub permits : holding x + resuming x + permit_cell a + up c' + refusing f + refused_cell b
+      ≡ holding f + resuming f + permit_cell b + up c + refusing x + refused_cell a
+  pub line : resuming x + cancelling x + cancelled_cell a + d' + down c' + suspending f + n + handing f
+      ≡ resuming f + cancelling f + cancelled_cell b + d + down c + suspending x + n' + handing x
   pub drawn : n' + drawing x + g ≤ n + drawing f + g'
-  pub begun : g ≤ MAX-BEGUN → g' ≤ MAX-BEGUN
+  pub begun : g ≤ MAX_BEGUN → g' ≤ MAX_BEGUN
   pub owned : own t x + spent a + lt t n ≡ own t f + spent b + lt t n'
   pub handed : hand t x + served a + lt t d ≡ hand t f + served b + lt t d'
   pub low : least a + stage t f ≤ s + stage t x
@@ -72,7 +72,7 @@ pub record Local (f x : Phase) (t : ℕ) (b a : Place) (c c' : ℤ) (n n' d d' g
       → (own u x ≡ own u f) × (hand u x ≡ hand u f) × (stage u x ≡ stage u f)
       × (refuse u x ≡ refuse u f) × (stand u f ≤ stand u x)
   pub later : d ≤ d'
-  pub refusal : refuse t x + refusedCell a ≤ refuse t f + refusedCell b + calm c'
+  pub refusal : refuse t x + refused_cell a ≤ refuse t f + refused_cell b + calm c'
   pub radios : radioed x ≤ v
 
 -- And what it owes to the other tickets, and to the order of the line.
@@ -97,17 +97,17 @@ module _ (k : ℕ) (m m' : Queue) (p : ℕ) (f x : Phase) (t : ℕ) (b a : Place
     (lo : LocalIn m m'.figures f x t b a) (be : BesideIn m m'.figures f x t) where
   -- a ticket that is refused was refused before, unless the counter is calm now
   refused-before : (u : ℕ) → Dec (u ≡ t) → calm m'.figures.counter ≡ 0
-      → 1 ≤ sum (refuse u) m' + refusedCell (places m' u)
-      → 1 ≤ sum (refuse u) m + refusedCell (places m u)
+      → 1 ≤ sum (refuse u) m' + refused_cell (places m' u)
+      → 1 ≤ sum (refuse u) m + refused_cell (places m u)
   refused-before u (yes y) z g =
-      subst (λ (v : ℕ). 1 ≤ sum (refuse v) m + refusedCell (places m v)) (sym y)
+      subst (λ (v : ℕ). 1 ≤ sum (refuse v) m + refused_cell (places m v)) (sym y)
       (omega (
         arith,
-        subst (λ (v : ℕ). 1 ≤ sum (refuse v) m' + refusedCell (places m' v)) y g,
+        subst (λ (v : ℕ). 1 ≤ sum (refuse v) m' + refused_cell (places m' v)) y g,
         sh.sums (refuse t),
         lo.refusal,
-        ap refusedCell sh.cellWas,
-        ap refusedCell sh.cellNow,
+        ap refused_cell sh.cell_was,
+        ap refused_cell sh.cell_now,
       ))
   refused-before u (no y) z g =
       omega (
@@ -115,16 +115,16 @@ module _ (k : ℕ) (m m' : Queue) (p : ℕ) (f x : Phase) (t : ℕ) (b a : Place
         g,
         sh.sums (refuse u),
         (lo.away u (same-other t u (λ i. y (sym i)))).3,
-        ap refusedCell (sh.cellOthers u y),
+        ap refused_cell (sh.cell_others u y),
       )
 
   order' : (u : ℕ) → m'.figures.resumed ≤ u
-      → 1 ≤ sum (refuse u) m' + refusedCell (places m' u)
+      → 1 ≤ sum (refuse u) m' + refused_cell (places m' u)
       → down m'.figures.counter ≤ sum suspending m' + sum (above u) m'
   order' u i g = go (calm-or m'.figures.counter)
     where
       -- what is refused has a ticket already
-      below : 1 ≤ sum (refuse u) m + refusedCell (places m u) → u < m.figures.issued
+      below : 1 ≤ sum (refuse u) m + refused_cell (places m u) → u < m.figures.issued
       below h =
           lt-pos u m.figures.issued
           (omega (
@@ -132,7 +132,7 @@ module _ (k : ℕ) (m m' : Queue) (p : ℕ) (f x : Phase) (t : ℕ) (b a : Place
             (inv.tickets.at u).owned,
             refused-spent (places m u),
             weight-le (refuse u) (own u) Phase.Free (phases m)
-                (λ j l. refuse-own u (phaseIn (phases m) j)),
+                (λ j l. refuse-own u (phase_in (phases m) j)),
           ))
 
       go : (calm m'.figures.counter ≡ 1) ⊎ (calm m'.figures.counter ≡ 0)
@@ -166,9 +166,9 @@ module _ (k : ℕ) (m m' : Queue) (p : ℕ) (f x : Phase) (t : ℕ) (b a : Place
         numbers = be.numbers;
       }
 
-  radios' : (q : ℕ) → Dec (q ≡ p) → radioed (phaseIn (phases m') q) ≤ bit m.opening.named
+  radios' : (q : ℕ) → Dec (q ≡ p) → radioed (phase_in (phases m') q) ≤ bit m.opening.named
   radios' q (yes z) =
-      omega (arith, lo.radios, ap radioed (ap (phaseIn (phases m')) z ∙ sh.now))
+      omega (arith, lo.radios, ap radioed (ap (phase_in (phases m')) z ∙ sh.now))
   radios' q (no y) = omega (arith, inv.radios q, ap radioed (sh.others q y))
 
   -- Every move keeps the invariant.

@@ -15,27 +15,27 @@ use Rattle.hub.specs.declared.record.Phase.TheVariants.{ResumingAt, Fetching, Su
 use Rattle.hub.specs.declared.record.Place.{Place}
 use Rattle.hub.specs.declared.record.Place.TheVariants.{Permit}
 use Rattle.hub.specs.Basics.{among, bit, weight}
-use Rattle.hub.specs.Ledger.{phaseIn}
-use Rattle.hub.specs.Phases.{RESTING, isOneOf, isPermit, isPlaceOf, rank, ticketOf, atRest}
+use Rattle.hub.specs.Ledger.{phase_in}
+use Rattle.hub.specs.Phases.{RESTING, is_one_of, is_permit, is_place_of, rank, ticket_of, at_rest}
 use Rattle.hub.proofs.Laws.Lists.{weight-scale}
 use Rattle.hub.proofs.Laws.Phases.{every-phase, every-place, place_of}
 use Rattle.hub.proofs.Laws.Ranges.{sum-zero}
 use Rattle.hub.proofs.Invariant.Weights.{same, same_self, same-le, lt_yes, in-longer}
 use Rattle.hub.proofs.Invariant.Weights.{one, pick, suspending, own}
-use Rattle.hub.proofs.Invariant.Weights.{stage, permitCell, spent, served, most, total, TICKETS}
+use Rattle.hub.proofs.Invariant.Weights.{stage, permit_cell, spent, served, most, total, TICKETS}
 use Rattle.hub.proofs.Invariant.Tickets.{Tickets, one_in, permit-below, resumed-most}
 
 abbrev pub quiet : List Phase
 quiet = Fetching ∷ RESTING
 
 abbrev pub settled : Phase → Bool
-settled = isOneOf quiet
+settled = is_one_of quiet
 
 abbrev pub Settled : List Phase → Type 0
-Settled l = (p : ℕ) → settled (phaseIn l p) ≡ true
+Settled l = (p : ℕ) → settled (phase_in l p) ≡ true
 
-pub rest-settled : (f : Phase) → atRest f ≡ true → settled f ≡ true
-unfolding isOneOf
+pub rest-settled : (f : Phase) → at_rest f ≡ true → settled f ≡ true
+unfolding is_one_of
 rest-settled f e = in-longer RESTING quiet (rank f) refl e
 
 -- A phase of one list is in no other that has none of its phases.
@@ -63,30 +63,30 @@ module _ {l : List Phase} {g : ℕ → Place} {n i r b q e : ℕ} (inv : Tickets
   -- A weight on other phases alone is nothing.
   pub idle : (xs : List Phase) (w : ℕ → ℕ) → apart xs quiet ≡ true
       → weight (pick xs w) l ≡ 0
-  unfolding pick isOneOf
+  unfolding pick is_one_of
   idle xs w a =
       omega (
         arith,
         weight-scale 1 0 (pick xs w) (pick xs w) Free l (λ j h. omega (arith, each j)),
       )
     where
-      each : (j : ℕ) → cond (among (map rank xs) (rank (phaseIn l j)))
-          (w (ticketOf (phaseIn l j))) 0 ≤ 0
+      each : (j : ℕ) → cond (among (map rank xs) (rank (phase_in l j)))
+          (w (ticket_of (phase_in l j))) 0 ≤ 0
       each j = go _ refl
         where
-          go : (c : Bool) → among (map rank xs) (rank (phaseIn l j)) ≡ c
-              → cond c (w (ticketOf (phaseIn l j))) 0 ≤ 0
-          go true z = absurd (not-both xs _ (rank (phaseIn l j)) a z (rest j))
+          go : (c : Bool) → among (map rank xs) (rank (phase_in l j)) ≡ c
+              → cond c (w (ticket_of (phase_in l j))) 0 ≤ 0
+          go true z = absurd (not-both xs _ (rank (phase_in l j)) a z (rest j))
           go false z = omega arith
 
   -- Whoever owns a ticket waits with it.
   waiting-all : (t : ℕ) → 3 * weight (own t) l ≤ weight (stage t) l
-  unfolding pick isOneOf
+  unfolding pick is_one_of
   waiting-all t =
       omega (
         arith,
         weight-scale 3 1 (own t) (stage t) Free l
-            (λ j h. omega (arith, each (phaseIn l j), ap (λ c. bit (not c)) (rest j))),
+            (λ j h. omega (arith, each (phase_in l j), ap (λ c. bit (not c)) (rest j))),
       )
     where
       each : (f : Phase) → 3 * own t f ≤ stage t f + 3 * bit (not (settled f))
@@ -95,8 +95,8 @@ module _ {l : List Phase} {g : ℕ → Place} {n i r b q e : ℕ} (inv : Tickets
           (λ u. omega (arith, same-le u t))
 
   -- A ticket that stands has not been drawn to resume: nobody hands it, and it is not served.
-  pub standing : (p t : ℕ) → phaseIn l p ≡ Waiting t → r ≤ t
-  unfolding pick isOneOf isPlaceOf
+  pub standing : (p t : ℕ) → phase_in l p ≡ Waiting t → r ≤ t
+  unfolding pick is_one_of is_place_of
   standing p t h = go (dec_le r t)
     where
       unserved : (a : Place) → served a + most a ≤ 3
@@ -120,14 +120,14 @@ module _ {l : List Phase} {g : ℕ → Place} {n i r b q e : ℕ} (inv : Tickets
           )
 
   -- No permit lies at a place: its owner would wait there, and the cell does not allow it.
-  pub no-permits : total permitCell g ≡ 0
-  unfolding isPlaceOf
-  no-permits = sum-zero (λ t. permitCell (g t)) 0 TICKETS (λ t a k. each t (isPermit (g t)) refl)
+  pub no-permits : total permit_cell g ≡ 0
+  unfolding is_place_of
+  no-permits = sum-zero (λ t. permit_cell (g t)) 0 TICKETS (λ t a k. each t (is_permit (g t)) refl)
     where
       none : weight suspending l ≡ 0
       none = idle (Suspending ∷ SuspendingMarked ∷ []) one refl
 
-      each : (t : ℕ) (c : Bool) → isPermit (g t) ≡ c → bit c ≡ 0
+      each : (t : ℕ) (c : Bool) → is_permit (g t) ≡ c → bit c ≡ 0
       each t false z = refl
       each t true z =
           let h : g t ≡ Permit = place_of Permit (g t) z in

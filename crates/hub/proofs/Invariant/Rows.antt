@@ -23,21 +23,21 @@ use Rattle.hub.specs.declared.record.PlaceSlot.{PlaceSlot}
 use Rattle.hub.specs.Answers.{printed}
 use Rattle.hub.specs.Basics.{weight}
 use Rattle.hub.specs.Demand3.{AllBelow}
-use Rattle.hub.specs.Ledger.{phaseIn, phaseAfter, phasesAfter, counterAfter, servedAfter}
-use Rattle.hub.specs.Ledger.{gives, takes, leaves, clears, marksRefused, meetsRefused}
-use Rattle.hub.specs.Queue.{Queue, phases, places, write, acted, placed, withParts, woken}
-use Rattle.hub.specs.Record.{writeSlot}
+use Rattle.hub.specs.Ledger.{phase_in, phase_after, phases_after, counter_after, served_after}
+use Rattle.hub.specs.Ledger.{gives, takes, leaves, clears, marks_refused, meets_refused}
+use Rattle.hub.specs.Queue.{Queue, phases, places, write, acted, placed, with_parts, woken}
+use Rattle.hub.specs.Record.{write_slot}
 use Rattle.hub.proofs.Laws.Bools.{if-true, if-false}
 use Rattle.hub.proofs.Laws.Lists.{weight-set}
 use Rattle.hub.proofs.Laws.Ranges.{sum-set}
 use Rattle.hub.proofs.Laws.Slots.{write-phase}
-use Rattle.hub.proofs.Laws.Table.{isListed}
+use Rattle.hub.proofs.Laws.Table.{is_listed}
 use Rattle.hub.proofs.Invariant.Weights.{holding, resuming, refusing, drawing, suspending, live, handing}
 use Rattle.hub.proofs.Invariant.Weights.{cancelling, radioed, own, hand, stand, stand-le, refuse, stage, above}
-use Rattle.hub.proofs.Invariant.Weights.{permitCell, refusedCell, sum, cellSum, TICKETS}
+use Rattle.hub.proofs.Invariant.Weights.{permit_cell, refused_cell, sum, cell_sum, TICKETS}
 use Rattle.hub.proofs.Invariant.Tickets.{Names, inside}
 use Rattle.hub.proofs.Invariant.Keep.{Inv, ShiftIn, LocalIn, BesideIn, keep}
-use Rattle.hub.proofs.Invariant.Potential.{Nearer, toCalm, allowed, restsIf}
+use Rattle.hub.proofs.Invariant.Potential.{Nearer, to_calm, allowed, rests_if}
 
 -- A cell read after one was written.
 pub write_same : (g : ℕ → PlaceSlot) (t : ℕ) (a : PlaceSlot) → write g t a t ≡ a
@@ -62,30 +62,30 @@ write-twice g t b a = fun_ext (λ u. go u (ℕ_discrete u t))
 
 -- The answer r to party p's call reports how the queue went from m to m': the ledger's figures
 -- move as the queue's do.
-abbrev pub isAcquire : Op → ℕ
-isAcquire Op.Acquire = 1
-isAcquire Op.Step = 0
-isAcquire Op.Cancel = 0
-isAcquire Op.Release = 0
-isAcquire Op.Radio = 0
+abbrev pub is_acquire : Op → ℕ
+is_acquire Op.Acquire = 1
+is_acquire Op.Step = 0
+is_acquire Op.Cancel = 0
+is_acquire Op.Release = 0
+is_acquire Op.Radio = 0
 
 pub record Reports (o : Op) (p : ℕ) (r : Answer) (m m' : Queue) : Type 0 where
   pub success : ltb (printed r).code 0x20 ≡ false
-  pub moved : phases m' ≡ phasesAfter m.opening.named o p (printed r) (phases m)
+  pub moved : phases m' ≡ phases_after m.opening.named o p (printed r) (phases m)
   pub held : sum holding m' + takes (printed r).code ≡ sum holding m + gives (printed r).code
-  pub permits : cellSum permitCell m' + clears (printed r).code
-      ≡ cellSum permitCell m + leaves (printed r).code
-  pub refusals : cellSum refusedCell m' + meetsRefused (printed r).code
-      ≡ cellSum refusedCell m + marksRefused (printed r).code
-  pub counter : m'.figures.counter ≡ counterAfter (printed r).code m.figures.counter
+  pub permits : cell_sum permit_cell m' + clears (printed r).code
+      ≡ cell_sum permit_cell m + leaves (printed r).code
+  pub refusals : cell_sum refused_cell m' + meets_refused (printed r).code
+      ≡ cell_sum refused_cell m + marks_refused (printed r).code
+  pub counter : m'.figures.counter ≡ counter_after (printed r).code m.figures.counter
   pub resumed : m.figures.resumed ≤ m'.figures.resumed
-  pub begins : m'.figures.begun ≡ m.figures.begun + isAcquire o
+  pub begins : m'.figures.begun ≡ m.figures.begun + is_acquire o
   pub room : m'.figures.issued + sum drawing m' + m.figures.begun
       ≤ m.figures.issued + sum drawing m + m'.figures.begun
-  pub nearer : Nearer o (phaseIn (phases m) p) (sum toCalm m) (sum toCalm m') (sum drawing m)
+  pub nearer : Nearer o (phase_in (phases m) p) (sum to_calm m) (sum to_calm m') (sum drawing m)
       (sum drawing m') m.figures m'.figures
   pub serves : (xs : List ℕ) → AllBelow m.figures.resumed xs
-      → AllBelow m'.figures.resumed (servedAfter p (printed r) (phases m) xs)
+      → AllBelow m'.figures.resumed (served_after p (printed r) (phases m) xs)
 
 pub record Next (k : ℕ) (o : Op) (p : ℕ) (r : Answer) (m m' : Queue) : Type 0 where
   pub inv : Inv k m'
@@ -94,7 +94,7 @@ pub record Next (k : ℕ) (o : Op) (p : ℕ) (r : Answer) (m m' : Queue) : Type 
 
 -- A good move, before the tidying: no refusal by 1, nor of a busy party's step, and otherwise the above.
 abbrev pub Good : ℕ → Op → ℕ → Queue → Phase → Move → Type 0
-Good k o p m f (Refuse r) = isListed (Refuse r) && restsIf o f ≡ true
+Good k o p m f (Refuse r) = is_listed (Refuse r) && rests_if o f ≡ true
 Good k o p m f (Tell y) = Next k o p y m m
 Good k o p m f (Act c) = Next k o p c.answer m (acted m p c)
 Good k o p m f (Put a c) = Next k o p c.answer m (acted (placed m f a) p c)
@@ -103,19 +103,19 @@ Good k o p m f (Wake q s a c) =
 
 -- What a row's answer owes to the ledger and to calm: phase f to x, cell b to a, the figures e to h.
 pub record Says (o : Op) (f x : Phase) (b a : Place) (r : Answer) (e h : Figures) : Type 0 where
-  pub begins : h.begun ≡ e.begun + isAcquire o
-  pub nearer : Nearer o f (toCalm f) (toCalm x) (drawing f) (drawing x) e h
+  pub begins : h.begun ≡ e.begun + is_acquire o
+  pub nearer : Nearer o f (to_calm f) (to_calm x) (drawing f) (drawing x) e h
   pub held : holding x + takes (printed r).code ≡ holding f + gives (printed r).code
-  pub permits : permitCell a + clears (printed r).code ≡ permitCell b + leaves (printed r).code
-  pub refusals : refusedCell a + meetsRefused (printed r).code
-      ≡ refusedCell b + marksRefused (printed r).code
+  pub permits : permit_cell a + clears (printed r).code ≡ permit_cell b + leaves (printed r).code
+  pub refusals : refused_cell a + meets_refused (printed r).code
+      ≡ refused_cell b + marks_refused (printed r).code
 
 -- A queue with one slot, the cells and the figures set.
 abbrev pub set-in : Queue → ℕ → PartySlot → (ℕ → PlaceSlot) → Figures → Queue
-set-in m p s g h = withParts h g (writeSlot m.slots p s) m.pool m
+set-in m p s g h = with_parts h g (write_slot m.slots p s) m.pool m
 
 module _ (m : Queue) (p : ℕ) (f : Phase) (s : PartySlot) (t : ℕ) (i : p < length (phases m))
-    (e : phaseIn (phases m) p ≡ f) where
+    (e : phase_in (phases m) p ≡ f) where
   -- everybody's phase then
   set-phases : phases (set-in m p s m.cells m.figures) ≡ set (phases m) p s.phase
   set-phases = write-phase m.slots p s
@@ -127,20 +127,20 @@ module _ (m : Queue) (p : ℕ) (f : Phase) (s : PartySlot) (t : ℕ) (i : p < le
         size = ap length set-phases ∙ simp length-set;
         was = e;
         now =
-            ap (λ (l : List Phase). phaseIn l p) set-phases
+            ap (λ (l : List Phase). phase_in l p) set-phases
             ∙ get_or-set_same (phases m) p s.phase Phase.Free i;
         others = λ q y.
-            ap (λ (l : List Phase). phaseIn l q) set-phases
+            ap (λ (l : List Phase). phase_in l q) set-phases
             ∙ get_or-set_other (phases m) p q s.phase Phase.Free y;
         sums = λ w.
             subst
             (λ (l : List Phase). weight w l + w f ≡ weight w (phases m) + w s.phase)
             (sym set-phases)
             (omega (arith, weight-set w (phases m) p s.phase Phase.Free i, ap w e));
-        cellWas = e';
-        cellNow = ap (λ (c : PlaceSlot). c.place) (write_same m.cells t a);
-        cellOthers = λ u y. ap (λ (c : PlaceSlot). c.place) (write-other m.cells t a u y);
-        cellSums = λ w.
+        cell_was = e';
+        cell_now = ap (λ (c : PlaceSlot). c.place) (write_same m.cells t a);
+        cell_others = λ u y. ap (λ (c : PlaceSlot). c.place) (write-other m.cells t a u y);
+        cell_sums = λ w.
             omega (
               arith,
               sum-set (λ u. w (places m u)) (λ u. w (write m.cells t a u).place) 0 TICKETS t
@@ -158,25 +158,25 @@ module _ (m : Queue) (p : ℕ) (f : Phase) (s : PartySlot) (t : ℕ) (i : p < le
         size = ap length set-phases ∙ simp length-set;
         was = e;
         now =
-            ap (λ (l : List Phase). phaseIn l p) set-phases
+            ap (λ (l : List Phase). phase_in l p) set-phases
             ∙ get_or-set_same (phases m) p s.phase Phase.Free i;
         others = λ q y.
-            ap (λ (l : List Phase). phaseIn l q) set-phases
+            ap (λ (l : List Phase). phase_in l q) set-phases
             ∙ get_or-set_other (phases m) p q s.phase Phase.Free y;
         sums = λ w.
             subst
             (λ (l : List Phase). weight w l + w f ≡ weight w (phases m) + w s.phase)
             (sym set-phases)
             (omega (arith, weight-set w (phases m) p s.phase Phase.Free i, ap w e));
-        cellWas = e';
-        cellNow = e';
-        cellOthers = λ u y. refl;
-        cellSums = λ w. refl;
+        cell_was = e';
+        cell_now = e';
+        cell_others = λ u y. refl;
+        cell_sums = λ w. refl;
       }
 
 -- What the invariant counts of a phase, and of ticket t.
-abbrev pub weightsOf : ℕ → Phase → List ℕ
-weightsOf t f =
+abbrev pub weights_of : ℕ → Phase → List ℕ
+weights_of t f =
     holding f ∷ resuming f ∷ refusing f ∷ drawing f ∷ suspending f ∷ live f ∷ handing f ∷ cancelling f
     ∷ own t f ∷ hand t f ∷ stand t f ∷ refuse t f ∷ stage t f ∷ above t f ∷ []
 
@@ -185,22 +185,22 @@ module _ (k : ℕ) (m : Queue) (p : ℕ) (l : p < m.opening.parties) (inv : Inv 
   -- What the answer tells of the phases and of the counter.
   abbrev pub Tells : Op → Phase → Phase → Answer → ℤ → Type 0
   Tells o f x r c =
-      (phasesAfter m.opening.named o p (printed r) (phases m)
-      ≡ set (phases m) p (phaseAfter m.opening.named o (phaseIn (phases m) p) (printed r)))
-      × (phaseAfter m.opening.named o f (printed r) ≡ x)
-      × (c ≡ counterAfter (printed r).code m.figures.counter)
+      (phases_after m.opening.named o p (printed r) (phases m)
+      ≡ set (phases m) p (phase_after m.opening.named o (phase_in (phases m) p) (printed r)))
+      × (phase_after m.opening.named o f (printed r) ≡ x)
+      × (c ≡ counter_after (printed r).code m.figures.counter)
       × (ltb (printed r).code 0x20 ≡ false)
 
   abbrev pub Serves : ℕ → Answer → Type 0
   Serves d r =
       (xs : List ℕ) → AllBelow m.figures.resumed xs
-      → AllBelow d (servedAfter p (printed r) (phases m) xs)
+      → AllBelow d (served_after p (printed r) (phases m) xs)
 
-  told : (o : Op) (f x : Phase) (r : Answer) (c : ℤ) → phaseIn (phases m) p ≡ f → Tells o f x r c
-      → phasesAfter m.opening.named o p (printed r) (phases m) ≡ set (phases m) p x
+  told : (o : Op) (f x : Phase) (r : Answer) (c : ℤ) → phase_in (phases m) p ≡ f → Tells o f x r c
+      → phases_after m.opening.named o p (printed r) (phases m) ≡ set (phases m) p x
   told o f x r c e te =
       te.0
-      ∙ ap (λ g. set (phases m) p (phaseAfter m.opening.named o g (printed r))) e
+      ∙ ap (λ g. set (phases m) p (phase_after m.opening.named o g (printed r))) e
       ∙ ap (λ g. set (phases m) p g) te.1
 
   row : {o : Op} {f x : Phase} {t : ℕ} {b a : Place} (m' : Queue) (r : Answer)
@@ -218,8 +218,8 @@ module _ (k : ℕ) (m : Queue) (p : ℕ) (l : p < m.opening.parties) (inv : Inv 
               success = te.3;
               moved = ps ∙ sym (told o f x r _ sh.was te);
               held = omega (arith, sh.sums holding, sa.held);
-              permits = omega (arith, sh.cellSums permitCell, sa.permits);
-              refusals = omega (arith, sh.cellSums refusedCell, sa.refusals);
+              permits = omega (arith, sh.cell_sums permit_cell, sa.permits);
+              refusals = omega (arith, sh.cell_sums refused_cell, sa.refusals);
               counter = te.2;
               resumed = lo.later;
               begins = sa.begins;
@@ -227,7 +227,7 @@ module _ (k : ℕ) (m : Queue) (p : ℕ) (l : p < m.opening.parties) (inv : Inv 
               nearer =
                   omega (
                     arith,
-                    sh.sums toCalm,
+                    sh.sums to_calm,
                     sh.sums drawing,
                     ap (allowed o) sh.was,
                     sa.nearer,
@@ -238,7 +238,7 @@ module _ (k : ℕ) (m : Queue) (p : ℕ) (l : p < m.opening.parties) (inv : Inv 
 
   -- On the cell of ticket t; the figures stay.
   pub place-row : {o : Op} {f : Phase} {b : Place} {r : Answer} (s : PartySlot) (a : PlaceSlot) (t : ℕ)
-      → phaseIn (phases m) p ≡ f → places m t ≡ b → t < TICKETS
+      → phase_in (phases m) p ≡ f → places m t ≡ b → t < TICKETS
       → LocalIn m m.figures f s.phase t b a.place
       → BesideIn m m.figures f s.phase t → Names p t s.phase b a.place
       → Says o f s.phase b a.place r m.figures m.figures
@@ -250,7 +250,7 @@ module _ (k : ℕ) (m : Queue) (p : ℕ) (l : p < m.opening.parties) (inv : Inv 
 
   -- On no cell. The ticket t is one that the row says something of.
   pub phase-row : {o : Op} {f : Phase} {h : Figures} {r : Answer} (s : PartySlot) (t : ℕ)
-      → phaseIn (phases m) p ≡ f
+      → phase_in (phases m) p ≡ f
       → LocalIn m h f s.phase t (places m t) (places m t) → BesideIn m h f s.phase t
       → Names p t s.phase (places m t) (places m t)
       → Says o f s.phase (places m t) (places m t) r m.figures h
@@ -261,7 +261,7 @@ module _ (k : ℕ) (m : Queue) (p : ℕ) (l : p < m.opening.parties) (inv : Inv 
       (write-phase m.slots p s) refl lo be nm sa te sv
 
   -- An answer that moves nothing.
-  pub tell-row : {o : Op} {f : Phase} {r : Answer} → phaseIn (phases m) p ≡ f
+  pub tell-row : {o : Op} {f : Phase} {r : Answer} → phase_in (phases m) p ≡ f
       → Says o f f Place.Empty Place.Empty r m.figures m.figures
       → Tells o f f r m.figures.counter → Serves m.figures.resumed r
       → Next k o p r m m
@@ -288,7 +288,7 @@ module _ (k : ℕ) (m : Queue) (p : ℕ) (l : p < m.opening.parties) (inv : Inv 
       }
 
   -- A cell that the row leaves alone: its party stands there as before, or this one still does.
-  pub names-kept : (t : ℕ) (f x : Phase) → phaseIn (phases m) p ≡ f → stand t f ≤ stand t x
+  pub names-kept : (t : ℕ) (f x : Phase) → phase_in (phases m) p ≡ f → stand t f ≤ stand t x
       → Names p t x (places m t) (places m t)
   names-kept t f x e z = kept (places m t) refl
     where
@@ -299,7 +299,7 @@ module _ (k : ℕ) (m : Queue) (p : ℕ) (l : p < m.opening.parties) (inv : Inv 
             omega (
               arith,
               inv.tickets.named t q i,
-              ap (stand t) (ap (phaseIn (phases m)) w ∙ e),
+              ap (stand t) (ap (phase_in (phases m)) w ∙ e),
               stand-le t x,
             ),
         λ w. refl,
@@ -310,8 +310,8 @@ module _ (k : ℕ) (m : Queue) (p : ℕ) (l : p < m.opening.parties) (inv : Inv 
       kept Place.Done i = tt
 
   -- Between phases of which the invariant counts the same, the second none of radios; the figures stay.
-  pub still-row : {o : Op} {f : Phase} {r : Answer} (s : PartySlot) → phaseIn (phases m) p ≡ f
-      → ((t : ℕ) → weightsOf t f ≡ weightsOf t s.phase) → radioed s.phase ≡ 0
+  pub still-row : {o : Op} {f : Phase} {r : Answer} (s : PartySlot) → phase_in (phases m) p ≡ f
+      → ((t : ℕ) → weights_of t f ≡ weights_of t s.phase) → radioed s.phase ≡ 0
       → Says o f s.phase Place.Empty Place.Empty r m.figures m.figures
       → Tells o f s.phase r m.figures.counter → Serves m.figures.resumed r
       → Next k o p r m (set-in m p s m.cells m.figures)
@@ -346,5 +346,5 @@ module _ (k : ℕ) (m : Queue) (p : ℕ) (l : p < m.opening.parties) (inv : Inv 
       t : ℕ
       t = m.figures.issued
 
-      at : (u i : ℕ) → get_or (weightsOf u f) i 0 ≡ get_or (weightsOf u s.phase) i 0
+      at : (u i : ℕ) → get_or (weights_of u f) i 0 ≡ get_or (weights_of u s.phase) i 0
       at u i = ap (λ (l : List ℕ). get_or l i 0) (z u)

@@ -19,28 +19,28 @@ use Rattle.hub.specs.declared.record.Phase.{Phase}
 use Rattle.hub.specs.declared.record.Place.{Place}
 use Rattle.hub.specs.declared.record.Place.TheVariants.{Empty, Cancelled, Done}
 use Rattle.hub.specs.declared.record.Pool.{Pool}
-use Rattle.hub.specs.Answers.{printed, refusalCode}
+use Rattle.hub.specs.Answers.{printed, refusal_code}
 use Rattle.hub.specs.Basics.{weight}
 use Rattle.hub.specs.Calls.{answer_of, checked}
 use Rattle.hub.specs.Demand3.{AllBelow}
-use Rattle.hub.specs.Ledger.{Ledger, opened, phaseIn, succeeded, enter}
-use Rattle.hub.specs.Ledger.{phasesAfter, counterAfter, servedAfter}
-use Rattle.hub.specs.Look.{seenBy}
-use Rattle.hub.specs.Phases.{isOneOf, isPlaceOf, isCancelled}
-use Rattle.hub.specs.Queue.{Queue, phases, places, canSkip, skipped, skip, tidied}
-use Rattle.hub.specs.Queue.{apply, look, move_of, withPool, next, fresh}
-use Rattle.hub.specs.Record.{PARTIES, freeSlot, phasesOf}
+use Rattle.hub.specs.Ledger.{Ledger, opened, phase_in, succeeded, enter}
+use Rattle.hub.specs.Ledger.{phases_after, counter_after, served_after}
+use Rattle.hub.specs.Look.{seen_by}
+use Rattle.hub.specs.Phases.{is_one_of, is_place_of, is_cancelled}
+use Rattle.hub.specs.Queue.{Queue, phases, places, can_skip, skipped, skip, tidied}
+use Rattle.hub.specs.Queue.{apply, look, move_of, with_pool, next, fresh}
+use Rattle.hub.specs.Record.{PARTIES, free_slot, phases_of}
 use Rattle.hub.specs.Table.{decide}
 use Rattle.hub.proofs.Laws.Bools.{if-true, if-false}
 use Rattle.hub.proofs.Laws.Lists.{weight-replicate}
 use Rattle.hub.proofs.Laws.Phases.{place_of}
 use Rattle.hub.proofs.Laws.Printed.{few-refusals}
-use Rattle.hub.proofs.Laws.Ranges.{sumFrom, sum-zero}
+use Rattle.hub.proofs.Laws.Ranges.{sum_from, sum-zero}
 use Rattle.hub.proofs.Laws.Slots.{read-phase}
 use Rattle.hub.proofs.Invariant.Weights.{same_self, lt_no, lt-suc, pick, most}
 use Rattle.hub.proofs.Invariant.Weights.{holding, resuming, refusing, drawing, suspending}
 use Rattle.hub.proofs.Invariant.Weights.{live, handing, cancelling, radioed, own, hand, refuse, stage}
-use Rattle.hub.proofs.Invariant.Weights.{sum, permitCell, cancelledCell, refusedCell, cellSum}
+use Rattle.hub.proofs.Invariant.Weights.{sum, permit_cell, cancelled_cell, refused_cell, cell_sum}
 use Rattle.hub.proofs.Invariant.Weights.{TICKETS}
 use Rattle.hub.proofs.Invariant.Keep.{Inv, keep}
 use Rattle.hub.proofs.Invariant.Potential.{absent-rests}
@@ -48,7 +48,7 @@ use Rattle.hub.proofs.Invariant.Rows.{Good, Next}
 use Rattle.hub.proofs.Invariant.Walk.{decide-good, all_more}
 use Rattle.hub.proofs.Invariant.Skipped.{skipped-shift}
 
-pub is-cancelled : (a : Place) → isCancelled a ≡ true → a ≡ Cancelled
+pub is-cancelled : (a : Place) → is_cancelled a ≡ true → a ≡ Cancelled
 is-cancelled = place_of Cancelled
 
 -- What the tidying leaves alone.
@@ -56,21 +56,21 @@ pub record Quiet (m m' : Queue) : Type 0 where
   pub opening : m'.opening ≡ m.opening
   pub slots : m'.slots ≡ m.slots
   pub counter : m'.figures.counter ≡ m.figures.counter
-  pub permits : cellSum permitCell m' ≡ cellSum permitCell m
-  pub refusals : cellSum refusedCell m' ≡ cellSum refusedCell m
+  pub permits : cell_sum permit_cell m' ≡ cell_sum permit_cell m
+  pub refusals : cell_sum refused_cell m' ≡ cell_sum refused_cell m
   pub issued : m'.figures.issued ≡ m.figures.issued
   pub resumed : m.figures.resumed ≤ m'.figures.resumed
 
 -- One cancelled cell skipped: no party moves, and its cell is done.
 module _ (k : ℕ) (m : Queue) (inv : Inv k m) (e : places m m.figures.resumed ≡ Cancelled) where
   abbrev still : Phase
-  still = phaseIn (phases m) 0
+  still = phase_in (phases m) 0
 
   abbrev resumed : ℕ
   resumed = m.figures.resumed
 
   skipped-inv : Inv k (skipped m)
-  unfolding isPlaceOf
+  unfolding is_place_of
   skipped-inv =
       keep k m (skipped m) 0 still still resumed Cancelled Done inv (skipped-shift inv.tickets e still refl)
       (omega (
@@ -88,14 +88,14 @@ module _ (k : ℕ) (m : Queue) (inv : Inv k m) (e : places m m.figures.resumed �
       tt (omega (arith, inv.tickets.few)) refl
 
   skipped-quiet : Quiet m (skipped m)
-  unfolding isPlaceOf
+  unfolding is_place_of
   skipped-quiet =
       record {
         opening = refl;
         slots = refl;
         counter = refl;
-        permits = omega (arith, (skipped-shift inv.tickets e _ refl).cellSums permitCell);
-        refusals = omega (arith, (skipped-shift inv.tickets e _ refl).cellSums refusedCell);
+        permits = omega (arith, (skipped-shift inv.tickets e _ refl).cell_sums permit_cell);
+        refusals = omega (arith, (skipped-shift inv.tickets e _ refl).cell_sums refused_cell);
         issued = refl;
         resumed = omega arith;
       }
@@ -128,11 +128,11 @@ skip-keeps : (k n : ℕ) (m : Queue) → Inv k m → Inv k (skip n m) × Quiet m
 unfolding skip
 skip-keeps k zero m inv = (inv, quiet-self m)
 skip-keeps k (suc n) m inv =
-    go (canSkip m) refl
+    go (can_skip m) refl
     (λ c. skip-keeps k n (skipped m) (skipped-inv k m inv (is-cancelled _ c)))
   where
-    go : (b : Bool) → canSkip m ≡ b
-        → (canSkip m ≡ true → Inv k (skip n (skipped m)) × Quiet (skipped m) (skip n (skipped m)))
+    go : (b : Bool) → can_skip m ≡ b
+        → (can_skip m ≡ true → Inv k (skip n (skipped m)) × Quiet (skipped m) (skip n (skipped m)))
         → Inv k (cond b (skip n (skipped m)) m) × Quiet m (cond b (skip n (skipped m)) m)
     go false e f = (inv, quiet-self m)
     go true e f =
@@ -148,8 +148,8 @@ pub record Agrees (e : Ledger) (m : Queue) : Type 0 where
   pub replayed : e.phases ≡ phases m
   pub held : e.gave ≡ e.took + sum holding m
   pub counter : e.counter ≡ m.figures.counter
-  pub permits : e.left ≡ e.cleared + cellSum permitCell m
-  pub refusals : e.refused ≡ e.met + cellSum refusedCell m
+  pub permits : e.left ≡ e.cleared + cell_sum permit_cell m
+  pub refusals : e.refused ≡ e.met + cell_sum refused_cell m
   pub served : AllBelow m.figures.resumed e.served
 
 reports-agree : (k : ℕ) (o : Op) (p : ℕ) (r : Answer) (m m' : Queue) (e : Ledger)
@@ -159,16 +159,16 @@ reports-agree k o p r m m' e n a =
     record {
       named = a.named ∙ sym (ap (λ (x : Opening). x.named) n.opening);
       replayed =
-          ap₂ (λ (b : Bool). phasesAfter b o p (printed r)) a.named a.replayed
+          ap₂ (λ (b : Bool). phases_after b o p (printed r)) a.named a.replayed
           ∙ sym s.moved;
       held = omega (arith, a.held, s.held);
-      counter = ap (counterAfter (printed r).code) a.counter ∙ sym s.counter;
+      counter = ap (counter_after (printed r).code) a.counter ∙ sym s.counter;
       permits = omega (arith, a.permits, s.permits);
       refusals = omega (arith, a.refusals, s.refusals);
       served =
           subst
           (λ (l : List Phase).
-          AllBelow m'.figures.resumed (servedAfter p (printed r) l e.served))
+          AllBelow m'.figures.resumed (served_after p (printed r) l e.served))
           (sym a.replayed) (s.serves e.served a.served);
     }
 
@@ -176,10 +176,10 @@ quiet-agrees : (m m' : Queue) (e : Ledger) → Quiet m m' → Agrees e m → Agr
 quiet-agrees m m' e q a =
     record {
       named = a.named ∙ sym (ap (λ (x : Opening). x.named) q.opening);
-      replayed = a.replayed ∙ ap phasesOf (sym q.slots);
+      replayed = a.replayed ∙ ap phases_of (sym q.slots);
       held =
           a.held
-          ∙ ap (λ (l : List PartySlot). e.took + weight holding (phasesOf l)) (sym q.slots);
+          ∙ ap (λ (l : List PartySlot). e.took + weight holding (phases_of l)) (sym q.slots);
       counter = a.counter ∙ sym q.counter;
       permits = omega (arith, a.permits, q.permits);
       refusals = omega (arith, a.refusals, q.refusals);
@@ -189,8 +189,8 @@ quiet-agrees m m' e q a =
     }
 
 -- A refusal's code is below 20.
-pub refusal-code : (r : Refusal) → ltb (refusalCode r) 0x20 ≡ true
-refusal-code r = lt-ltb (refusalCode r) 0x20 (omega (arith, few-refusals r))
+pub refusal-code : (r : Refusal) → ltb (refusal_code r) 0x20 ≡ true
+refusal-code r = lt-ltb (refusal_code r) 0x20 (omega (arith, few-refusals r))
 
 abbrev pub entered : Ledger → Call → Answer → Ledger
 entered e c r = enter e (record { call = c; answer = printed r })
@@ -200,11 +200,11 @@ unfolding enter
 refused-same e c r = if-true _ e _ (refusal-code r)
 
 -- Radios do not matter to either.
-pub with-pool-inv : (k : ℕ) (m : Queue) (q : Pool) → Inv k m → Inv k (withPool q m)
+pub with-pool-inv : (k : ℕ) (m : Queue) (q : Pool) → Inv k m → Inv k (with_pool q m)
 with-pool-inv k m q i =
     record { tickets = i.tickets; owing = i.owing; order = i.order; radios = i.radios }
 
-with-pool-agrees : (e : Ledger) (m : Queue) (q : Pool) → Agrees e m → Agrees e (withPool q m)
+with-pool-agrees : (e : Ledger) (m : Queue) (q : Pool) → Agrees e m → Agrees e (with_pool q m)
 with-pool-agrees e m q a =
     record {
       named = a.named;
@@ -238,7 +238,7 @@ module _ (k : ℕ) (m : Queue) (inv : Inv k m) (c : Call) where
       → (e : Ledger) → Agrees e m
       → Inv k (apply m (look m c.party) v)
       × Agrees (entered e c (answer_of v)) (apply m (look m c.party) v)
-  unfolding apply seenBy
+  unfolding apply seen_by
   apply-good (Refuse r) g e a =
       (inv, subst (λ (x : Ledger). Agrees x m) (sym (refused-same e c r)) a)
   apply-good (Tell y) g e a = told y _ e a g
@@ -249,7 +249,7 @@ module _ (k : ℕ) (m : Queue) (inv : Inv k m) (c : Call) where
   pub move-good : (b : Bool) → ltb c.party m.opening.parties ≡ b
       → Good k c.op c.party m (look m c.party).slot.phase
       (checked true b (decide c.op false (look m c.party)))
-  unfolding checked seenBy
+  unfolding checked seen_by
   move-good false i =
       absent-rests c.op _
       (read-phase m.slots c.party ∙ inv.tickets.beyond c.party (ltb-false _ _ i))
@@ -264,14 +264,14 @@ module _ (k : ℕ) (m : Queue) (inv : Inv k m) (c : Call) where
 -- A queue just opened.
 module _ (o : Opening) where
   none : (w : Phase → ℕ) → w Phase.Free ≡ 0
-      → weight w (phasesOf (replicate PARTIES freeSlot)) ≡ 0
+      → weight w (phases_of (replicate PARTIES free_slot)) ≡ 0
   none w z = weight-replicate w Phase.Free z PARTIES
 
-  bare : (w : Place → ℕ) → w Empty ≡ 0 → sumFrom (λ t. w Empty) 0 TICKETS ≡ 0
+  bare : (w : Place → ℕ) → w Empty ≡ 0 → sum_from (λ t. w Empty) 0 TICKETS ≡ 0
   bare w z = sum-zero (λ t. w Empty) 0 TICKETS (λ t i j. z)
 
   pub fresh-inv : 1 ≤ o.parties → o.parties ≤ PARTIES → Inv o.permits (fresh o)
-  unfolding fresh pick isOneOf isPlaceOf
+  unfolding fresh pick is_one_of is_place_of
   fresh-inv a b =
       record {
         tickets =
@@ -286,7 +286,7 @@ module _ (o : Opening) where
                     none cancelling refl,
                     none suspending refl,
                     none handing refl,
-                    bare cancelledCell refl,
+                    bare cancelled_cell refl,
                   );
               balance =
                   omega (
@@ -295,8 +295,8 @@ module _ (o : Opening) where
                     none suspending refl,
                     none live refl,
                     none refusing refl,
-                    bare permitCell refl,
-                    bare refusedCell refl,
+                    bare permit_cell refl,
+                    bare refused_cell refl,
                   );
               borne = omega arith;
               drawn = omega (arith, none drawing refl);
@@ -315,13 +315,13 @@ module _ (o : Opening) where
         radios = λ p. omega (arith, ap radioed (all-free PARTIES p));
       }
     where
-      all-free : (n i : ℕ) → phaseIn (phasesOf (replicate n freeSlot)) i ≡ Phase.Free
+      all-free : (n i : ℕ) → phase_in (phases_of (replicate n free_slot)) i ≡ Phase.Free
       all-free zero i = refl
       all-free (suc n) zero = refl
       all-free (suc n) (suc i) = all-free n i
 
   pub fresh-agrees : Agrees (opened o) (fresh o)
-  unfolding fresh AllBelow pick isOneOf isPlaceOf
+  unfolding fresh AllBelow pick is_one_of is_place_of
   fresh-agrees =
       record {
         named = refl;
@@ -329,6 +329,6 @@ module _ (o : Opening) where
         counter = refl;
         served = tt;
         held = omega (arith, none holding refl);
-        permits = omega (arith, bare permitCell refl);
-        refusals = omega (arith, bare refusedCell refl);
+        permits = omega (arith, bare permit_cell refl);
+        refusals = omega (arith, bare refused_cell refl);
       }

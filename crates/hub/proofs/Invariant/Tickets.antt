@@ -12,14 +12,14 @@ use Rattle.hub.specs.declared.record.Place.{Place}
 use Rattle.hub.specs.declared.record.Place.TheVariants.{Empty, Waiting as WaitedBy, Permit}
 use Rattle.hub.specs.declared.record.Place.TheVariants.{Cancelled, Refused, Done}
 use Rattle.hub.specs.Basics.{weight}
-use Rattle.hub.specs.Ledger.{phaseIn}
-use Rattle.hub.specs.Phases.{isOneOf, isPlaceOf}
-use Rattle.hub.specs.Record.{PARTIES, MAX-BEGUN}
+use Rattle.hub.specs.Ledger.{phase_in}
+use Rattle.hub.specs.Phases.{is_one_of, is_place_of}
+use Rattle.hub.specs.Record.{PARTIES, MAX_BEGUN}
 use Rattle.hub.proofs.Laws.Lists.{weight-le, weight-add, weight-one, weight-all}
 use Rattle.hub.proofs.Invariant.Weights.{same, same_self, same-other, lt, lt-le, lt-pos}
 use Rattle.hub.proofs.Invariant.Weights.{pick, resuming, refusing, drawing, suspending}
 use Rattle.hub.proofs.Invariant.Weights.{live, handing, cancelling, own, hand, stand, stage}
-use Rattle.hub.proofs.Invariant.Weights.{permitCell, cancelledCell, refusedCell, spent, served}
+use Rattle.hub.proofs.Invariant.Weights.{permit_cell, cancelled_cell, refused_cell, spent, served}
 use Rattle.hub.proofs.Invariant.Weights.{least, most, total, TICKETS, stage-own, stand-le}
 use Rattle.hub.proofs.Invariant.Weights.{suspending-drawing, handing-resuming, carrying, carrying-resuming}
 
@@ -39,42 +39,42 @@ AtIn l i r t a = At t (weight (own t) l) (weight (hand t) l) (weight (stage t) l
 pub record Tickets (l : List Phase) (g : ℕ → Place) (n i r b q e : ℕ) : Type 0 where
   pub size : length l ≡ PARTIES
   pub few : (1 ≤ n) × (n ≤ PARTIES)
-  pub beyond : (p : ℕ) → n ≤ p → phaseIn l p ≡ Phase.Free
+  pub beyond : (p : ℕ) → n ≤ p → phase_in l p ≡ Phase.Free
   -- tickets to resume, drawn and to be drawn, are the tickets drawn and to be drawn
-  pub line : e + weight cancelling l + total cancelledCell g + r + q
+  pub line : e + weight cancelling l + total cancelled_cell g + r + q
       ≡ weight suspending l + i + weight handing l
   -- what is brought, lies there or is due is what is waited for or refused
-  pub balance : e + total permitCell g + q
-      ≡ weight suspending l + weight live l + weight refusing l + total refusedCell g
+  pub balance : e + total permit_cell g + q
+      ≡ weight suspending l + weight live l + weight refusing l + total refused_cell g
   pub borne : weight resuming l ≤ e
   pub drawn : i + weight drawing l ≤ b
-  pub begun : b ≤ MAX-BEGUN
+  pub begun : b ≤ MAX_BEGUN
   pub at : (t : ℕ) → AtIn l i r t (g t)
   -- the party of a waiting cell stands there
-  pub named : (t q : ℕ) → g t ≡ WaitedBy q → stand t (phaseIn l q) ≡ 1
+  pub named : (t q : ℕ) → g t ≡ WaitedBy q → stand t (phase_in l q) ≡ 1
 
 -- Party p goes from phase f to x, and the cell of ticket t from c to a.
 pub record Shift (l l' : List Phase) (g g' : ℕ → Place) (p : ℕ) (f x : Phase) (t : ℕ) (c a : Place)
     : Type 0 where
   pub size : length l' ≡ length l
-  pub was : phaseIn l p ≡ f
-  pub now : phaseIn l' p ≡ x
-  pub others : (q : ℕ) → q ≢ p → phaseIn l' q ≡ phaseIn l q
+  pub was : phase_in l p ≡ f
+  pub now : phase_in l' p ≡ x
+  pub others : (q : ℕ) → q ≢ p → phase_in l' q ≡ phase_in l q
   pub sums : (w : Phase → ℕ) → weight w l' + w f ≡ weight w l + w x
-  pub cellWas : g t ≡ c
-  pub cellNow : g' t ≡ a
-  pub cellOthers : (u : ℕ) → u ≢ t → g' u ≡ g u
-  pub cellSums : (w : Place → ℕ) → total w g' + w c ≡ total w g + w a
+  pub cell_was : g t ≡ c
+  pub cell_now : g' t ≡ a
+  pub cell_others : (u : ℕ) → u ≢ t → g' u ≡ g u
+  pub cell_sums : (w : Place → ℕ) → total w g' + w c ≡ total w g + w a
 
 -- What a move owes. Of each pair the second is after the move; s is the stage of t.
 pub record Owes (f x : Phase) (t : ℕ) (c a : Place) (i i' r r' b b' q q' e e' s : ℕ) : Type 0 where
-  pub line : e' + cancelling x + cancelledCell a + r' + q' + suspending f + i + handing f
-      ≡ e + cancelling f + cancelledCell c + r + q + suspending x + i' + handing x
-  pub balance : e' + permitCell a + q' + suspending f + live f + refusing f + refusedCell c
-      ≡ e + permitCell c + q + suspending x + live x + refusing x + refusedCell a
+  pub line : e' + cancelling x + cancelled_cell a + r' + q' + suspending f + i + handing f
+      ≡ e + cancelling f + cancelled_cell c + r + q + suspending x + i' + handing x
+  pub balance : e' + permit_cell a + q' + suspending f + live f + refusing f + refused_cell c
+      ≡ e + permit_cell c + q + suspending x + live x + refusing x + refused_cell a
   pub borne : e + resuming x ≤ e' + resuming f
   pub drawn : i' + drawing x + b ≤ i + drawing f + b'
-  pub begun : b ≤ MAX-BEGUN → b' ≤ MAX-BEGUN
+  pub begun : b ≤ MAX_BEGUN → b' ≤ MAX_BEGUN
   pub owned : own t x + spent a + lt t i ≡ own t f + spent c + lt t i'
   pub handed : hand t x + served a + lt t r ≡ hand t f + served c + lt t r'
   pub low : least a + stage t f ≤ s + stage t x
@@ -101,7 +101,7 @@ module _ {l l' : List Phase} {g g' : ℕ → Place} {p : ℕ} {f x : Phase} {t :
   at' : (u : ℕ) → Dec (u ≡ t) → AtIn l' i' r' u (g' u)
   at' u (yes z) =
       subst (λ (v : ℕ). AtIn l' i' r' v (g' v)) (sym z)
-      (subst (AtIn l' i' r' t) (sym sh.cellNow)
+      (subst (AtIn l' i' r' t) (sym sh.cell_now)
       (record {
         owned = omega (arith, before.owned, sh.sums (own t), ow.owned);
         handed = omega (arith, before.handed, sh.sums (hand t), ow.handed);
@@ -110,11 +110,11 @@ module _ {l l' : List Phase} {g g' : ℕ → Place} {p : ℕ} {f x : Phase} {t :
       }))
     where
       before : AtIn l i r t c
-      before = subst (AtIn l i r t) sh.cellWas (inv.at t)
+      before = subst (AtIn l i r t) sh.cell_was (inv.at t)
   at' u (no y) =
       let v = ow.away u (same-other t u (λ z. y (sym z))) in
       let w = ow.numbers u (same-other t u (λ z. y (sym z))) in
-      subst (AtIn l' i' r' u) (sym (sh.cellOthers u y))
+      subst (AtIn l' i' r' u) (sym (sh.cell_others u y))
       (record {
         owned = omega (arith, (inv.at u).owned, sh.sums (own u), v.0, w.0);
         handed = omega (arith, (inv.at u).handed, sh.sums (hand u), v.1, w.1);
@@ -123,11 +123,11 @@ module _ {l l' : List Phase} {g g' : ℕ → Place} {p : ℕ} {f x : Phase} {t :
       })
 
   named' : Names p t x c a → (u j : ℕ) → Dec (u ≡ t) → Dec (j ≡ p) → g' u ≡ WaitedBy j
-      → stand u (phaseIn l' j) ≡ 1
-  named' nm u j (yes z) dj e = go a nm (sym sh.cellNow ∙ ap g' (sym z) ∙ e) dj
+      → stand u (phase_in l' j) ≡ 1
+  named' nm u j (yes z) dj e = go a nm (sym sh.cell_now ∙ ap g' (sym z) ∙ e) dj
     where
       go : (d : Place) → Names p t x c d → d ≡ WaitedBy j → Dec (j ≡ p)
-          → stand u (phaseIn l' j) ≡ 1
+          → stand u (phase_in l' j) ≡ 1
       go Empty n e d = cc
       go Permit n e d = cc
       go Cancelled n e d = cc
@@ -138,7 +138,7 @@ module _ {l l' : List Phase} {g g' : ℕ → Place} {p : ℕ} {f x : Phase} {t :
           omega (
             arith,
             one,
-            ap (stand u) (ap (phaseIn l') y ∙ sh.now),
+            ap (stand u) (ap (phase_in l') y ∙ sh.now),
             ap (λ (v : ℕ). stand v x) z,
           )
       go (WaitedBy k) n e (no y) =
@@ -146,21 +146,21 @@ module _ {l l' : List Phase} {g g' : ℕ → Place} {p : ℕ} {f x : Phase} {t :
           let bj : c ≡ WaitedBy j = n.1 (λ i. y (sym e' ∙ i)) ∙ e in
           omega (
             arith,
-            inv.named t j (sh.cellWas ∙ bj),
+            inv.named t j (sh.cell_was ∙ bj),
             ap (stand u) (sh.others j y),
-            ap (λ (v : ℕ). stand v (phaseIn l j)) z,
+            ap (λ (v : ℕ). stand v (phase_in l j)) z,
           )
   named' nm u j (no y) (yes z) e =
       omega (
         arith,
-        inv.named u j (sym (sh.cellOthers u y) ∙ e),
+        inv.named u j (sym (sh.cell_others u y) ∙ e),
         (ow.away u (same-other t u (λ i. y (sym i)))).3,
-        ap (stand u) (ap (phaseIn l) z ∙ sh.was),
-        ap (stand u) (ap (phaseIn l') z ∙ sh.now),
+        ap (stand u) (ap (phase_in l) z ∙ sh.was),
+        ap (stand u) (ap (phase_in l') z ∙ sh.now),
         stand-le u x,
       )
   named' nm u j (no y) (no z) e =
-      omega (arith, inv.named u j (sym (sh.cellOthers u y) ∙ e), ap (stand u) (sh.others j z))
+      omega (arith, inv.named u j (sym (sh.cell_others u y) ∙ e), ap (stand u) (sh.others j z))
 
   -- Every move keeps it.
   pub keep-tickets : Names p t x c a → p < n → Tickets l' g' n i' r' b' q' e'
@@ -175,7 +175,7 @@ module _ {l l' : List Phase} {g g' : ℕ → Place} {p : ℕ} {f x : Phase} {t :
           sh.sums cancelling,
           sh.sums suspending,
           sh.sums handing,
-          sh.cellSums cancelledCell,
+          sh.cell_sums cancelled_cell,
           ow.line,
         );
         balance = omega (
@@ -184,8 +184,8 @@ module _ {l l' : List Phase} {g g' : ℕ → Place} {p : ℕ} {f x : Phase} {t :
           sh.sums suspending,
           sh.sums live,
           sh.sums refusing,
-          sh.cellSums permitCell,
-          sh.cellSums refusedCell,
+          sh.cell_sums permit_cell,
+          sh.cell_sums refused_cell,
           ow.balance,
         );
         borne = omega (arith, inv.borne, sh.sums resuming, ow.borne);
@@ -197,16 +197,16 @@ module _ {l l' : List Phase} {g g' : ℕ → Place} {p : ℕ} {f x : Phase} {t :
 
 -- What a row may use.
 module _ {l : List Phase} {g : ℕ → Place} {n i r b q e : ℕ} (inv : Tickets l g n i r b q e) where
-  pub one_in : (w : Phase → ℕ) (p : ℕ) (f : Phase) → w Phase.Free ≡ 0 → phaseIn l p ≡ f
+  pub one_in : (w : Phase → ℕ) (p : ℕ) (f : Phase) → w Phase.Free ≡ 0 → phase_in l p ≡ f
       → w f ≤ weight w l
   one_in w p f z h = omega (arith, weight-one w Phase.Free z l p, ap w h)
 
-  pub owner-below : (p t : ℕ) (f : Phase) → phaseIn l p ≡ f → 1 ≤ own t f → t < i
-  unfolding pick isOneOf
+  pub owner-below : (p t : ℕ) (f : Phase) → phase_in l p ≡ f → 1 ≤ own t f → t < i
+  unfolding pick is_one_of
   owner-below p t f h o = lt-pos t i (omega (arith, one_in (own t) p f refl h, (inv.at t).owned))
 
-  pub hand-below : (p t : ℕ) → phaseIn l p ≡ Phase.ResumingAt t → t < r
-  unfolding pick isOneOf
+  pub hand-below : (p t : ℕ) → phase_in l p ≡ Phase.ResumingAt t → t < r
+  unfolding pick is_one_of
   hand-below p t h =
       lt-pos t r
       (omega (
@@ -217,12 +217,12 @@ module _ {l : List Phase} {g : ℕ → Place} {n i r b q e : ℕ} (inv : Tickets
       ))
 
   pub permit-below : (t : ℕ) → g t ≡ Place.Permit → t < r
-  unfolding isPlaceOf
+  unfolding is_place_of
   permit-below t h = lt-pos t r (omega (arith, (inv.at t).handed, ap served h))
 
   pub drawing-most : weight suspending l ≤ weight drawing l
   drawing-most =
-      weight-le suspending drawing Phase.Free l (λ j h. suspending-drawing (phaseIn l j))
+      weight-le suspending drawing Phase.Free l (λ j h. suspending-drawing (phase_in l j))
 
   -- No more tickets are resumed than are issued or to be issued.
   pub resumed-most : r ≤ i + weight suspending l
@@ -231,7 +231,7 @@ module _ {l : List Phase} {g : ℕ → Place} {n i r b q e : ℕ} (inv : Tickets
         arith,
         inv.line,
         inv.borne,
-        weight-le handing resuming Phase.Free l (λ j h. handing-resuming (phaseIn l j)),
+        weight-le handing resuming Phase.Free l (λ j h. handing-resuming (phase_in l j)),
       )
 
   -- And fewer while somebody is to draw one.
@@ -242,25 +242,25 @@ module _ {l : List Phase} {g : ℕ → Place} {n i r b q e : ℕ} (inv : Tickets
         inv.line,
         inv.borne,
         weight-le (λ f. carrying f + handing f) resuming Phase.Free l
-            (λ j h. carrying-resuming (phaseIn l j)),
+            (λ j h. carrying-resuming (phase_in l j)),
         weight-add carrying handing l,
       )
 
   -- Tickets drawn, and drawn to resume, are few.
-  pub near : (i ≤ MAX-BEGUN) × (r ≤ MAX-BEGUN)
+  pub near : (i ≤ MAX_BEGUN) × (r ≤ MAX_BEGUN)
   near = omega (arith, inv.drawn, inv.begun, resumed-most, drawing-most)
 
   -- The one owner's stage is all there is of the stage.
-  pub exact : (p t : ℕ) (f : Phase) → phaseIn l p ≡ f → 1 ≤ own t f
+  pub exact : (p t : ℕ) (f : Phase) → phase_in l p ≡ f → 1 ≤ own t f
       → weight (stage t) l ≡ stage t f
-  unfolding pick isOneOf
+  unfolding pick is_one_of
   exact p t f h o =
       weight-all (stage t) (own t) Phase.Free (stage-own t) refl l p
       (omega (arith, (inv.at t).owned, lt-le t i)) (omega (arith, ap (own t) h))
       ∙ ap (stage t) h
 
   -- Whoever is not free is one of the parties.
-  pub party-in : (p : ℕ) (f : Phase) → phaseIn l p ≡ f → (f ≡ Phase.Free → ⊥) → p < n
+  pub party-in : (p : ℕ) (f : Phase) → phase_in l p ≡ f → (f ≡ Phase.Free → ⊥) → p < n
   party-in p f h y = go (dec_le (suc p) n)
     where
       go : Dec (suc p ≤ n) → p < n
@@ -271,7 +271,7 @@ module _ {l : List Phase} {g : ℕ → Place} {n i r b q e : ℕ} (inv : Tickets
   inside p j = omega (arith, inv.few, inv.size)
 
   -- What is known of a ticket that a party owns, and of a cell.
-  pub mine : (p t : ℕ) (f : Phase) → phaseIn l p ≡ f → 1 ≤ own t f
+  pub mine : (p t : ℕ) (f : Phase) → phase_in l p ≡ f → 1 ≤ own t f
       → (weight (stage t) l ≡ stage t f) × (t < i) × (t < TICKETS)
   mine p t f h o =
       let k = owner-below p t f h o in

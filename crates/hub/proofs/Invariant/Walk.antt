@@ -25,17 +25,17 @@ use Rattle.hub.specs.declared.record.Place.TheVariants.{Cancelled, Refused, Done
 use Rattle.hub.specs.declared.record.PlaceSlot.{PlaceSlot}
 use Rattle.hub.specs.Basics.{bit}
 use Rattle.hub.specs.Demand3.{AllBelow}
-use Rattle.hub.specs.Ledger.{phaseIn, phaseAfter, phasesAfter, counterAfter, servedAfter}
-use Rattle.hub.specs.Look.{seenBy, withNamed}
-use Rattle.hub.specs.Phases.{byTicket, byWaiter, isOneOf, isPlaceOf, isFree, isHolding}
-use Rattle.hub.specs.Phases.{isWaiting, ticketOf}
-use Rattle.hub.specs.Queue.{Queue, look, phases, places, withParts, write}
-use Rattle.hub.specs.Record.{MAX-BEGUN, emptySeat, freeSlot, read_slot, withPhase, withPlace, writeSlot}
-use Rattle.hub.specs.Table.{aboveZero, belowZero, acquire, canCancel, cancel, givenUp, release, decide}
-use Rattle.hub.specs.Table.{row_in, stepIn}
-use Rattle.hub.specs.Table.{stepAcquiring, stepSuspending, stepTicketed, stepReleasing}
-use Rattle.hub.specs.Table.{stepResuming, resumeWaiter, stepResumingAt, stepAborting}
-use Rattle.hub.specs.Table.{stepCancelling, stepRefusing, stepFetching, stepStoring, tellRadio}
+use Rattle.hub.specs.Ledger.{phase_in, phase_after, phases_after, counter_after, served_after}
+use Rattle.hub.specs.Look.{seen_by, with_named}
+use Rattle.hub.specs.Phases.{by_ticket, by_waiter, is_one_of, is_place_of, is_free, is_holding}
+use Rattle.hub.specs.Phases.{is_waiting, ticket_of}
+use Rattle.hub.specs.Queue.{Queue, look, phases, places, with_parts, write}
+use Rattle.hub.specs.Record.{MAX_BEGUN, empty_seat, free_slot, read_slot, with_phase, with_place, write_slot}
+use Rattle.hub.specs.Table.{above_zero, below_zero, acquire, can_cancel, cancel, given_up, release, decide}
+use Rattle.hub.specs.Table.{row_in, step_in}
+use Rattle.hub.specs.Table.{step_acquiring, step_suspending, step_ticketed, step_releasing}
+use Rattle.hub.specs.Table.{step_resuming, resume_waiter, step_resuming_at, step_aborting}
+use Rattle.hub.specs.Table.{step_cancelling, step_refusing, step_fetching, step_storing, tell_radio}
 use Rattle.hub.proofs.Laws.Lists.{weight-scale}
 use Rattle.hub.proofs.Laws.Phases.{one_of}
 use Rattle.hub.proofs.Laws.Slots.{read-phase, write-phase}
@@ -43,12 +43,12 @@ use Rattle.hub.proofs.Laws.Table.{can-cancel}
 use Rattle.hub.proofs.Invariant.Weights.{same, same_self, same-eq, lt_yes, lt_no, lt-le}
 use Rattle.hub.proofs.Invariant.Weights.{lt-suc, took-above, took-below, gave-above}
 use Rattle.hub.proofs.Invariant.Weights.{gave-below, pick, own, hand, stand, stand-own, stage, stage-waiting}
-use Rattle.hub.proofs.Invariant.Weights.{holding, drawing, permitCell, refusedCell, least}
-use Rattle.hub.proofs.Invariant.Weights.{most, sum, cellSum, TICKETS, stage-own, least-le}
+use Rattle.hub.proofs.Invariant.Weights.{holding, drawing, permit_cell, refused_cell, least}
+use Rattle.hub.proofs.Invariant.Weights.{most, sum, cell_sum, TICKETS, stage-own, least-le}
 use Rattle.hub.proofs.Invariant.Tickets.{AtIn, Names, one_in, exact, hand-below, permit-below}
 use Rattle.hub.proofs.Invariant.Tickets.{near, party-in, inside, mine, here}
 use Rattle.hub.proofs.Invariant.Keep.{Inv, ShiftIn, keep}
-use Rattle.hub.proofs.Invariant.Potential.{toCalm}
+use Rattle.hub.proofs.Invariant.Potential.{to_calm}
 use Rattle.hub.proofs.Invariant.Rows.{Good, set-in, write-twice, shift-place, shift-phase, still-row}
 use Rattle.hub.proofs.Invariant.Rows.{place-row, phase-row, tell-row, names-kept}
 
@@ -74,13 +74,13 @@ module _ (k : ℕ) (m : Queue) (p : ℕ) (l : p < m.opening.parties) (inv : Inv 
 
   -- What the party sees, had the hub radios or not.
   abbrev seeing : Bool → Sight
-  seeing v = withNamed v (look m p)
+  seeing v = with_named v (look m p)
 
   -- Rows on the counter alone. The ticket next issued stands for all: nothing happens to it.
-  asked : (u v : Bool) → aboveZero m.figures.counter ≡ u → m.opening.named ≡ v
-      → phaseIn (phases m) p ≡ Acquiring
-      → Good k Step p m Acquiring (stepAcquiring Suspending u (seeing v))
-  unfolding stepAcquiring pick isOneOf isPlaceOf seenBy phaseAfter phasesAfter counterAfter servedAfter
+  asked : (u v : Bool) → above_zero m.figures.counter ≡ u → m.opening.named ≡ v
+      → phase_in (phases m) p ≡ Acquiring
+      → Good k Step p m Acquiring (step_acquiring Suspending u (seeing v))
+  unfolding step_acquiring pick is_one_of is_place_of seen_by phase_after phases_after counter_after served_after
   asked true true e n f =
       phase-row k m p l inv _ issued f
       (omega (arith, inv.tickets.at issued, took-above m.figures.counter e, ap bit n))
@@ -100,10 +100,10 @@ module _ (k : ℕ) (m : Queue) (p : ℕ) (l : p < m.opening.parties) (inv : Inv 
       (names-kept k m p l inv issued _ _ f (omega arith))
       (omega arith) (refl, refl, refl, refl) (λ xs a. a)
 
-  asked-marked : (u v : Bool) → aboveZero m.figures.counter ≡ u → m.opening.named ≡ v
-      → phaseIn (phases m) p ≡ AcquiringMarked
-      → Good k Step p m AcquiringMarked (stepAcquiring SuspendingMarked u (seeing v))
-  unfolding stepAcquiring pick isOneOf isPlaceOf seenBy phaseAfter phasesAfter counterAfter servedAfter
+  asked-marked : (u v : Bool) → above_zero m.figures.counter ≡ u → m.opening.named ≡ v
+      → phase_in (phases m) p ≡ AcquiringMarked
+      → Good k Step p m AcquiringMarked (step_acquiring SuspendingMarked u (seeing v))
+  unfolding step_acquiring pick is_one_of is_place_of seen_by phase_after phases_after counter_after served_after
   asked-marked true true e n f =
       phase-row k m p l inv _ issued f
       (omega (arith, inv.tickets.at issued, took-above m.figures.counter e, ap bit n))
@@ -123,10 +123,10 @@ module _ (k : ℕ) (m : Queue) (p : ℕ) (l : p < m.opening.parties) (inv : Inv 
       (names-kept k m p l inv issued _ _ f (omega arith))
       (omega arith) (refl, refl, refl, refl) (λ xs a. a)
 
-  giving-back : (u v : Bool) → belowZero m.figures.counter ≡ u → m.opening.named ≡ v
-      → phaseIn (phases m) p ≡ Releasing
-      → Good k Step p m Releasing (stepReleasing u (seeing v))
-  unfolding stepReleasing pick isOneOf isPlaceOf seenBy phaseAfter phasesAfter counterAfter servedAfter
+  giving-back : (u v : Bool) → below_zero m.figures.counter ≡ u → m.opening.named ≡ v
+      → phase_in (phases m) p ≡ Releasing
+      → Good k Step p m Releasing (step_releasing u (seeing v))
+  unfolding step_releasing pick is_one_of is_place_of seen_by phase_after phases_after counter_after served_after
   giving-back true v e n f =
       phase-row k m p l inv _ issued f
       (omega (arith, inv.tickets.at issued, gave-below m.figures.counter e))
@@ -147,9 +147,9 @@ module _ (k : ℕ) (m : Queue) (p : ℕ) (l : p < m.opening.parties) (inv : Inv 
       (omega arith) (refl, rw n, refl, refl) (λ xs a. a)
 
   -- Rows on a radio: no permit moves.
-  fetching : (u : Bool) → phaseIn (phases m) p ≡ Fetching
-      → Good k Step p m Fetching (stepFetching u (look m p))
-  unfolding stepFetching pick isOneOf isPlaceOf seenBy phaseAfter phasesAfter counterAfter servedAfter
+  fetching : (u : Bool) → phase_in (phases m) p ≡ Fetching
+      → Good k Step p m Fetching (step_fetching u (look m p))
+  unfolding step_fetching pick is_one_of is_place_of seen_by phase_after phases_after counter_after served_after
   fetching true f =
       still-row k m p l inv _ f (λ t. refl) refl (omega arith) (refl, refl, refl, refl) (λ xs a. a)
   fetching false f = tell-row k m p l inv f (omega arith) (refl, refl, refl, refl) (λ xs a. a)
@@ -157,7 +157,7 @@ module _ (k : ℕ) (m : Queue) (p : ℕ) (l : p < m.opening.parties) (inv : Inv 
   -- A new ticket: nobody owned it, and its cell is empty or has a permit.
   fresh-cell : (least (places m issued) ≡ 0) × (1 ≤ most (places m issued))
       × (sum (stage issued) m ≡ 0)
-  unfolding isPlaceOf
+  unfolding is_place_of
   fresh-cell = go (places m issued) (inv.tickets.at issued)
     where
       none : sum (stage issued) m ≤ 3 * sum (own issued) m
@@ -165,7 +165,7 @@ module _ (k : ℕ) (m : Queue) (p : ℕ) (l : p < m.opening.parties) (inv : Inv 
           omega (
             arith,
             weight-scale 1 3 (stage issued) (own issued) Free (phases m)
-                (λ i j. omega (arith, stage-own issued (phaseIn (phases m) i))),
+                (λ i j. omega (arith, stage-own issued (phase_in (phases m) i))),
           )
 
       go : (b : Place) → AtIn (phases m) issued resumed issued b
@@ -177,9 +177,9 @@ module _ (k : ℕ) (m : Queue) (p : ℕ) (l : p < m.opening.parties) (inv : Inv 
       go Refused a = omega (arith, none, lt_no issued issued (omega arith))
       go Done a = omega (arith, none, lt_no issued issued (omega arith))
 
-  unnumbered : phaseIn (phases m) p ≡ Suspending
-      → Good k Step p m Suspending (stepSuspending Ticketed (look m p))
-  unfolding stepSuspending pick isOneOf isPlaceOf seenBy phaseAfter phasesAfter counterAfter servedAfter
+  unnumbered : phase_in (phases m) p ≡ Suspending
+      → Good k Step p m Suspending (step_suspending Ticketed (look m p))
+  unfolding step_suspending pick is_one_of is_place_of seen_by phase_after phases_after counter_after served_after
   unnumbered f =
       phase-row k m p l inv _ issued f
       (omega (
@@ -196,9 +196,9 @@ module _ (k : ℕ) (m : Queue) (p : ℕ) (l : p < m.opening.parties) (inv : Inv 
       (names-kept k m p l inv issued _ _ f (omega arith))
       (omega arith) (refl, refl, refl, refl) (λ xs a. a)
 
-  unnumbered-marked : phaseIn (phases m) p ≡ SuspendingMarked
-      → Good k Step p m SuspendingMarked (stepSuspending TicketedMarked (look m p))
-  unfolding stepSuspending pick isOneOf isPlaceOf seenBy phaseAfter phasesAfter counterAfter servedAfter
+  unnumbered-marked : phase_in (phases m) p ≡ SuspendingMarked
+      → Good k Step p m SuspendingMarked (step_suspending TicketedMarked (look m p))
+  unfolding step_suspending pick is_one_of is_place_of seen_by phase_after phases_after counter_after served_after
   unnumbered-marked f =
       phase-row k m p l inv _ issued f
       (omega (
@@ -215,9 +215,9 @@ module _ (k : ℕ) (m : Queue) (p : ℕ) (l : p < m.opening.parties) (inv : Inv 
       (names-kept k m p l inv issued _ _ f (omega arith))
       (omega arith) (refl, refl, refl, refl) (λ xs a. a)
 
-  carrying : phaseIn (phases m) p ≡ Resuming
-      → Good k Step p m Resuming (stepResuming (look m p))
-  unfolding stepResuming pick isOneOf isPlaceOf seenBy phaseAfter phasesAfter counterAfter servedAfter
+  carrying : phase_in (phases m) p ≡ Resuming
+      → Good k Step p m Resuming (step_resuming (look m p))
+  unfolding step_resuming pick is_one_of is_place_of seen_by phase_after phases_after counter_after served_after
   carrying f =
       phase-row k m p l inv _ resumed f
       (omega (
@@ -236,7 +236,7 @@ module _ (k : ℕ) (m : Queue) (p : ℕ) (l : p < m.opening.parties) (inv : Inv 
 
   -- Rows on the cell of the party's own ticket t. Where the table lists none, the owner's stage
   -- is not one that the cell allows.
-  module _ (t : ℕ) (f : Phase) (e : phaseIn (phases m) p ≡ f) (o : 1 ≤ own t f) where
+  module _ (t : ℕ) (f : Phase) (e : phase_in (phases m) p ≡ f) (o : 1 ≤ own t f) where
     few : t < TICKETS
     few = (mine inv.tickets p t f e o).2
 
@@ -248,9 +248,9 @@ module _ (k : ℕ) (m : Queue) (p : ℕ) (l : p < m.opening.parties) (inv : Inv 
   owns : (t : ℕ) → 1 ≤ same t t
   owns t = omega (arith, same_self t)
 
-  numbered : (t : ℕ) (a : Place) → places m t ≡ a → phaseIn (phases m) p ≡ Ticketed t
-      → Good k Step p m (Ticketed t) (stepTicketed (Waiting t) t a (look m p))
-  unfolding stepTicketed pick isOneOf isPlaceOf seenBy phaseAfter phasesAfter counterAfter servedAfter AllBelow
+  numbered : (t : ℕ) (a : Place) → places m t ≡ a → phase_in (phases m) p ≡ Ticketed t
+      → Good k Step p m (Ticketed t) (step_ticketed (Waiting t) t a (look m p))
+  unfolding step_ticketed pick is_one_of is_place_of seen_by phase_after phases_after counter_after served_after AllBelow
   numbered t Empty i e =
       place-row k m p l inv _ _ t e i (few t _ e (owns t))
       (omega (arith, same_self t, known t _ e (owns t) _ i)) (omega arith)
@@ -263,7 +263,7 @@ module _ (k : ℕ) (m : Queue) (p : ℕ) (l : p < m.opening.parties) (inv : Inv 
         numbers = λ v y. (refl, refl);
         order = λ v h j. omega (arith, lt_no v t (omega arith));
       })
-      tt (omega arith) (refl, refl, refl, refl) (λ xs a. (omega (arith, ap ticketOf e), a))
+      tt (omega arith) (refl, refl, refl, refl) (λ xs a. (omega (arith, ap ticket_of e), a))
   numbered t (WaitedBy q) i e =
       let y : ⊥ = omega (arith, same_self t, known t _ e (owns t) _ i) in absurd y
   numbered t Cancelled i e =
@@ -273,9 +273,9 @@ module _ (k : ℕ) (m : Queue) (p : ℕ) (l : p < m.opening.parties) (inv : Inv 
   numbered t Done i e =
       let y : ⊥ = omega (arith, same_self t, known t _ e (owns t) _ i) in absurd y
 
-  numbered-marked : (t : ℕ) (a : Place) → places m t ≡ a → phaseIn (phases m) p ≡ TicketedMarked t
-      → Good k Step p m (TicketedMarked t) (stepTicketed (Aborting t) t a (look m p))
-  unfolding stepTicketed pick isOneOf isPlaceOf seenBy phaseAfter phasesAfter counterAfter servedAfter AllBelow
+  numbered-marked : (t : ℕ) (a : Place) → places m t ≡ a → phase_in (phases m) p ≡ TicketedMarked t
+      → Good k Step p m (TicketedMarked t) (step_ticketed (Aborting t) t a (look m p))
+  unfolding step_ticketed pick is_one_of is_place_of seen_by phase_after phases_after counter_after served_after AllBelow
   numbered-marked t Empty i e =
       place-row k m p l inv _ _ t e i (few t _ e (owns t))
       (omega (arith, same_self t, known t _ e (owns t) _ i)) (omega arith)
@@ -288,7 +288,7 @@ module _ (k : ℕ) (m : Queue) (p : ℕ) (l : p < m.opening.parties) (inv : Inv 
         numbers = λ v y. (refl, refl);
         order = λ v h j. omega (arith, lt_no v t (omega arith));
       })
-      tt (omega arith) (refl, refl, refl, refl) (λ xs a. (omega (arith, ap ticketOf e), a))
+      tt (omega arith) (refl, refl, refl, refl) (λ xs a. (omega (arith, ap ticket_of e), a))
   numbered-marked t (WaitedBy q) i e =
       let y : ⊥ = omega (arith, same_self t, known t _ e (owns t) _ i) in absurd y
   numbered-marked t Cancelled i e =
@@ -298,9 +298,9 @@ module _ (k : ℕ) (m : Queue) (p : ℕ) (l : p < m.opening.parties) (inv : Inv 
   numbered-marked t Done i e =
       let y : ⊥ = omega (arith, same_self t, known t _ e (owns t) _ i) in absurd y
 
-  cancelling : (t : ℕ) (a : Place) → places m t ≡ a → phaseIn (phases m) p ≡ Cancelling t
-      → Good k Step p m (Cancelling t) (stepCancelling t a (look m p))
-  unfolding stepCancelling pick isOneOf isPlaceOf seenBy phaseAfter phasesAfter counterAfter servedAfter
+  cancelling : (t : ℕ) (a : Place) → places m t ≡ a → phase_in (phases m) p ≡ Cancelling t
+      → Good k Step p m (Cancelling t) (step_cancelling t a (look m p))
+  unfolding step_cancelling pick is_one_of is_place_of seen_by phase_after phases_after counter_after served_after
   cancelling t (WaitedBy q) i e =
       place-row k m p l inv _ _ t e i (few t _ e (owns t))
       (omega (arith, same_self t, known t _ e (owns t) _ i)) (omega arith)
@@ -318,9 +318,9 @@ module _ (k : ℕ) (m : Queue) (p : ℕ) (l : p < m.opening.parties) (inv : Inv 
   cancelling t Done i e =
       let y : ⊥ = omega (arith, same_self t, known t _ e (owns t) _ i) in absurd y
 
-  refusing : (t : ℕ) (a : Place) → places m t ≡ a → phaseIn (phases m) p ≡ Refusing t
-      → Good k Step p m (Refusing t) (stepRefusing t a (look m p))
-  unfolding stepRefusing pick isOneOf isPlaceOf seenBy phaseAfter phasesAfter counterAfter servedAfter
+  refusing : (t : ℕ) (a : Place) → places m t ≡ a → phase_in (phases m) p ≡ Refusing t
+      → Good k Step p m (Refusing t) (step_refusing t a (look m p))
+  unfolding step_refusing pick is_one_of is_place_of seen_by phase_after phases_after counter_after served_after
   refusing t (WaitedBy q) i e =
       place-row k m p l inv _ _ t e i (few t _ e (owns t))
       (omega (arith, same_self t, known t _ e (owns t) _ i)) (omega arith)
@@ -338,10 +338,10 @@ module _ (k : ℕ) (m : Queue) (p : ℕ) (l : p < m.opening.parties) (inv : Inv 
   refusing t Done i e =
       let y : ⊥ = omega (arith, same_self t, known t _ e (owns t) _ i) in absurd y
 
-  giving-up : (t : ℕ) (z : Bool) → belowZero m.figures.counter ≡ z
-      → phaseIn (phases m) p ≡ Aborting t
-      → Good k Step p m (Aborting t) (stepAborting t z (look m p))
-  unfolding stepAborting pick isOneOf isPlaceOf seenBy phaseAfter phasesAfter counterAfter servedAfter
+  giving-up : (t : ℕ) (z : Bool) → below_zero m.figures.counter ≡ z
+      → phase_in (phases m) p ≡ Aborting t
+      → Good k Step p m (Aborting t) (step_aborting t z (look m p))
+  unfolding step_aborting pick is_one_of is_place_of seen_by phase_after phases_after counter_after served_after
   giving-up t true c e =
       phase-row k m p l inv _ t e
       (omega (arith, same_self t, known t _ e (owns t) _ refl, gave-below m.figures.counter c))
@@ -362,7 +362,7 @@ module _ (k : ℕ) (m : Queue) (p : ℕ) (l : p < m.opening.parties) (inv : Inv 
       (λ xs a. a)
 
   -- Rows of a hand-over. The party owns no ticket; the owner's stage is what the cell allows.
-  module _ (t : ℕ) (e : phaseIn (phases m) p ≡ ResumingAt t) where
+  module _ (t : ℕ) (e : phase_in (phases m) p ≡ ResumingAt t) where
     below : t < resumed
     below = hand-below inv.tickets p t e
 
@@ -372,7 +372,7 @@ module _ (k : ℕ) (m : Queue) (p : ℕ) (l : p < m.opening.parties) (inv : Inv 
     -- the one hand that ticket t has
     held : (a : Place) → places m t ≡ a
         → AtIn (phases m) issued resumed t a × (1 ≤ sum (hand t) m)
-    unfolding pick isOneOf
+    unfolding pick is_one_of
     held a i = (
       here inv.tickets t a i,
       omega (arith, one_in inv.tickets (hand t) p (ResumingAt t) refl e, same_self t),
@@ -380,29 +380,29 @@ module _ (k : ℕ) (m : Queue) (p : ℕ) (l : p < m.opening.parties) (inv : Inv 
 
     -- the waiter has given up: the permit is left to it
     delegated : (q : ℕ) → places m t ≡ WaitedBy q
-        → isWaiting (phaseIn (phases m) q) ≡ false
-        → Good k Step p m (ResumingAt t) (resumeWaiter false q t (look m p))
-    unfolding resumeWaiter pick isOneOf isPlaceOf seenBy phaseAfter phasesAfter counterAfter servedAfter
+        → is_waiting (phase_in (phases m) q) ≡ false
+        → Good k Step p m (ResumingAt t) (resume_waiter false q t (look m p))
+    unfolding resume_waiter pick is_one_of is_place_of seen_by phase_after phases_after counter_after served_after
     delegated q i w =
         place-row k m p l inv _ _ t e i reach
         (omega (arith, same_self t, here inv.tickets t (WaitedBy q) i, still)) (omega arith)
         tt (omega arith) (refl, refl, refl, refl) (λ xs a. a)
       where
-        gone : (g : Phase) → isWaiting g ≡ false → stand t g ≡ 1
+        gone : (g : Phase) → is_waiting g ≡ false → stand t g ≡ 1
             → (stage t g ≤ 2) × (1 ≤ own t g)
         gone g y o = omega (arith, stage-waiting t g, stand-own t g, ap bit y)
 
         still : sum (stage t) m ≤ 2
         still =
-            let g = gone (phaseIn (phases m) q) w (inv.tickets.named t q i) in
+            let g = gone (phase_in (phases m) q) w (inv.tickets.named t q i) in
             omega (
               arith,
-              exact inv.tickets q t (phaseIn (phases m) q) refl g.1,
+              exact inv.tickets q t (phase_in (phases m) q) refl g.1,
               g.0,
             )
 
     -- The waiter is woken: as if it gave up, the permit were left there, and it took it.
-    module _ (q : ℕ) (i : places m t ≡ WaitedBy q) (g : phaseIn (phases m) q ≡ Waiting t) where
+    module _ (q : ℕ) (i : places m t ≡ WaitedBy q) (g : phase_in (phases m) q ≡ Waiting t) where
       party : q < m.opening.parties
       party =
           party-in inv.tickets q (Waiting t) g
@@ -412,28 +412,28 @@ module _ (k : ℕ) (m : Queue) (p : ℕ) (l : p < m.opening.parties) (inv : Inv 
       other z = let y : ◌≡◌ {A = ℕ} 0 1 = cc in omega arith
 
       m₁ : Queue
-      m₁ = set-in m q (withPhase (Aborting t) freeSlot) m.cells m.figures
+      m₁ = set-in m q (with_phase (Aborting t) free_slot) m.cells m.figures
 
       m₂ : Queue
       unfolding m₁
       m₂ =
-          set-in m₁ p (withPhase Free (look m p).slot)
-          (write m₁.cells t (withPlace Permit emptySeat)) m.figures
+          set-in m₁ p (with_phase Free (look m p).slot)
+          (write m₁.cells t (with_place Permit empty_seat)) m.figures
 
       m₃ : Queue
       unfolding m₁ m₂
       m₃ =
-          set-in m₂ q (withPhase Holding (look m p).waiter)
-          (write m₂.cells t (withPlace Done (look m p).seat)) m.figures
+          set-in m₂ q (with_phase Holding (look m p).waiter)
+          (write m₂.cells t (with_place Done (look m p).seat)) m.figures
 
       s₁ : ShiftIn m m₁ q (Waiting t) (Aborting t) t (WaitedBy q) (WaitedBy q)
       unfolding m₁
       s₁ =
-          shift-phase m q (Waiting t) (withPhase (Aborting t) freeSlot) t
+          shift-phase m q (Waiting t) (with_phase (Aborting t) free_slot) t
           (inside inv.tickets q party) g (WaitedBy q) m.figures i
 
       i₁ : Inv k m₁
-      unfolding m₁ pick isOneOf isPlaceOf
+      unfolding m₁ pick is_one_of is_place_of
       i₁ =
           keep k m m₁ q (Waiting t) (Aborting t) t (WaitedBy q) (WaitedBy q) inv s₁
           (omega (arith, same_self t, exact inv.tickets q t (Waiting t) g (owns t)))
@@ -443,12 +443,12 @@ module _ (k : ℕ) (m : Queue) (p : ℕ) (l : p < m.opening.parties) (inv : Inv 
       s₂ : ShiftIn m₁ m₂ p (ResumingAt t) Free t (WaitedBy q) Permit
       unfolding m₁ m₂
       s₂ =
-          shift-place m₁ p (ResumingAt t) (withPhase Free (look m p).slot) t
+          shift-place m₁ p (ResumingAt t) (with_phase Free (look m p).slot) t
           (omega (arith, s₁.size, inside inv.tickets p l)) (s₁.others p other ∙ e)
-          (WaitedBy q) (withPlace Permit emptySeat) m.figures i reach
+          (WaitedBy q) (with_place Permit empty_seat) m.figures i reach
 
       i₂ : Inv k m₂
-      unfolding m₁ m₂ pick isOneOf isPlaceOf
+      unfolding m₁ m₂ pick is_one_of is_place_of
       i₂ =
           keep k m₁ m₂ p (ResumingAt t) Free t (WaitedBy q) Permit i₁ s₂
           (omega (arith, same_self t, exact i₁.tickets q t (Aborting t) s₁.now (owns t)))
@@ -457,13 +457,13 @@ module _ (k : ℕ) (m : Queue) (p : ℕ) (l : p < m.opening.parties) (inv : Inv 
       s₃ : ShiftIn m₂ m₃ q (Aborting t) Holding t Permit Done
       unfolding m₁ m₂ m₃
       s₃ =
-          shift-place m₂ q (Aborting t) (withPhase Holding (look m p).waiter) t
+          shift-place m₂ q (Aborting t) (with_phase Holding (look m p).waiter) t
           (omega (arith, s₁.size, s₂.size, inside inv.tickets q party))
           (s₂.others q (λ z. other (sym z)) ∙ s₁.now)
-          Permit (withPlace Done (look m p).seat) m.figures s₂.cellNow reach
+          Permit (with_place Done (look m p).seat) m.figures s₂.cell_now reach
 
       i₃ : Inv k m₃
-      unfolding m₁ m₂ m₃ pick isOneOf isPlaceOf
+      unfolding m₁ m₂ m₃ pick is_one_of is_place_of
       i₃ =
           keep k m₂ m₃ q (Aborting t) Holding t Permit Done i₂ s₃
           (omega (arith, same_self t, exact i₂.tickets q t (Aborting t) s₃.was (owns t)))
@@ -475,32 +475,32 @@ module _ (k : ℕ) (m : Queue) (p : ℕ) (l : p < m.opening.parties) (inv : Inv 
 
       -- the three at once
       abbrev together : (ℕ → PlaceSlot) → List PartySlot → Queue
-      together c ss = withParts m.figures c ss m.pool m
+      together c ss = with_parts m.figures c ss m.pool m
 
       abbrev three : Queue
       three =
-          together (write m.cells t (withPlace Done (look m p).seat))
-          (writeSlot (writeSlot m.slots q (withPhase Holding (look m p).waiter)) p
-          (withPhase Free (look m p).slot))
+          together (write m.cells t (with_place Done (look m p).seat))
+          (write_slot (write_slot m.slots q (with_phase Holding (look m p).waiter)) p
+          (with_phase Free (look m p).slot))
 
       at_once : m₃ ≡ three
-      unfolding m₁ m₂ m₃ writeSlot
+      unfolding m₁ m₂ m₃ write_slot
       at_once =
           ap
           (λ (c : ℕ → PlaceSlot).
           together c
-          (set (set (set m.slots q (withPhase (Aborting t) freeSlot)) p
-          (withPhase Free (look m p).slot)) q (withPhase Holding (look m p).waiter)))
-          (write-twice m.cells t (withPlace Permit emptySeat) (withPlace Done (look m p).seat))
-          ∙ ap (together (write m.cells t (withPlace Done (look m p).seat)))
-          (set_comm (set m.slots q (withPhase (Aborting t) freeSlot)) p q
-          (withPhase Free (look m p).slot) (withPhase Holding (look m p).waiter) other
-          ∙ ap (λ (ss : List PartySlot). set ss p (withPhase Free (look m p).slot))
-          (set-set m.slots q (withPhase (Aborting t) freeSlot)
-          (withPhase Holding (look m p).waiter)))
+          (set (set (set m.slots q (with_phase (Aborting t) free_slot)) p
+          (with_phase Free (look m p).slot)) q (with_phase Holding (look m p).waiter)))
+          (write-twice m.cells t (with_place Permit empty_seat) (with_place Done (look m p).seat))
+          ∙ ap (together (write m.cells t (with_place Done (look m p).seat)))
+          (set_comm (set m.slots q (with_phase (Aborting t) free_slot)) p q
+          (with_phase Free (look m p).slot) (with_phase Holding (look m p).waiter) other
+          ∙ ap (λ (ss : List PartySlot). set ss p (with_phase Free (look m p).slot))
+          (set-set m.slots q (with_phase (Aborting t) free_slot)
+          (with_phase Holding (look m p).waiter)))
 
-      wakes : Good k Step p m (ResumingAt t) (resumeWaiter true q t (look m p))
-      unfolding m₁ m₂ m₃ resumeWaiter pick isOneOf isPlaceOf seenBy phaseAfter phasesAfter counterAfter servedAfter
+      wakes : Good k Step p m (ResumingAt t) (resume_waiter true q t (look m p))
+      unfolding m₁ m₂ m₃ resume_waiter pick is_one_of is_place_of seen_by phase_after phases_after counter_after served_after
           AllBelow
       wakes =
           record {
@@ -510,10 +510,10 @@ module _ (k : ℕ) (m : Queue) (p : ℕ) (l : p < m.opening.parties) (inv : Inv 
                 record {
                   success = refl;
                   moved =
-                      write-phase (writeSlot m.slots q (withPhase Holding (look m p).waiter)) p
-                      (withPhase Free (look m p).slot)
+                      write-phase (write_slot m.slots q (with_phase Holding (look m p).waiter)) p
+                      (with_phase Free (look m p).slot)
                       ∙ ap (λ (ps : List Phase). set ps p Free)
-                      (write-phase m.slots q (withPhase Holding (look m p).waiter));
+                      (write-phase m.slots q (with_phase Holding (look m p).waiter));
                   held =
                       omega (
                         arith,
@@ -525,18 +525,18 @@ module _ (k : ℕ) (m : Queue) (p : ℕ) (l : p < m.opening.parties) (inv : Inv 
                   permits =
                       omega (
                         arith,
-                        ap (cellSum permitCell) at_once,
-                        s₁.cellSums permitCell,
-                        s₂.cellSums permitCell,
-                        s₃.cellSums permitCell,
+                        ap (cell_sum permit_cell) at_once,
+                        s₁.cell_sums permit_cell,
+                        s₂.cell_sums permit_cell,
+                        s₃.cell_sums permit_cell,
                       );
                   refusals =
                       omega (
                         arith,
-                        ap (cellSum refusedCell) at_once,
-                        s₁.cellSums refusedCell,
-                        s₂.cellSums refusedCell,
-                        s₃.cellSums refusedCell,
+                        ap (cell_sum refused_cell) at_once,
+                        s₁.cell_sums refused_cell,
+                        s₂.cell_sums refused_cell,
+                        s₃.cell_sums refused_cell,
                       );
                   counter = refl;
                   resumed = omega arith;
@@ -552,45 +552,45 @@ module _ (k : ℕ) (m : Queue) (p : ℕ) (l : p < m.opening.parties) (inv : Inv 
                   nearer =
                       omega (
                         arith,
-                        ap (sum toCalm) at_once,
-                        s₁.sums toCalm,
-                        s₂.sums toCalm,
-                        s₃.sums toCalm,
+                        ap (sum to_calm) at_once,
+                        s₁.sums to_calm,
+                        s₂.sums to_calm,
+                        s₃.sums to_calm,
                         ap (sum drawing) at_once,
                         s₁.sums drawing,
                         s₂.sums drawing,
                         s₃.sums drawing,
                       );
-                  serves = λ xs a. (omega (arith, below, ap ticketOf g), a);
+                  serves = λ xs a. (omega (arith, below, ap ticket_of g), a);
                 };
           }
 
-    waits-here : (g : Phase) → isWaiting g ≡ true → stand t g ≡ 1 → g ≡ Waiting t
-    unfolding pick isOneOf
+    waits-here : (g : Phase) → is_waiting g ≡ true → stand t g ≡ 1 → g ≡ Waiting t
+    unfolding pick is_one_of
     waits-here g y o =
         let w = one_of (Waiting 0) g y in
-        w ∙ ap Waiting (same-eq (ticketOf g) t (omega (arith, ap (stand t) w)))
+        w ∙ ap Waiting (same-eq (ticket_of g) t (omega (arith, ap (stand t) w)))
 
     handing : (a : Place) → places m t ≡ a → (look m p).seat.place ≡ a
-        → Good k Step p m (ResumingAt t) (stepResumingAt t (isWaiting (look m p).waiter.phase) a (look m p))
-    unfolding stepResumingAt pick isOneOf isPlaceOf seenBy phaseAfter phasesAfter counterAfter servedAfter
+        → Good k Step p m (ResumingAt t) (step_resuming_at t (is_waiting (look m p).waiter.phase) a (look m p))
+    unfolding step_resuming_at pick is_one_of is_place_of seen_by phase_after phases_after counter_after served_after
     handing Empty i j =
         place-row k m p l inv _ _ t e i reach (omega (arith, same_self t, held Empty i))
         (omega arith) tt (omega arith) (refl, refl, refl, refl) (λ xs a. a)
-    handing (WaitedBy q) i j = go (isWaiting (look m p).waiter.phase) refl
+    handing (WaitedBy q) i j = go (is_waiting (look m p).waiter.phase) refl
       where
-        same-waiter : (look m p).waiter.phase ≡ phaseIn (phases m) q
+        same-waiter : (look m p).waiter.phase ≡ phase_in (phases m) q
         same-waiter =
-            ap (λ (a : Place). (byWaiter freeSlot (read_slot m.slots) a).phase) j
+            ap (λ (a : Place). (by_waiter free_slot (read_slot m.slots) a).phase) j
             ∙ read-phase m.slots q
 
-        go : (b : Bool) → isWaiting (look m p).waiter.phase ≡ b
-            → Good k Step p m (ResumingAt t) (resumeWaiter b q t (look m p))
+        go : (b : Bool) → is_waiting (look m p).waiter.phase ≡ b
+            → Good k Step p m (ResumingAt t) (resume_waiter b q t (look m p))
         go true y =
             wakes q i
-            (waits-here (phaseIn (phases m) q) (sym (ap isWaiting same-waiter) ∙ y)
+            (waits-here (phase_in (phases m) q) (sym (ap is_waiting same-waiter) ∙ y)
             (inv.tickets.named t q i))
-        go false y = delegated q i (sym (ap isWaiting same-waiter) ∙ y)
+        go false y = delegated q i (sym (ap is_waiting same-waiter) ∙ y)
     handing Cancelled i j =
         place-row k m p l inv _ _ t e i reach (omega (arith, same_self t, held Cancelled i))
         (omega arith) tt (omega arith) (refl, refl, refl, refl) (λ xs a. a)
@@ -603,14 +603,14 @@ module _ (k : ℕ) (m : Queue) (p : ℕ) (l : p < m.opening.parties) (inv : Inv 
         let b : ⊥ = omega (arith, held Done i, lt-le t resumed) in absurd b
 
   -- The place that a party sees is the cell of its ticket.
-  seen : (f : Phase) → phaseIn (phases m) p ≡ f
-      → (look m p).seat.place ≡ (byTicket emptySeat m.cells f).place
-  unfolding seenBy
+  seen : (f : Phase) → phase_in (phases m) p ≡ f
+      → (look m p).seat.place ≡ (by_ticket empty_seat m.cells f).place
+  unfolding seen_by
   seen f e =
-      ap (λ (g : Phase). (byTicket emptySeat m.cells g).place) (read-phase m.slots p ∙ e)
+      ap (λ (g : Phase). (by_ticket empty_seat m.cells g).place) (read-phase m.slots p ∙ e)
 
-  step-good : (f : Phase) → phaseIn (phases m) p ≡ f → Good k Step p m f (stepIn f (look m p))
-  unfolding row_in stepStoring pick isOneOf isPlaceOf seenBy phaseAfter phasesAfter counterAfter servedAfter
+  step-good : (f : Phase) → phase_in (phases m) p ≡ f → Good k Step p m f (step_in f (look m p))
+  unfolding row_in step_storing pick is_one_of is_place_of seen_by phase_after phases_after counter_after served_after
   step-good Free e = refl
   step-good Holding e = refl
   step-good (Waiting t) e = refl
@@ -633,16 +633,16 @@ module _ (k : ℕ) (m : Queue) (p : ℕ) (l : p < m.opening.parties) (inv : Inv 
   abbrev phase : Phase
   phase = (read_slot m.slots p).phase
 
-  is-of : (x : Phase) → phase ≡ x → phaseIn (phases m) p ≡ x
+  is-of : (x : Phase) → phase ≡ x → phase_in (phases m) p ≡ x
   is-of x e = sym (read-phase m.slots p) ∙ e
 
-  acquire-good : (a b : Bool) → isFree phase ≡ a → leb MAX-BEGUN m.figures.begun ≡ b
+  acquire-good : (a b : Bool) → is_free phase ≡ a → leb MAX_BEGUN m.figures.begun ≡ b
       → Good k Acquire p m phase (acquire a b false (look m p))
-  unfolding acquire pick isOneOf isPlaceOf seenBy phaseAfter phasesAfter counterAfter servedAfter
+  unfolding acquire pick is_one_of is_place_of seen_by phase_after phases_after counter_after served_after
   acquire-good false b e i = refl
   acquire-good true true e i = refl
   acquire-good true false e i =
-      let j = leb-false MAX-BEGUN m.figures.begun i in
+      let j = leb-false MAX_BEGUN m.figures.begun i in
       let f = is-of Free (one_of Free phase e) in
       phase-row k m p l inv _ issued f (omega (arith, inv.tickets.at issued))
       (omega arith) (names-kept k m p l inv issued _ _ f (omega arith)) (omega arith)
@@ -650,10 +650,10 @@ module _ (k : ℕ) (m : Queue) (p : ℕ) (l : p < m.opening.parties) (inv : Inv 
 
   -- A wait is given up; before it the give-up is remembered.
   abbrev GivesUp : Phase → Type 0
-  GivesUp f = phaseIn (phases m) p ≡ f → Good k Cancel p m f (cancel true false (givenUp f) (look m p))
+  GivesUp f = phase_in (phases m) p ≡ f → Good k Cancel p m f (cancel true false (given_up f) (look m p))
 
-  gives_up : (f : Phase) → canCancel f ≡ true → GivesUp f
-  unfolding cancel givenUp pick isOneOf isPlaceOf seenBy phaseAfter phasesAfter counterAfter servedAfter
+  gives_up : (f : Phase) → can_cancel f ≡ true → GivesUp f
+  unfolding cancel given_up pick is_one_of is_place_of seen_by phase_after phases_after counter_after served_after
   gives_up =
       can-cancel GivesUp
       (λ t f. phase-row k m p l inv _ t f
@@ -666,30 +666,30 @@ module _ (k : ℕ) (m : Queue) (p : ℕ) (l : p < m.opening.parties) (inv : Inv 
       (omega arith) (names-kept k m p l inv t _ _ f (omega arith)) (omega arith)
       (refl, refl, refl, refl) (λ xs a. a))
 
-  cancel-good : (a b : Bool) → canCancel phase ≡ a
-      → Good k Cancel p m phase (cancel a b (givenUp phase) (look m p))
+  cancel-good : (a b : Bool) → can_cancel phase ≡ a
+      → Good k Cancel p m phase (cancel a b (given_up phase) (look m p))
   unfolding cancel
   cancel-good false b e = refl
   cancel-good true true e = refl
   cancel-good true false e = gives_up phase e (is-of phase refl)
 
-  release-good : (a : Bool) → isHolding phase ≡ a
+  release-good : (a : Bool) → is_holding phase ≡ a
       → Good k Release p m phase (release a (look m p))
-  unfolding release pick isOneOf isPlaceOf seenBy phaseAfter phasesAfter counterAfter servedAfter
+  unfolding release pick is_one_of is_place_of seen_by phase_after phases_after counter_after served_after
   release-good false e = refl
   release-good true e =
       let f = is-of Holding (one_of Holding phase e) in
       still-row k m p l inv _ f (λ t. refl) refl (omega arith) (refl, refl, refl, refl) (λ xs a. a)
 
-  radio-good : (a : Bool) → Good k Radio p m phase (tellRadio a (look m p))
-  unfolding tellRadio isPlaceOf phaseAfter phasesAfter counterAfter servedAfter
+  radio-good : (a : Bool) → Good k Radio p m phase (tell_radio a (look m p))
+  unfolding tell_radio is_place_of phase_after phases_after counter_after served_after
   radio-good true =
       tell-row k m p l inv (is-of phase refl) (omega arith) (refl, refl, refl, refl) (λ xs a. a)
   radio-good false =
       tell-row k m p l inv (is-of phase refl) (omega arith) (refl, refl, refl, refl) (λ xs a. a)
 
   pub decide-good : (o : Op) → Good k o p m (look m p).slot.phase (decide o false (look m p))
-  unfolding decide seenBy
+  unfolding decide seen_by
   decide-good Acquire = acquire-good _ _ refl refl
   decide-good Step = step-good _ (sym (read-phase m.slots p))
   decide-good Cancel = cancel-good _ _ refl

@@ -20,13 +20,13 @@ use Rattle.hub.specs.declared.record.Place.{Place}
 use Rattle.hub.specs.declared.record.Place.TheVariants.{Empty, Waiting as WaitedBy, Permit}
 use Rattle.hub.specs.declared.record.Place.TheVariants.{Cancelled, Refused, Done}
 use Rattle.hub.specs.Basics.{among, bit, count, weight}
-use Rattle.hub.specs.Phases.{RADIO-PHASES, byWaiter, isOneOf, isWaiting, rank, ticketOf}
-use Rattle.hub.specs.Phases.{isPermit, isCancelled, is_refused, isDone}
+use Rattle.hub.specs.Phases.{RADIO_PHASES, by_waiter, is_one_of, is_waiting, rank, ticket_of}
+use Rattle.hub.specs.Phases.{is_permit, is_cancelled, is_refused, is_done}
 use Rattle.hub.specs.Queue.{Queue, phases, places}
-use Rattle.hub.specs.Table.{aboveZero, belowZero}
+use Rattle.hub.specs.Table.{above_zero, below_zero}
 use Rattle.hub.proofs.Laws.Lists.{weight-same}
 use Rattle.hub.proofs.Laws.Phases.{every-phase, every-place, ticketed}
-use Rattle.hub.proofs.Laws.Ranges.{sumFrom}
+use Rattle.hub.proofs.Laws.Ranges.{sum_from}
 
 -- 1 where two numbers are the same; 1 where the first is below the second. Both by differences,
 -- which omega reads.
@@ -98,25 +98,25 @@ calm (pos n) = 1
 calm (negsuc n) = 0
 
 -- What taking one off does, by the test before it; and what adding one does.
-pub took-above : (z : ℤ) → aboveZero z ≡ true
+pub took-above : (z : ℤ) → above_zero z ≡ true
     → (up z ≡ up (pred_ℤ z) + 1) × (down z ≡ 0) × (down (pred_ℤ z) ≡ 0) × (calm (pred_ℤ z) ≡ 1)
 took-above (pos zero) e = let i : ◌≡◌ {A = ℕ} 0 1 = cc in omega arith
 took-above (pos (suc n)) e = omega arith
 took-above (negsuc n) e = let i : ◌≡◌ {A = ℕ} 0 1 = cc in omega arith
 
-pub took-below : (z : ℤ) → aboveZero z ≡ false
+pub took-below : (z : ℤ) → above_zero z ≡ false
     → (up z ≡ 0) × (up (pred_ℤ z) ≡ 0) × (down (pred_ℤ z) ≡ down z + 1) × (calm (pred_ℤ z) ≡ 0)
 took-below (pos zero) e = omega arith
 took-below (pos (suc n)) e = let i : ◌≡◌ {A = ℕ} 0 1 = cc in omega arith
 took-below (negsuc n) e = omega arith
 
-pub gave-below : (z : ℤ) → belowZero z ≡ true
+pub gave-below : (z : ℤ) → below_zero z ≡ true
     → (up z ≡ 0) × (up (suc_ℤ z) ≡ 0) × (down z ≡ down (suc_ℤ z) + 1)
 gave-below (pos n) e = let i : ◌≡◌ {A = ℕ} 0 1 = cc in omega arith
 gave-below (negsuc zero) e = omega arith
 gave-below (negsuc (suc n)) e = omega arith
 
-pub gave-above : (z : ℤ) → belowZero z ≡ false
+pub gave-above : (z : ℤ) → below_zero z ≡ false
     → (up (suc_ℤ z) ≡ up z + 1) × (down z ≡ 0) × (down (suc_ℤ z) ≡ 0) × (calm (suc_ℤ z) ≡ 1)
 gave-above (pos n) e = omega arith
 gave-above (negsuc n) e = let i : ◌≡◌ {A = ℕ} 0 1 = cc in omega arith
@@ -131,7 +131,7 @@ calm-or (negsuc n) = inr refl
 
 -- g of the ticket for the phases of a list, 0 for all others.
 unfoldable pub pick : List Phase → (ℕ → ℕ) → Phase → ℕ
-pick l g f = cond (isOneOf l f) (g (ticketOf f)) 0
+pick l g f = cond (is_one_of l f) (g (ticket_of f)) 0
 
 abbrev pub one : ℕ → ℕ
 one t = 1
@@ -157,15 +157,15 @@ in-longer (x ∷ xs) l r e i =
 
 pub pick-le : (l l' : List Phase) (g g' : ℕ → ℕ) → within l l' ≡ true → ((u : ℕ) → g u ≤ g' u)
     → (f : Phase) → pick l g f ≤ pick l' g' f
-unfolding pick isOneOf
+unfolding pick is_one_of
 pick-le l l' g g' e i f =
     go (among (map rank l) (rank f)) refl (among (map rank l') (rank f)) refl
   where
     go : (b : Bool) → among (map rank l) (rank f) ≡ b
         → (d : Bool) → among (map rank l') (rank f) ≡ d
-        → cond b (g (ticketOf f)) 0 ≤ cond d (g' (ticketOf f)) 0
+        → cond b (g (ticket_of f)) 0 ≤ cond d (g' (ticket_of f)) 0
     go false z d y = omega arith
-    go true z true y = i (ticketOf f)
+    go true z true y = i (ticket_of f)
     go true z false y = let w : true ≡ false = sym (in-longer l l' (rank f) e z) ∙ y in absurd (apart w)
       where
         apart : true ≡ false → ⊥
@@ -173,9 +173,9 @@ pick-le l l' g g' e i f =
 
 -- What a definition of specs/ counts is such a weight.
 pub count-pick : (l : List Phase) (xs : List Phase)
-    → count (isOneOf l) xs ≡ weight (pick l one) xs
+    → count (is_one_of l) xs ≡ weight (pick l one) xs
 unfolding pick
-count-pick l xs = weight-same (λ f. bit (isOneOf l f)) (pick l one) (λ f. each (isOneOf l f)) xs
+count-pick l xs = weight-same (λ f. bit (is_one_of l f)) (pick l one) (λ f. each (is_one_of l f)) xs
   where
     each : (b : Bool) → bit b ≡ cond b 1 0
     each true = refl
@@ -213,7 +213,7 @@ cancelling = pick (Cancelling 0 ∷ []) one
 
 -- Who is about to fetch a radio, or to put one back.
 abbrev pub radioed : Phase → ℕ
-radioed = pick RADIO-PHASES one
+radioed = pick RADIO_PHASES one
 
 -- Of ticket t: its owner, its hand, who stands at its place, who refuses it.
 abbrev pub own : ℕ → Phase → ℕ
@@ -242,23 +242,23 @@ above t = pick (Ticketed 0 ∷ TicketedMarked 0 ∷ Waiting 0 ∷ Aborting 0 ∷
 
 -- Cells: with a permit, cancelled, refused; without an owner any more; after its hand-over;
 -- the least and the most stage of its owner.
-abbrev pub permitCell : Place → ℕ
-permitCell a = bit (isPermit a)
+abbrev pub permit_cell : Place → ℕ
+permit_cell a = bit (is_permit a)
 
-abbrev pub cancelledCell : Place → ℕ
-cancelledCell a = bit (isCancelled a)
+abbrev pub cancelled_cell : Place → ℕ
+cancelled_cell a = bit (is_cancelled a)
 
-abbrev pub refusedCell : Place → ℕ
-refusedCell a = bit (is_refused a)
+abbrev pub refused_cell : Place → ℕ
+refused_cell a = bit (is_refused a)
 
 abbrev pub spent : Place → ℕ
-spent a = bit (isCancelled a) + bit (is_refused a) + bit (isDone a)
+spent a = bit (is_cancelled a) + bit (is_refused a) + bit (is_done a)
 
 abbrev pub served : Place → ℕ
-served a = bit (isPermit a) + bit (isDone a)
+served a = bit (is_permit a) + bit (is_done a)
 
 abbrev pub least : Place → ℕ
-least = byWaiter 0 (λ q. 2)
+least = by_waiter 0 (λ q. 2)
 
 abbrev pub most : Place → ℕ
 most = elim [ Empty ↦ 1 | WaitedBy q ↦ 3 | Permit ↦ 2 | Cancelled ↦ 0 | Refused ↦ 0 | Done ↦ 0 ]
@@ -268,21 +268,21 @@ abbrev pub TICKETS : ℕ
 TICKETS = 2000000
 
 abbrev pub total : (Place → ℕ) → (ℕ → Place) → ℕ
-total w g = sumFrom (λ t. w (g t)) 0 TICKETS
+total w g = sum_from (λ t. w (g t)) 0 TICKETS
 
 abbrev pub sum : (Phase → ℕ) → Queue → ℕ
 sum w m = weight w (phases m)
 
-abbrev pub cellSum : (Place → ℕ) → Queue → ℕ
-cellSum w m = total w (places m)
+abbrev pub cell_sum : (Place → ℕ) → Queue → ℕ
+cell_sum w m = total w (places m)
 
 -- Facts of every phase.
 pub pick-one : (l : List Phase) (g : ℕ → ℕ) → ((u : ℕ) → g u ≤ 1) → (f : Phase) → pick l g f ≤ 1
 unfolding pick
-pick-one l g i f = go (isOneOf l f)
+pick-one l g i f = go (is_one_of l f)
   where
-    go : (b : Bool) → cond b (g (ticketOf f)) 0 ≤ 1
-    go true = i (ticketOf f)
+    go : (b : Bool) → cond b (g (ticket_of f)) 0 ≤ 1
+    go true = i (ticket_of f)
     go false = omega arith
 
 pub stand-own : (t : ℕ) (f : Phase) → stand t f ≤ own t f
@@ -301,31 +301,31 @@ pub handing-resuming : (f : Phase) → handing f ≤ resuming f
 handing-resuming = pick-le _ _ _ _ refl (λ u. le_refl 1)
 
 pub carrying-resuming : (f : Phase) → carrying f + handing f ≤ resuming f
-unfolding pick isOneOf
+unfolding pick is_one_of
 carrying-resuming = every-phase (λ f. carrying f + handing f ≤ resuming f) (λ t. omega arith)
 
 pub above-live : (t : ℕ) (f : Phase) → above t f ≤ live f
 above-live t = pick-le _ _ _ _ refl (λ u. lt-le t u)
 
 pub stage-own : (t : ℕ) (f : Phase) → stage t f ≤ 3 * own t f
-unfolding pick isOneOf
+unfolding pick is_one_of
 stage-own t = every-phase (λ f. stage t f ≤ 3 * own t f) (λ u. omega arith)
 
 -- Whoever has a ticket owns it or hands it.
-pub has-ticket : (f : Phase) → own (ticketOf f) f + hand (ticketOf f) f ≡ bit (ticketed f)
-unfolding pick isOneOf
+pub has-ticket : (f : Phase) → own (ticket_of f) f + hand (ticket_of f) f ≡ bit (ticketed f)
+unfolding pick is_one_of
 has-ticket =
-    every-phase (λ f. own (ticketOf f) f + hand (ticketOf f) f ≡ bit (ticketed f))
+    every-phase (λ f. own (ticket_of f) f + hand (ticket_of f) f ≡ bit (ticketed f))
     (λ t. omega (arith, same_self t))
 
 -- Whoever has given up is at stage 2.
-pub stage-waiting : (t : ℕ) (f : Phase) → stage t f ≤ 2 + bit (isWaiting f)
-unfolding pick isOneOf
+pub stage-waiting : (t : ℕ) (f : Phase) → stage t f ≤ 2 + bit (is_waiting f)
+unfolding pick is_one_of
 stage-waiting t =
-    every-phase (λ f. stage t f ≤ 2 + bit (isWaiting f)) (λ u. omega (arith, same-le u t))
+    every-phase (λ f. stage t f ≤ 2 + bit (is_waiting f)) (λ u. omega (arith, same-le u t))
 
 -- And of every cell.
-pub refused-spent : (a : Place) → refusedCell a ≤ spent a
+pub refused-spent : (a : Place) → refused_cell a ≤ spent a
 refused-spent a = omega arith
 
 pub least-le : (a : Place) → least a ≤ 2

@@ -7,10 +7,10 @@ use borrow.Author.Tests.{ne_eqb}
 use lib.Dec.{eqb}
 use Rattle.hub.specs.declared.answers.Refusal.{Refusal}
 use Rattle.hub.specs.declared.record.Outcome.{Outcome}
-use Rattle.hub.specs.Answers.{printed, refusalCode}
+use Rattle.hub.specs.Answers.{printed, refusal_code}
 
 -- A refusal's code is at most 17,
-pub few-refusals : (r : Refusal) → refusalCode r ≤ 17
+pub few-refusals : (r : Refusal) → refusal_code r ≤ 17
 few-refusals Refusal.Unfit = omega arith
 few-refusals Refusal.BadPermits = omega arith
 few-refusals Refusal.BadParties = omega arith
@@ -28,8 +28,8 @@ few-refusals Refusal.UnknownKind = omega arith
 few-refusals Refusal.NoDesk = omega arith
 
 -- so none of the codes above.
-pub no-refusal : (r : Refusal) (k : ℕ) → 17 < k → eqb (refusalCode r) k ≡ false
-no-refusal r k l = ne_eqb (refusalCode r) k (λ e. omega (arith, few-refusals r))
+pub no-refusal : (r : Refusal) (k : ℕ) → 17 < k → eqb (refusal_code r) k ≡ false
+no-refusal r k l = ne_eqb (refusal_code r) k (λ e. omega (arith, few-refusals r))
 
 pub with-printed : {o d : Outcome} → o ≡ d → (o ≡ d) × (printed o.answer ≡ printed d.answer)
 with-printed e = (e, ap (λ (o : Outcome). printed o.answer) e)

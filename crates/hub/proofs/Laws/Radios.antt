@@ -16,7 +16,7 @@ use Rattle.hub.specs.declared.opening.Opening.{Opening}
 use Rattle.hub.specs.declared.record.Pool.{Pool}
 use Rattle.hub.specs.Answers.{Printed}
 use Rattle.hub.specs.Basics.{among, bit}
-use Rattle.hub.specs.Radios.{STORE, differ, moved, radiosOf, ringFrom, padded}
+use Rattle.hub.specs.Radios.{STORE, differ, moved, radios_of, ring_from, padded}
 
 -- An answer with a refusal's code moves no radio.
 pub unmoved : (y : Printed) (p : ℕ) (q : Pool) → y.code ≤ 17 → moved y p q ≡ q
@@ -49,8 +49,8 @@ padded-length l =
     length-take-le STORE (l ++ replicate STORE 0)
     (omega (arith, length-append l (replicate STORE 0), length-replicate {A = ℕ} STORE 0))
 
-pub radios-of : (o : Opening) → length o.radios ≡ STORE → radiosOf o ≡ take o.permits o.radios
-unfolding radiosOf
+pub radios-of : (o : Opening) → length o.radios ≡ STORE → radios_of o ≡ take o.permits o.radios
+unfolding radios_of
 radios-of o e = ap (take o.permits) (padded-same o.radios e)
 
 or-true : (c : Bool) → c || true ≡ true
@@ -62,8 +62,8 @@ or-false true = refl
 or-false false = refl
 
 -- So many are in a ring.
-pub ring-length : (l : List ℕ) (i n : ℕ) → length (ringFrom l i n) ≡ n
-unfolding ringFrom
+pub ring-length : (l : List ℕ) (i n : ℕ) → length (ring_from l i n) ≡ n
+unfolding ring_from
 ring-length l i zero = refl
 ring-length l i (suc n) = ap suc (ring-length l (suc i) n)
 

@@ -26,30 +26,30 @@ use Rattle.hub.specs.declared.record.Place.{Place}
 use Rattle.hub.specs.declared.record.Place.TheVariants.{Empty, Waiting as WaitedBy, Permit}
 use Rattle.hub.specs.declared.record.Place.TheVariants.{Cancelled, Refused, Done}
 use Rattle.hub.specs.Answers.{printed}
-use Rattle.hub.specs.Look.{look, seenBy}
-use Rattle.hub.specs.Phases.{byTicket, byWaiter, hasRadio, isFree, isHolding, isOneOf, isPermit}
-use Rattle.hub.specs.Phases.{isPlaceOf, isWaiting}
+use Rattle.hub.specs.Look.{look, seen_by}
+use Rattle.hub.specs.Phases.{by_ticket, by_waiter, has_radio, is_free, is_holding, is_one_of, is_permit}
+use Rattle.hub.specs.Phases.{is_place_of, is_waiting}
 use Rattle.hub.specs.Radios.{moved}
-use Rattle.hub.specs.Record.{PARTIES, emptySeat, freeSlot, read_slot}
-use Rattle.hub.specs.Ring.{PLACES, read_place, readSeat}
-use Rattle.hub.specs.Table.{acquire, canCancel, cancel, decide, givenUp, release, row_in, stepIn, tellRadio}
-use Rattle.hub.specs.Table.{stepAcquiring, stepSuspending, stepTicketed, stepReleasing}
-use Rattle.hub.specs.Table.{stepResuming, resumeWaiter, stepResumingAt, stepAborting}
-use Rattle.hub.specs.Table.{stepCancelling, stepRefusing, stepFetching, stepStoring}
-use Rattle.hub.specs.Table.{withPermit, withoutPermit}
+use Rattle.hub.specs.Record.{PARTIES, empty_seat, free_slot, read_slot}
+use Rattle.hub.specs.Ring.{PLACES, read_place, read_seat}
+use Rattle.hub.specs.Table.{acquire, can_cancel, cancel, decide, given_up, release, row_in, step_in, tell_radio}
+use Rattle.hub.specs.Table.{step_acquiring, step_suspending, step_ticketed, step_releasing}
+use Rattle.hub.specs.Table.{step_resuming, resume_waiter, step_resuming_at, step_aborting}
+use Rattle.hub.specs.Table.{step_cancelling, step_refusing, step_fetching, step_storing}
+use Rattle.hub.specs.Table.{with_permit, without_permit}
 use Rattle.hub.proofs.Laws.Table.{can-cancel}
 use Rattle.hub.proofs.Laws.Phases.{one_of}
 use Rattle.hub.proofs.Laws.Seats.{read_mapped}
-use Rattle.hub.proofs.Radios.Ways.{Same, Sized, carriers, permitsAt, unmoved, within}
+use Rattle.hub.proofs.Radios.Ways.{Same, Sized, carriers, permits_at, unmoved, within}
 use Rattle.hub.proofs.Radios.Ways.{fetched, stored, left, passed, found, dropped}
 
 module _ (h : Hub) (p : ℕ) (named : h.control.opening.named ≡ true)
-    (s : Sized (carriers h.slots) (permitsAt h.places) h.control.pool) where
+    (s : Sized (carriers h.slots) (permits_at h.places) h.control.pool) where
   abbrev bs : List Bool
   bs = carriers h.slots
 
   abbrev cs : List Bool
-  cs = permitsAt h.places
+  cs = permits_at h.places
 
   abbrev phase : Phase
   phase = (read_slot h.slots p).phase
@@ -62,36 +62,36 @@ module _ (h : Hub) (p : ℕ) (named : h.control.opening.named ≡ true)
   GoesBy marks (Refuse r) = After bs cs (moved (printed (Answer.Refused r)) p h.control.pool)
   GoesBy marks (Tell y) = After bs cs (moved (printed y) p h.control.pool)
   GoesBy marks (Act c) =
-      After (set bs p (hasRadio c.slot.phase)) cs (moved (printed c.answer) p h.control.pool)
+      After (set bs p (has_radio c.slot.phase)) cs (moved (printed c.answer) p h.control.pool)
   GoesBy marks (Put a c) =
-      After (set bs p (hasRadio c.slot.phase)) (marks a) (moved (printed c.answer) p h.control.pool)
+      After (set bs p (has_radio c.slot.phase)) (marks a) (moved (printed c.answer) p h.control.pool)
   GoesBy marks (Wake q x a c) =
-      After (set (set bs q (hasRadio x.phase)) p (hasRadio c.slot.phase)) (marks a)
+      After (set (set bs q (has_radio x.phase)) p (has_radio c.slot.phase)) (marks a)
       (moved (printed c.answer) p h.control.pool)
 
   -- Its place is that of ticket t; of the ticket of its phase.
   abbrev GoesAt : ℕ → Move → Type 0
-  GoesAt t = GoesBy (λ a. set cs (t % PLACES) (isPermit a.place))
+  GoesAt t = GoesBy (λ a. set cs (t % PLACES) (is_permit a.place))
 
   abbrev pub Goes : Phase → Move → Type 0
-  Goes f = GoesBy (λ a. byTicket cs (λ t. set cs (t % PLACES) (isPermit a.place)) f)
+  Goes f = GoesBy (λ a. by_ticket cs (λ t. set cs (t % PLACES) (is_permit a.place)) f)
 
   -- What the slot of a party says of its radio; what a place says of a permit.
-  radio-of : (w : ℕ) {f : Phase} → (read_slot h.slots w).phase ≡ f → get_or bs w false ≡ hasRadio f
-  unfolding isOneOf read_slot
+  radio-of : (w : ℕ) {f : Phase} → (read_slot h.slots w).phase ≡ f → get_or bs w false ≡ has_radio f
+  unfolding is_one_of read_slot
   radio-of w e =
-      get_or-map (λ (x : PartySlot). hasRadio x.phase) h.slots w freeSlot ∙ ap hasRadio e
+      get_or-map (λ (x : PartySlot). has_radio x.phase) h.slots w free_slot ∙ ap has_radio e
 
-  there : (t : ℕ) {a : Place} → read_place h.places t ≡ a → get_or cs (t % PLACES) false ≡ isPermit a
-  unfolding isPlaceOf
-  there t e = read_mapped h.places t (λ (x : PlaceSlot). isPermit x.place) ∙ ap isPermit e
+  there : (t : ℕ) {a : Place} → read_place h.places t ≡ a → get_or cs (t % PLACES) false ≡ is_permit a
+  unfolding is_place_of
+  there t e = read_mapped h.places t (λ (x : PlaceSlot). is_permit x.place) ∙ ap is_permit e
 
   -- Only a party with a slot is not free.
-  party-in : (w : ℕ) {f : Phase} → (read_slot h.slots w).phase ≡ f → isFree f ≡ false → w < PARTIES
-  unfolding isOneOf read_slot
+  party-in : (w : ℕ) {f : Phase} → (read_slot h.slots w).phase ≡ f → is_free f ≡ false → w < PARTIES
+  unfolding is_one_of read_slot
   party-in w e i =
-      let j = within h.slots w freeSlot (λ z. (let y : ◌≡◌ {A = ℕ} 0 1 = cc in omega arith)) in
-      omega (arith, length-map h.slots (λ (x : PartySlot). hasRadio x.phase))
+      let j = within h.slots w free_slot (λ z. (let y : ◌≡◌ {A = ℕ} 0 1 = cc in omega arith)) in
+      omega (arith, length-map h.slots (λ (x : PartySlot). has_radio x.phase))
 
   -- The party has a radio as before; the place has a permit as before.
   party-still : {b : Bool} {cs' : List Bool} {q : Pool} → get_or bs p false ≡ b
@@ -105,34 +105,34 @@ module _ (h : Hub) (p : ℕ) (named : h.control.opening.named ≡ true)
       subst (λ (l : List Bool). After bs' l q)
       (sym (set-get_or cs (t % PLACES) false) ∙ ap (set cs (t % PLACES)) e)
 
-  asked : (f x : Phase) → hasRadio f ≡ false → hasRadio x ≡ false → (z : Bool) → phase ≡ f
-      → Goes f (stepAcquiring x z (look h p))
-  unfolding stepAcquiring isOneOf moved seenBy
+  asked : (f x : Phase) → has_radio f ≡ false → has_radio x ≡ false → (z : Bool) → phase ≡ f
+      → Goes f (step_acquiring x z (look h p))
+  unfolding step_acquiring is_one_of moved seen_by
   asked f x i j true e =
-      party-still (radio-of p e ∙ i ∙ sym (ap (λ n. hasRadio (withPermit n)) named)) unmoved
+      party-still (radio-of p e ∙ i ∙ sym (ap (λ n. has_radio (with_permit n)) named)) unmoved
   asked f x i j false e = party-still (radio-of p e ∙ i ∙ sym j) unmoved
 
-  giving-back : (z : Bool) → phase ≡ Releasing → Goes Releasing (stepReleasing z (look h p))
-  unfolding stepReleasing isOneOf moved seenBy
+  giving-back : (z : Bool) → phase ≡ Releasing → Goes Releasing (step_releasing z (look h p))
+  unfolding step_releasing is_one_of moved seen_by
   giving-back true e = party-still (radio-of p e) unmoved
   giving-back false e =
-      party-still (radio-of p e ∙ sym (ap (λ n. hasRadio (withoutPermit n)) named)) unmoved
+      party-still (radio-of p e ∙ sym (ap (λ n. has_radio (without_permit n)) named)) unmoved
 
-  giving-up : (t : ℕ) (z : Bool) → phase ≡ Aborting t → Goes (Aborting t) (stepAborting t z (look h p))
-  unfolding stepAborting isOneOf moved seenBy
+  giving-up : (t : ℕ) (z : Bool) → phase ≡ Aborting t → Goes (Aborting t) (step_aborting t z (look h p))
+  unfolding step_aborting is_one_of moved seen_by
   giving-up t true e = party-still (radio-of p e) unmoved
   giving-up t false e = party-still (radio-of p e) unmoved
 
   fetching : (z : Bool) → leb 1 h.control.pool.stored ≡ z → phase ≡ Fetching
-      → Goes Fetching (stepFetching z (look h p))
-  unfolding stepFetching isOneOf moved seenBy
+      → Goes Fetching (step_fetching z (look h p))
+  unfolding step_fetching is_one_of moved seen_by
   fetching true i e =
       fetched bs cs h.control.pool s p (radio-of p e) (party-in p e refl) (leb-true 1 h.control.pool.stored i)
   fetching false i e = unmoved
 
-  numbered : (f x : Phase) → hasRadio f ≡ false → isFree f ≡ false → hasRadio x ≡ false → (t : ℕ) (a : Place)
-      → read_place h.places t ≡ a → phase ≡ f → GoesAt t (stepTicketed x t a (look h p))
-  unfolding stepTicketed isOneOf isPlaceOf moved seenBy
+  numbered : (f x : Phase) → has_radio f ≡ false → is_free f ≡ false → has_radio x ≡ false → (t : ℕ) (a : Place)
+      → read_place h.places t ≡ a → phase ≡ f → GoesAt t (step_ticketed x t a (look h p))
+  unfolding step_ticketed is_one_of is_place_of moved seen_by
   numbered f x n m l t Empty i e = party-still (radio-of p e ∙ n ∙ sym l) (place_still t (there t i) unmoved)
   numbered f x n m l t Permit i e =
       found bs cs h.control.pool s t (there t i) p (radio-of p e ∙ n) (party-in p e m)
@@ -142,8 +142,8 @@ module _ (h : Hub) (p : ℕ) (named : h.control.opening.named ≡ true)
   numbered f x n m l t Done i e = unmoved
 
   cancelling : (t : ℕ) (a : Place) → read_place h.places t ≡ a → phase ≡ Cancelling t
-      → Goes (Cancelling t) (stepCancelling t a (look h p))
-  unfolding stepCancelling isOneOf isPlaceOf moved seenBy
+      → Goes (Cancelling t) (step_cancelling t a (look h p))
+  unfolding step_cancelling is_one_of is_place_of moved seen_by
   cancelling t (WaitedBy q) i e =
       party-still (radio-of p e) (place_still t (there t i) unmoved)
   cancelling t Permit i e =
@@ -154,8 +154,8 @@ module _ (h : Hub) (p : ℕ) (named : h.control.opening.named ≡ true)
   cancelling t Done i e = unmoved
 
   refusing : (t : ℕ) (a : Place) → read_place h.places t ≡ a → phase ≡ Refusing t
-      → Goes (Refusing t) (stepRefusing t a (look h p))
-  unfolding stepRefusing isOneOf isPlaceOf moved seenBy
+      → Goes (Refusing t) (step_refusing t a (look h p))
+  unfolding step_refusing is_one_of is_place_of moved seen_by
   refusing t (WaitedBy q) i e =
       party-still (radio-of p e) (place_still t (there t i) unmoved)
   refusing t Permit i e = party-still (radio-of p e) (dropped bs cs h.control.pool s t (there t i))
@@ -166,9 +166,9 @@ module _ (h : Hub) (p : ℕ) (named : h.control.opening.named ≡ true)
 
   -- The waiter, if its phase is waiting, has a slot and no radio.
   handing-to : (t q : ℕ) (z : Bool) → read_place h.places t ≡ WaitedBy q
-      → isWaiting (read_slot h.slots q).phase ≡ z → phase ≡ ResumingAt t
-      → Goes (ResumingAt t) (resumeWaiter z q t (look h p))
-  unfolding resumeWaiter isOneOf isPlaceOf moved seenBy
+      → is_waiting (read_slot h.slots q).phase ≡ z → phase ≡ ResumingAt t
+      → Goes (ResumingAt t) (resume_waiter z q t (look h p))
+  unfolding resume_waiter is_one_of is_place_of moved seen_by
   handing-to t q true i w e =
       let x = one_of (Waiting 0) (read_slot h.slots q).phase w in
       place_still t (there t i)
@@ -176,12 +176,12 @@ module _ (h : Hub) (p : ℕ) (named : h.control.opening.named ≡ true)
   handing-to t q false i w e = left bs cs h.control.pool s p (radio-of p e) t (there t i)
 
   handing : (t : ℕ) (a : Place) → read_place h.places t ≡ a → (look h p).seat.place ≡ a
-      → phase ≡ ResumingAt t → Goes (ResumingAt t) (stepResumingAt t (isWaiting (look h p).waiter.phase) a (look h p))
-  unfolding stepResumingAt isOneOf isPlaceOf moved seenBy
+      → phase ≡ ResumingAt t → Goes (ResumingAt t) (step_resuming_at t (is_waiting (look h p).waiter.phase) a (look h p))
+  unfolding step_resuming_at is_one_of is_place_of moved seen_by
   handing t Empty i j e = left bs cs h.control.pool s p (radio-of p e) t (there t i)
   handing t (WaitedBy q) i j e =
       handing-to t q _ i
-      (ap (λ (a : Place). isWaiting (byWaiter freeSlot (read_slot h.slots) a).phase) (sym j)) e
+      (ap (λ (a : Place). is_waiting (by_waiter free_slot (read_slot h.slots) a).phase) (sym j)) e
   handing t Cancelled i j e = party-still (radio-of p e) (place_still t (there t i) unmoved)
   handing t Refused i j e =
       place_still t (there t i) (stored bs cs h.control.pool s p (radio-of p e))
@@ -190,12 +190,12 @@ module _ (h : Hub) (p : ℕ) (named : h.control.opening.named ≡ true)
 
   -- The place that the party looks at is that of its ticket.
   seen : {f : Phase} → phase ≡ f
-      → (byTicket emptySeat (readSeat h.places) f).place ≡ (look h p).seat.place
-  unfolding seenBy
-  seen e = ap (λ (f : Phase). (byTicket emptySeat (readSeat h.places) f).place) (sym e)
+      → (by_ticket empty_seat (read_seat h.places) f).place ≡ (look h p).seat.place
+  unfolding seen_by
+  seen e = ap (λ (f : Phase). (by_ticket empty_seat (read_seat h.places) f).place) (sym e)
 
-  step-goes : (f : Phase) → phase ≡ f → Goes f (stepIn f (look h p))
-  unfolding row_in stepSuspending stepResuming stepStoring isOneOf moved seenBy
+  step-goes : (f : Phase) → phase ≡ f → Goes f (step_in f (look h p))
+  unfolding row_in step_suspending step_resuming step_storing is_one_of moved seen_by
   step-goes Free e = unmoved
   step-goes Holding e = unmoved
   step-goes (Waiting t) e = unmoved
@@ -214,39 +214,39 @@ module _ (h : Hub) (p : ℕ) (named : h.control.opening.named ≡ true)
   step-goes SuspendingMarked e = party-still (radio-of p e) unmoved
   step-goes (TicketedMarked t) e = numbered (TicketedMarked t) (Aborting t) refl refl refl t _ (seen e) e
 
-  acquire-goes : (a b d : Bool) → isFree phase ≡ a → Goes phase (acquire a b d (look h p))
-  unfolding acquire isOneOf moved seenBy
+  acquire-goes : (a b d : Bool) → is_free phase ≡ a → Goes phase (acquire a b d (look h p))
+  unfolding acquire is_one_of moved seen_by
   acquire-goes false b d e = unmoved
   acquire-goes true true d e = unmoved
   acquire-goes true false true e = unmoved
   acquire-goes true false false e = party-still (radio-of p (one_of Free phase e)) unmoved
 
-  no-radio : (f : Phase) → canCancel f ≡ true → (hasRadio f ≡ false) × (hasRadio (givenUp f) ≡ false)
-  unfolding givenUp isOneOf
+  no-radio : (f : Phase) → can_cancel f ≡ true → (has_radio f ≡ false) × (has_radio (given_up f) ≡ false)
+  unfolding given_up is_one_of
   no-radio =
-      can-cancel (λ f. (hasRadio f ≡ false) × (hasRadio (givenUp f) ≡ false))
+      can-cancel (λ f. (has_radio f ≡ false) × (has_radio (given_up f) ≡ false))
       (λ t. (refl, refl)) (refl, refl) (refl, refl) (λ t. (refl, refl))
 
-  cancel-goes : (a b : Bool) → canCancel phase ≡ a → Goes phase (cancel a b (givenUp phase) (look h p))
-  unfolding cancel moved seenBy
+  cancel-goes : (a b : Bool) → can_cancel phase ≡ a → Goes phase (cancel a b (given_up phase) (look h p))
+  unfolding cancel moved seen_by
   cancel-goes false b e = unmoved
   cancel-goes true true e = unmoved
   cancel-goes true false e =
       let z = no-radio phase e in
       party-still (radio-of p refl ∙ z.0 ∙ sym z.1) unmoved
 
-  release-goes : (a : Bool) → isHolding phase ≡ a → Goes phase (release a (look h p))
-  unfolding release isOneOf moved seenBy
+  release-goes : (a : Bool) → is_holding phase ≡ a → Goes phase (release a (look h p))
+  unfolding release is_one_of moved seen_by
   release-goes false e = unmoved
   release-goes true e = party-still (radio-of p (one_of Holding phase e)) unmoved
 
-  told : (a : Bool) → Goes phase (tellRadio a (look h p))
-  unfolding tellRadio moved
+  told : (a : Bool) → Goes phase (tell_radio a (look h p))
+  unfolding tell_radio moved
   told true = unmoved
   told false = unmoved
 
   pub decide-goes : (o : Op) (full : Bool) → Goes phase (decide o full (look h p))
-  unfolding decide seenBy
+  unfolding decide seen_by
   decide-goes Op.Acquire full = acquire-goes _ _ full refl
   decide-goes Op.Step full = step-goes _ refl
   decide-goes Op.Cancel full = cancel-goes _ _ refl

@@ -15,21 +15,21 @@ use Rattle.hub.specs.declared.record.PartySlot.{PartySlot}
 use Rattle.hub.specs.declared.record.PlaceSlot.{PlaceSlot}
 use Rattle.hub.specs.declared.record.Pool.{Pool}
 use Rattle.hub.specs.Basics.{bit, count, weight}
-use Rattle.hub.specs.Phases.{hasRadio, isPermit}
-use Rattle.hub.specs.Radios.{STORE, fetch, handOf, handTo, laidAt, layAt, put_back, radiosIn, ringFrom}
-use Rattle.hub.specs.Radios.{shown, storedIn}
+use Rattle.hub.specs.Phases.{has_radio, is_permit}
+use Rattle.hub.specs.Radios.{STORE, fetch, hand_of, hand_to, laid_at, lay_at, put_back, radios_in, ring_from}
+use Rattle.hub.specs.Radios.{shown, stored_in}
 use Rattle.hub.specs.RadiosKept.{FirstInFirstOut}
-use Rattle.hub.specs.Record.{PARTIES, phasesOf, places_of}
+use Rattle.hub.specs.Record.{PARTIES, phases_of, places_of}
 use Rattle.hub.specs.Ring.{PLACES}
 use Rattle.hub.proofs.Laws.Lists.{weight-append}
 use Rattle.hub.proofs.Radios.Store.{first-in-first-out, stored-first}
 
 -- Who has a radio; at which places a permit is.
 abbrev pub carriers : List PartySlot → List Bool
-carriers l = map (λ s. hasRadio s.phase) l
+carriers l = map (λ s. has_radio s.phase) l
 
-abbrev pub permitsAt : List PlaceSlot → List Bool
-permitsAt l = map (λ s. isPermit s.place) l
+abbrev pub permits_at : List PlaceSlot → List Bool
+permits_at l = map (λ s. is_permit s.place) l
 
 -- A radio weighs g where one is, and nothing elsewhere.
 abbrev share : (ℕ → ℕ) → Bool → ℕ → ℕ
@@ -41,7 +41,7 @@ sum g (b ∷ bs) [] = 0
 sum g (b ∷ bs) (r ∷ rs) = share g b r + sum g bs rs
 
 abbrev pub total : (ℕ → ℕ) → List Bool → List Bool → Pool → ℕ
-total g bs cs q = sum g bs q.hands + sum g cs q.laid + weight g (storedIn q)
+total g bs cs q = sum g bs q.hands + sum g cs q.laid + weight g (stored_in q)
 
 abbrev pub one : ℕ → ℕ
 one r = 1
@@ -78,10 +78,10 @@ module _ (g : ℕ → ℕ) where
       go false m = omega arith
 
   pub radios-weigh : (slots : List PartySlot) (places : List PlaceSlot) (q : Pool)
-      → weight g (radiosIn slots places q) ≡ total g (carriers slots) (permitsAt places) q
-  unfolding radiosIn
+      → weight g (radios_in slots places q) ≡ total g (carriers slots) (permits_at places) q
+  unfolding radios_in
   radios-weigh slots places q =
-      rw (weight-append, weight-append, sum-shown hasRadio, sum-shown isPermit) (omega arith)
+      rw (weight-append, weight-append, sum-shown has_radio, sum-shown is_permit) (omega arith)
 
 count-shown : {A B : Type 0} (has : A → Bool) (f : B → A) (l : List B) (rs : List ℕ) → length l ≡ length rs
     → count has (map f l) ≡ sum one (map (λ x. has (f x)) l) rs
@@ -94,20 +94,20 @@ count-shown has f (x ∷ l) (r ∷ rs) e = go (has (f x)) (count-shown has f l r
     go true e = omega arith
     go false e = omega arith
 
-pub count-ring : (l : List ℕ) (i n : ℕ) → weight one (ringFrom l i n) ≡ n
-unfolding weight ringFrom
+pub count-ring : (l : List ℕ) (i n : ℕ) → weight one (ring_from l i n) ≡ n
+unfolding weight ring_from
 count-ring l i zero = refl
 count-ring l i (suc n) = omega (arith, count-ring l (suc i) n)
 
 pub radios-count : (slots : List PartySlot) (places : List PlaceSlot) (q : Pool)
     → length slots ≡ length q.hands → length places ≡ length q.laid
-    → count hasRadio (phasesOf slots) + count isPermit (places_of places) + q.stored
-    ≡ total one (carriers slots) (permitsAt places) q
+    → count has_radio (phases_of slots) + count is_permit (places_of places) + q.stored
+    ≡ total one (carriers slots) (permits_at places) q
 radios-count slots places q e f =
     omega (
       arith,
-      count-shown hasRadio (λ (s : PartySlot). s.phase) slots q.hands e,
-      count-shown isPermit (λ (s : PlaceSlot). s.place) places q.laid f,
+      count-shown has_radio (λ (s : PartySlot). s.phase) slots q.hands e,
+      count-shown is_permit (λ (s : PlaceSlot). s.place) places q.laid f,
       count-ring q.store q.first q.stored,
     )
 
@@ -146,12 +146,12 @@ inside bs i e = within bs i false (λ z. (let y : ◌≡◌ {A = ℕ} 0 1 = cc i
 module _ (bs cs : List Bool) (q : Pool) (s : Sized bs cs q) where
   -- To the store's end: there is room, if one radio is elsewhere.
   put-back : (r : ℕ) (g : ℕ → ℕ) → 1 ≤ sum one bs q.hands + sum one cs q.laid
-      → weight g (storedIn (put_back r q)) ≡ weight g (storedIn q) + g r
+      → weight g (stored_in (put_back r q)) ≡ weight g (stored_in q) + g r
   unfolding weight FirstInFirstOut
   put-back r g h =
       let i = count-ring q.store q.first q.stored in
       let e = (first-in-first-out q s.store).0 r (omega arith) in
-      omega (arith, ap (weight g) e, weight-append g (storedIn q) (r ∷ []))
+      omega (arith, ap (weight g) e, weight-append g (stored_in q) (r ∷ []))
 
   -- To party p.
   given : (p : ℕ) → get_or bs p false ≡ false → p < PARTIES → (r : ℕ) (g : ℕ → ℕ)
@@ -172,23 +172,23 @@ module _ (bs cs : List Bool) (q : Pool) (s : Sized bs cs q) where
 
   module _ (p : ℕ) (e : get_or bs p false ≡ true) where
     -- From party p.
-    gone : (g : ℕ → ℕ) → sum g (set bs p false) q.hands + g (handOf q p) ≡ sum g bs q.hands
-    unfolding handOf
+    gone : (g : ℕ → ℕ) → sum g (set bs p false) q.hands + g (hand_of q p) ≡ sum g bs q.hands
+    unfolding hand_of
     gone g = omega (arith, sum-turn g bs q.hands (omega arith) p (inside bs p e) true false e)
 
     -- To the store: 38, 2D.
-    pub stored : Same bs cs q (set bs p false) cs (put_back (handOf q p) q)
+    pub stored : Same bs cs q (set bs p false) cs (put_back (hand_of q p) q)
     stored =
         record {
           sizes = simp length-set;
-          weigh = λ g. omega (arith, gone g, put-back (handOf q p) g (omega (arith, gone one)));
+          weigh = λ g. omega (arith, gone g, put-back (hand_of q p) g (omega (arith, gone one)));
         }
 
     -- To the place of ticket t: 29, 2B.
     pub left : (t : ℕ) → get_or cs (t % PLACES) false ≡ false
-        → Same bs cs q (set bs p false) (set cs (t % PLACES) true) (layAt t (handOf q p) q)
+        → Same bs cs q (set bs p false) (set cs (t % PLACES) true) (lay_at t (hand_of q p) q)
     left t f =
-        let r = handOf q p in
+        let r = hand_of q p in
         record {
           sizes = simp length-set;
           weigh = λ g.
@@ -198,10 +198,10 @@ module _ (bs cs : List Bool) (q : Pool) (s : Sized bs cs q) where
 
     -- To the waiter w: 2A.
     pub passed : (w : ℕ) → get_or bs w false ≡ false → w < PARTIES
-        → Same bs cs q (set (set bs w true) p false) cs (handTo w (handOf q p) q)
-    unfolding handOf
+        → Same bs cs q (set (set bs w true) p false) cs (hand_to w (hand_of q p) q)
+    unfolding hand_of
     passed w f h =
-        let r = handOf q p in
+        let r = hand_of q p in
         let o : p ≢ w = λ z. (let y : ◌≡◌ {A = ℕ} 0 1 = cc in omega arith) in
         let i = get_or-set_other bs w p true false o ∙ e in
         record {
@@ -220,24 +220,24 @@ module _ (bs cs : List Bool) (q : Pool) (s : Sized bs cs q) where
   module _ (t : ℕ) (e : get_or cs (t % PLACES) false ≡ true) where
     -- From the place of ticket t.
     cleared : (g : ℕ → ℕ)
-        → sum g (set cs (t % PLACES) false) q.laid + g (laidAt q t) ≡ sum g cs q.laid
-    unfolding laidAt
+        → sum g (set cs (t % PLACES) false) q.laid + g (laid_at q t) ≡ sum g cs q.laid
+    unfolding laid_at
     cleared g =
         omega (arith, sum-turn g cs q.laid (omega arith) (t % PLACES) (inside cs _ e) true false e)
 
     -- To party p: 25, 31.
     pub found : (p : ℕ) → get_or bs p false ≡ false → p < PARTIES
-        → Same bs cs q (set bs p true) (set cs (t % PLACES) false) (handTo p (laidAt q t) q)
+        → Same bs cs q (set bs p true) (set cs (t % PLACES) false) (hand_to p (laid_at q t) q)
     found p f h =
         record {
           sizes = simp length-set;
-          weigh = λ g. omega (arith, cleared g, given p f h (laidAt q t) g);
+          weigh = λ g. omega (arith, cleared g, given p f h (laid_at q t) g);
         }
 
     -- To the store: 33.
-    pub dropped : Same bs cs q bs (set cs (t % PLACES) false) (put_back (laidAt q t) q)
+    pub dropped : Same bs cs q bs (set cs (t % PLACES) false) (put_back (laid_at q t) q)
     dropped =
         record {
           sizes = simp length-set;
-          weigh = λ g. omega (arith, cleared g, put-back (laidAt q t) g (omega (arith, cleared one)));
+          weigh = λ g. omega (arith, cleared g, put-back (laid_at q t) g (omega (arith, cleared one)));
         }

@@ -12,11 +12,11 @@ use Rattle.hub.specs.declared.record.Place.{Place}
 use Rattle.hub.specs.declared.record.Place.TheVariants.{Empty, Waiting as WaitedBy, Permit}
 use Rattle.hub.specs.declared.record.Place.TheVariants.{Cancelled, Refused, Done}
 use Rattle.hub.specs.declared.record.PlaceSlot.{PlaceSlot}
-use Rattle.hub.specs.Basics.{all_of, implies, upTo32}
-use Rattle.hub.specs.Fits.{inWindow, standsAt}
-use Rattle.hub.specs.Ledger.{phaseIn}
-use Rattle.hub.specs.Phases.{byWaiter, isFree, isOneOf, stands, ticketOf}
-use Rattle.hub.specs.Record.{MAX-BEGUN}
+use Rattle.hub.specs.Basics.{all_of, implies, up_to32}
+use Rattle.hub.specs.Fits.{in_window, stands_at}
+use Rattle.hub.specs.Ledger.{phase_in}
+use Rattle.hub.specs.Phases.{by_waiter, is_free, is_one_of, stands, ticket_of}
+use Rattle.hub.specs.Record.{MAX_BEGUN}
 use Rattle.hub.specs.Ring.{PLACES, read_place}
 use Rattle.hub.proofs.Laws.Bools.{both, passed, none}
 use Rattle.hub.proofs.Laws.Phases.{one_of}
@@ -29,83 +29,83 @@ pub where-true : (b c : Bool) → (b ≡ true → c ≡ true) → implies b c �
 where-true true c f = f refl
 where-true false c f = refl
 
-pub up-to-32 : (n : ℕ) → 1 ≤ n → n ≤ 32 → upTo32 n ≡ true
+pub up-to-32 : (n : ℕ) → 1 ≤ n → n ≤ 32 → up_to32 n ≡ true
 up-to-32 n a b = both _ _ (le-leb 1 n a) (le-leb n 32 b)
 
 -- Whoever stands at t in the count stands at t in the test.
-stands_at : (t : ℕ) (f : Phase) → stand t f ≡ 1 → standsAt f t ≡ true
+stands_at_lem : (t : ℕ) (f : Phase) → stand t f ≡ 1 → stands_at f t ≡ true
 unfolding pick
-stands_at t f = go (stands f)
+stands_at_lem t f = go (stands f)
   where
-    go : (b : Bool) → cond b (same (ticketOf f) t) 0 ≡ 1 → b && eqb (ticketOf f) t ≡ true
-    go true e = eq-eqb (ticketOf f) t (same-eq (ticketOf f) t (omega arith))
+    go : (b : Bool) → cond b (same (ticket_of f) t) 0 ≡ 1 → b && eqb (ticket_of f) t ≡ true
+    go true e = eq-eqb (ticket_of f) t (same-eq (ticket_of f) t (omega arith))
     go false e = let z : ⊥ = omega arith in absurd z
 
 module _ {l : List Phase} {g : ℕ → PlaceSlot} {o : ℕ} {a : List PlaceSlot} {n i r b q e : ℕ}
     (x : Tracked l g o a n i r b q e) where
   -- The figures that both have, as their clauses end.
-  pub numbers_fit : all_of (leb b MAX-BEGUN ∷ leb i MAX-BEGUN ∷ leb r MAX-BEGUN ∷ leb o i ∷ leb o r
+  pub numbers_fit : all_of (leb b MAX_BEGUN ∷ leb i MAX_BEGUN ∷ leb r MAX_BEGUN ∷ leb o i ∷ leb o r
       ∷ leb i (o + PLACES) ∷ leb r (o + PLACES) ∷ []) ≡ true
   numbers_fit =
       let few = near x.tickets in
       let above = low x in
       let below = high x in
-      passed _ _ (le-leb b MAX-BEGUN x.tickets.begun)
-      (passed _ _ (le-leb i MAX-BEGUN (omega arith))
-      (passed _ _ (le-leb r MAX-BEGUN (omega arith))
+      passed _ _ (le-leb b MAX_BEGUN x.tickets.begun)
+      (passed _ _ (le-leb i MAX_BEGUN (omega arith))
+      (passed _ _ (le-leb r MAX_BEGUN (omega arith))
       (passed _ _ (le-leb o i (omega arith))
       (passed _ _ (le-leb o r (omega arith))
       (passed _ _ (le-leb i (o + PLACES) (omega arith))
       (passed _ _ (le-leb r (o + PLACES) (omega arith)) none))))))
 
   -- A ticket with an owner or a hand is in the window, and below the next of its kind.
-  in_window : (p t u : ℕ) (f : Phase) → phaseIn l p ≡ f → 1 ≤ own t f + hand t f → t < u
-      → inWindow o u t ≡ true
-  unfolding inWindow
-  in_window p t u f z y c =
+  in_window_lem : (p t u : ℕ) (f : Phase) → phase_in l p ≡ f → 1 ≤ own t f + hand t f → t < u
+      → in_window o u t ≡ true
+  unfolding in_window
+  in_window_lem p t u f z y c =
       let w = has-place x p t (subst (λ (d : Phase). 1 ≤ own t d + hand t d) (sym z) y) in
       both _ _ (both _ _ (le-leb o t w.0) (lt-ltb t (o + PLACES) w.1)) (lt-ltb t u c)
 
   -- A party's ticket, clause by clause.
-  pub ticket-fits : (p : ℕ) (f : Phase) → phaseIn l p ≡ f
+  pub ticket-fits : (p : ℕ) (f : Phase) → phase_in l p ≡ f
       → all_of
       (implies
-      (isOneOf
+      (is_one_of
       (Phase.Ticketed 0 ∷ Phase.TicketedMarked 0 ∷ Phase.Waiting 0 ∷ Phase.Aborting 0 ∷ Phase.Cancelling 0
       ∷ Phase.Refusing 0 ∷ []) f)
-      (inWindow o i (ticketOf f))
-      ∷ implies (isOneOf (ResumingAt 0 ∷ []) f) (inWindow o r (ticketOf f))
-      ∷ implies (isOneOf (Suspending ∷ Phase.SuspendingMarked ∷ []) f) (ltb i (o + PLACES))
-      ∷ implies (isOneOf (Resuming ∷ []) f) (ltb r (o + PLACES))
+      (in_window o i (ticket_of f))
+      ∷ implies (is_one_of (ResumingAt 0 ∷ []) f) (in_window o r (ticket_of f))
+      ∷ implies (is_one_of (Suspending ∷ Phase.SuspendingMarked ∷ []) f) (ltb i (o + PLACES))
+      ∷ implies (is_one_of (Resuming ∷ []) f) (ltb r (o + PLACES))
       ∷ []) ≡ true
-  unfolding pick isOneOf
+  unfolding pick is_one_of
   ticket-fits p f z =
       passed _ _ (where-true _ _ owns)
       (passed _ _ (where-true _ _ hands)
       (passed _ _ (where-true _ _ draws) (passed _ _ (where-true _ _ carries) none)))
     where
-      owns : isOneOf (Phase.Ticketed 0 ∷ Phase.TicketedMarked 0 ∷ Phase.Waiting 0 ∷ Phase.Aborting 0
+      owns : is_one_of (Phase.Ticketed 0 ∷ Phase.TicketedMarked 0 ∷ Phase.Waiting 0 ∷ Phase.Aborting 0
           ∷ Phase.Cancelling 0 ∷ Phase.Refusing 0 ∷ []) f ≡ true
-          → inWindow o i (ticketOf f) ≡ true
+          → in_window o i (ticket_of f) ≡ true
       owns y =
-          let t = ticketOf f in
+          let t = ticket_of f in
           let w : own t f ≡ same t t = ap (λ (d : Bool). cond d (same t t) 0) y in
           let v : 1 ≤ own t f = omega (arith, w, same_self t) in
-          in_window p t i f z (omega arith) (owner-below x.tickets p t f z v)
+          in_window_lem p t i f z (omega arith) (owner-below x.tickets p t f z v)
 
-      hands : isOneOf (ResumingAt 0 ∷ []) f ≡ true → inWindow o r (ticketOf f) ≡ true
+      hands : is_one_of (ResumingAt 0 ∷ []) f ≡ true → in_window o r (ticket_of f) ≡ true
       hands y =
-          let t = ticketOf f in
+          let t = ticket_of f in
           let z' = z ∙ one_of (ResumingAt 0) f y in
-          in_window p t r (ResumingAt t) z' (omega (arith, same_self t)) (hand-below x.tickets p t z')
+          in_window_lem p t r (ResumingAt t) z' (omega (arith, same_self t)) (hand-below x.tickets p t z')
 
-      draws : isOneOf (Suspending ∷ Phase.SuspendingMarked ∷ []) f ≡ true → ltb i (o + PLACES) ≡ true
+      draws : is_one_of (Suspending ∷ Phase.SuspendingMarked ∷ []) f ≡ true → ltb i (o + PLACES) ≡ true
       draws y =
           let s : suspending f ≡ 1 = ap (λ (d : Bool). cond d 1 0) y in
           lt-ltb i (o + PLACES)
           (omega (arith, one_in x.tickets suspending p f refl z, s, drawing-most x.tickets, x.room))
 
-      carries : isOneOf (Resuming ∷ []) f ≡ true → ltb r (o + PLACES) ≡ true
+      carries : is_one_of (Resuming ∷ []) f ≡ true → ltb r (o + PLACES) ≡ true
       carries y =
           lt-ltb r (o + PLACES)
           (omega (
@@ -117,25 +117,25 @@ module _ {l : List Phase} {g : ℕ → PlaceSlot} {o : ℕ} {a : List PlaceSlot}
           ))
 
   -- Parties from n up are free.
-  pub absent-free : (p : ℕ) (f : Phase) → f ≡ phaseIn l p → ltb p n || isFree f ≡ true
-  unfolding isOneOf
+  pub absent-free : (p : ℕ) (f : Phase) → f ≡ phase_in l p → ltb p n || is_free f ≡ true
+  unfolding is_one_of
   absent-free p f z = go (ltb p n) refl
     where
-      go : (c : Bool) → ltb p n ≡ c → c || isFree f ≡ true
+      go : (c : Bool) → ltb p n ≡ c → c || is_free f ≡ true
       go true y = refl
-      go false y = ap isFree (z ∙ x.tickets.beyond p (ltb-false p n y))
+      go false y = ap is_free (z ∙ x.tickets.beyond p (ltb-false p n y))
 
   -- The party of a waiting place stands there, whatever its phase is read from.
-  pub waiter-stands : (read : ℕ → Phase) → ((p : ℕ) → read p ≡ phaseIn l p) → (t : ℕ) → o ≤ t → t < o + PLACES
-      → byWaiter true (λ p. standsAt (read p) t) (read_place a t) ≡ true
+  pub waiter-stands : (read : ℕ → Phase) → ((p : ℕ) → read p ≡ phase_in l p) → (t : ℕ) → o ≤ t → t < o + PLACES
+      → by_waiter true (λ p. stands_at (read p) t) (read_place a t) ≡ true
   waiter-stands read z t y w =
-      ap (λ (c : PlaceSlot). byWaiter true (λ p. standsAt (read p) t) c.place) (sym (x.window.within t y w))
+      ap (λ (c : PlaceSlot). by_waiter true (λ p. stands_at (read p) t) c.place) (sym (x.window.within t y w))
       ∙ go (g t).place refl
     where
-      go : (c : Place) → (g t).place ≡ c → byWaiter true (λ p. standsAt (read p) t) c ≡ true
+      go : (c : Place) → (g t).place ≡ c → by_waiter true (λ p. stands_at (read p) t) c ≡ true
       go Empty d = refl
       go (WaitedBy p) d =
-          ap (λ (f : Phase). standsAt f t) (z p) ∙ stands_at t (phaseIn l p) (x.tickets.named t p d)
+          ap (λ (f : Phase). stands_at f t) (z p) ∙ stands_at_lem t (phase_in l p) (x.tickets.named t p d)
       go Permit d = refl
       go Cancelled d = refl
       go Refused d = refl

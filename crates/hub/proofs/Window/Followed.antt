@@ -21,22 +21,22 @@ use Rattle.hub.specs.declared.record.PartySlot.{PartySlot}
 use Rattle.hub.specs.declared.record.Phase.{Phase}
 use Rattle.hub.specs.declared.record.Pool.{Pool}
 use Rattle.hub.specs.Answers.{Printed, printed}
-use Rattle.hub.specs.Calls.{isFull, checked, move_of, answer_of, apply, tidied, called}
-use Rattle.hub.specs.Fits.{fits, kindsFit}
-use Rattle.hub.specs.Ledger.{phaseIn}
-use Rattle.hub.specs.Look.{look, seenBy}
-use Rattle.hub.specs.Opening.{radiosDiffer}
+use Rattle.hub.specs.Calls.{is_full, checked, move_of, answer_of, apply, tidied, called}
+use Rattle.hub.specs.Fits.{fits, kinds_fit}
+use Rattle.hub.specs.Ledger.{phase_in}
+use Rattle.hub.specs.Look.{look, seen_by}
+use Rattle.hub.specs.Opening.{radios_differ}
 use Rattle.hub.specs.Queue.{Queue, phases}
 use Rattle.hub.specs.Queue as queue
-use Rattle.hub.specs.Radios.{moved, poolAfter}
-use Rattle.hub.specs.Record.{withPool, writeSlot}
-use Rattle.hub.specs.Refinement.{Shows, isSeven}
+use Rattle.hub.specs.Radios.{moved, pool_after}
+use Rattle.hub.specs.Record.{with_pool, write_slot}
+use Rattle.hub.specs.Refinement.{Shows, is_seven}
 use Rattle.hub.specs.Ring.{PLACES}
 use Rattle.hub.specs.Table.{decide, acquire}
 use Rattle.hub.proofs.Laws.Opening.{kept-opening}
 use Rattle.hub.proofs.Laws.Slots.{read-phase}
 use Rattle.hub.proofs.Invariant.Weights.{drawing, sum}
-use Rattle.hub.proofs.Invariant.Rows.{Good, Next, isAcquire}
+use Rattle.hub.proofs.Invariant.Rows.{Good, Next, is_acquire}
 use Rattle.hub.proofs.Invariant.Walk.{decide-good}
 use Rattle.hub.proofs.Invariant.Schedules.{with-pool-inv}
 use Rattle.hub.proofs.Radios.Kept.{called-kept}
@@ -48,23 +48,23 @@ use Rattle.hub.proofs.Window.Reached.{reached-fits}
 -- What the hub's move v does beside the queue's: the same, unless it answers 7, and then nothing.
 abbrev left : Hub → ℕ → Sight → Move → Hub
 left h p s v =
-    withPool (poolAfter h.control.opening.named (printed (answer_of v)) p h.control.pool) (apply h s v)
+    with_pool (pool_after h.control.opening.named (printed (answer_of v)) p h.control.pool) (apply h s v)
 
 pub record Follows (k : ℕ) (h : Hub) (m : Queue) (c : Call) (s : Sight) (v : Move) : Type 0 where
-  pub alike : isSeven (answer_of v) ≡ false
+  pub alike : is_seven (answer_of v) ≡ false
       → Tracks k (left h c.party s v) (queue.next m c)
       × (answer_of v ≡ answer_of (queue.move_of m c))
-  pub seven : isSeven (answer_of v) ≡ true → left h c.party s v ≡ h
+  pub seven : is_seven (answer_of v) ≡ true → left h c.party s v ≡ h
 
 -- A success is no 7.
-pub not-seven : (a : Answer) → ltb (printed a).code 0x20 ≡ false → isSeven a ≡ true → ⊥
+pub not-seven : (a : Answer) → ltb (printed a).code 0x20 ≡ false → is_seven a ≡ true → ⊥
 not-seven a i j =
     omega (arith, ltb-false (printed a).code 0x20 i, eqb-true (printed a).code 7 j)
 
 -- A 7 moves no radio.
 seven-pool : (b : Bool) (y : Printed) (p : ℕ) (q : Pool) → eqb y.code 7 ≡ true
-    → poolAfter b y p q ≡ q
-unfolding poolAfter moved
+    → pool_after b y p q ≡ q
+unfolding pool_after moved
 seven-pool false y p q e = refl
 seven-pool true y p q e =
     subst
@@ -73,7 +73,7 @@ seven-pool true y p q e =
 
 -- Radios that move alike in both are no matter of the queue's.
 tracks-pool : (k : ℕ) (h : Hub) (m : Queue) (q q' : Pool) → q ≡ q' → Tracks k h m
-    → Tracks k (withPool q h) (queue.withPool q' m)
+    → Tracks k (with_pool q h) (queue.with_pool q' m)
 tracks-pool k h m q q' e r =
     record {
       permits = r.permits;
@@ -98,28 +98,28 @@ module _ (k : ℕ) (h : Hub) (m : Queue) (r : Tracks k h m) (c : Call) where
   phase = seen.slot.phase
 
   -- the party's phase is in the list of everybody's
-  own-phase : phaseIn (phases m) c.party ≡ phase
-  unfolding seenBy
+  own-phase : phase_in (phases m) c.party ≡ phase
+  unfolding seen_by
   own-phase = sym (read-phase m.slots c.party)
 
   -- A move made by both, and one that answers 7.
   beside : (v : Move) → Tracks k (apply h seen v) (queue.apply m seen v)
-      → (isSeven (answer_of v) ≡ true → apply h seen v ≡ h) → v ≡ queue.move_of m c
+      → (is_seven (answer_of v) ≡ true → apply h seen v ≡ h) → v ≡ queue.move_of m c
       → Follows k h m c seen v
   beside v t z e =
       record {
         alike = λ i. (
           tracks-pool k (apply h seen v) (queue.apply m seen (queue.move_of m c)) _ _
               (λ j.
-              poolAfter (r.shows.opening j).named (printed (answer_of (e j))) c.party (r.shows.pool j))
+              pool_after (r.shows.opening j).named (printed (answer_of (e j))) c.party (r.shows.pool j))
               (subst (λ (x : Move). Tracks k (apply h seen v) (queue.apply m seen x)) e t),
           ap answer_of e,
         );
-        seven = λ i. ap₂ withPool (seven-pool _ _ _ _ i) (z i);
+        seven = λ i. ap₂ with_pool (seven-pool _ _ _ _ i) (z i);
       }
 
   -- A good move, for which there is room.
-  module _ (spare : m.figures.issued + sum drawing m + isAcquire c.op ≤ h.control.oldest + PLACES) where
+  module _ (spare : m.figures.issued + sum drawing m + is_acquire c.op ≤ h.control.oldest + PLACES) where
     changed : (a : Answer) (h' : Hub) (m' : Queue) → Next k c.op c.party a m m'
         → Shows h' m' → length h'.places ≡ PLACES → h'.control.oldest ≡ h.control.oldest
         → Tracks k (tidied h') (queue.tidied m')
@@ -137,7 +137,7 @@ module _ (k : ℕ) (h : Hub) (m : Queue) (r : Tracks k h m) (c : Call) where
 
     apply-tracks : (v : Move) → Good k c.op c.party m phase v
         → Tracks k (apply h seen v) (queue.apply m seen v)
-    unfolding apply queue.apply seenBy
+    unfolding apply queue.apply seen_by
     apply-tracks (Refuse x) g = r
     apply-tracks (Tell y) g = r
     apply-tracks (Act x) g =
@@ -145,7 +145,7 @@ module _ (k : ℕ) (h : Hub) (m : Queue) (r : Tracks k h m) (c : Call) where
         (record {
           opening = r.shows.opening;
           figures = refl;
-          slots = ap (λ (l : List PartySlot). writeSlot l c.party x.slot) r.shows.slots;
+          slots = ap (λ (l : List PartySlot). write_slot l c.party x.slot) r.shows.slots;
           window = r.shows.window;
           pool = r.shows.pool;
         })
@@ -156,7 +156,7 @@ module _ (k : ℕ) (h : Hub) (m : Queue) (r : Tracks k h m) (c : Call) where
         (record {
           opening = r.shows.opening;
           figures = refl;
-          slots = ap (λ (l : List PartySlot). writeSlot l c.party x.slot) r.shows.slots;
+          slots = ap (λ (l : List PartySlot). write_slot l c.party x.slot) r.shows.slots;
           window = q.0;
           pool = r.shows.pool;
         })
@@ -168,7 +168,7 @@ module _ (k : ℕ) (h : Hub) (m : Queue) (r : Tracks k h m) (c : Call) where
           opening = r.shows.opening;
           figures = refl;
           slots =
-              ap (λ (l : List PartySlot). writeSlot (writeSlot l w s) c.party x.slot)
+              ap (λ (l : List PartySlot). write_slot (write_slot l w s) c.party x.slot)
               r.shows.slots;
           window = q.0;
           pool = r.shows.pool;
@@ -179,7 +179,7 @@ module _ (k : ℕ) (h : Hub) (m : Queue) (r : Tracks k h m) (c : Call) where
         → Follows k h m c seen v
     made v g e = beside v (apply-tracks v g) (still v g) e
       where
-        still : (v : Move) → Good k c.op c.party m phase v → isSeven (answer_of v) ≡ true
+        still : (v : Move) → Good k c.op c.party m phase v → is_seven (answer_of v) ≡ true
             → apply h seen v ≡ h
         still (Refuse x) g i = unfold apply in refl
         still (Tell y) g i = absurd (not-seven y g.reports.success i)
@@ -196,7 +196,7 @@ module _ (k : ℕ) (h : Hub) (m : Queue) (r : Tracks k h m) (c : Call) where
   seventh =
       record {
         alike = λ i. (let z : ◌≡◌ {A = ℕ} 0 1 = cc in let y : ⊥ = omega arith in absurd y);
-        seven = λ i. ap (λ (q : Pool). withPool q h) (seven-pool _ _ _ _ i);
+        seven = λ i. ap (λ (q : Pool). with_pool q h) (seven-pool _ _ _ _ i);
       }
 
   -- 7 takes the place of an accepted ask, and of nothing else.
@@ -208,7 +208,7 @@ module _ (k : ℕ) (h : Hub) (m : Queue) (r : Tracks k h m) (c : Call) where
   full-acquire true false e = seventh
 
   abbrev full : Bool
-  full = isFull h.control.oldest h.control.figures.issued h.slots
+  full = is_full h.control.oldest h.control.figures.issued h.slots
 
   decided : (b : Bool) (o : Op) → full ≡ b → c.op ≡ o
       → Good k c.op c.party m phase (decide o false seen)
@@ -219,22 +219,22 @@ module _ (k : ℕ) (h : Hub) (m : Queue) (r : Tracks k h m) (c : Call) where
       (omega (
         arith,
         room-left (phases m) h.control.oldest m.figures.issued
-            (sym (λ i. isFull h.control.oldest (r.shows.figures i).issued (r.shows.slots i)) ∙ f),
+            (sym (λ i. is_full h.control.oldest (r.shows.figures i).issued (r.shows.slots i)) ∙ f),
         at_most c.op,
       ))
       (decide o false seen) g e
     where
-      at_most : (o : Op) → isAcquire o ≤ 1
+      at_most : (o : Op) → is_acquire o ≤ 1
       at_most Acquire = omega arith
       at_most Step = omega arith
       at_most Cancel = omega arith
       at_most Release = omega arith
       at_most Radio = omega arith
   decided true Acquire f z g e = full-acquire _ _ e
-  decided true Step f z g e = made (omega (arith, r.room, ap isAcquire z)) _ g e
-  decided true Cancel f z g e = made (omega (arith, r.room, ap isAcquire z)) _ g e
-  decided true Release f z g e = made (omega (arith, r.room, ap isAcquire z)) _ g e
-  decided true Radio f z g e = made (omega (arith, r.room, ap isAcquire z)) _ g e
+  decided true Step f z g e = made (omega (arith, r.room, ap is_acquire z)) _ g e
+  decided true Cancel f z g e = made (omega (arith, r.room, ap is_acquire z)) _ g e
+  decided true Release f z g e = made (omega (arith, r.room, ap is_acquire z)) _ g e
+  decided true Radio f z g e = made (omega (arith, r.room, ap is_acquire z)) _ g e
 
   in-turn : (b : Bool) → ltb c.party m.opening.parties ≡ b
       → Follows k h m c seen (checked true b (decide c.op full seen))
@@ -270,8 +270,8 @@ module _ (k : ℕ) (h : Hub) (m : Queue) (r : Reached k h m) (c : Call) where
       let o = kept-opening h (look h c.party) (move_of h c) in
       record {
         tracks = t;
-        differ = ap radiosDiffer o ∙ r.differ;
-        kinds = ap kindsFit o ∙ r.kinds;
+        differ = ap radios_differ o ∙ r.differ;
+        kinds = ap kinds_fit o ∙ r.kinds;
         radios = λ n.
             let n' = sym (ap (λ (x : Opening). x.named) o) ∙ n in
             called-kept h c n' (r.radios n');

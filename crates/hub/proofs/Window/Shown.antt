@@ -6,16 +6,16 @@ use mathlib.Core.List.{List}
 use lib.ListN.{length}
 use Rattle.hub.specs.declared.record.Hub.{Hub}
 use Rattle.hub.specs.declared.record.PartySlot.{PartySlot}
-use Rattle.hub.specs.Fits.{kindsFit}
-use Rattle.hub.specs.Ledger.{phaseIn}
-use Rattle.hub.specs.Look.{look, seenBy, sightOn}
-use Rattle.hub.specs.Opening.{radiosDiffer}
-use Rattle.hub.specs.Phases.{byTicket, byWaiter}
+use Rattle.hub.specs.Fits.{kinds_fit}
+use Rattle.hub.specs.Ledger.{phase_in}
+use Rattle.hub.specs.Look.{look, seen_by, sight_on}
+use Rattle.hub.specs.Opening.{radios_differ}
+use Rattle.hub.specs.Phases.{by_ticket, by_waiter}
 use Rattle.hub.specs.Queue.{Queue, phases}
 use Rattle.hub.specs.Queue as queue
-use Rattle.hub.specs.Record.{emptySeat, freeSlot, phasesOf, read_slot}
+use Rattle.hub.specs.Record.{empty_seat, free_slot, phases_of, read_slot}
 use Rattle.hub.specs.Refinement.{Shows}
-use Rattle.hub.specs.Ring.{PLACES, readSeat}
+use Rattle.hub.specs.Ring.{PLACES, read_seat}
 use Rattle.hub.proofs.Laws.Slots.{read-phase}
 use Rattle.hub.proofs.Invariant.Weights.{down, drawing, resuming, sum}
 use Rattle.hub.proofs.Invariant.Keep.{Inv}
@@ -33,8 +33,8 @@ pub record Tracks (k : ℕ) (h : Hub) (m : Queue) : Type 0 where
 -- A record that a schedule reaches: on a hub with radios, they are those of its opening.
 pub record Reached (k : ℕ) (h : Hub) (m : Queue) : Type 0 where
   pub tracks : Tracks k h m
-  pub differ : radiosDiffer h.control.opening ≡ true
-  pub kinds : kindsFit h.control.opening ≡ true
+  pub differ : radios_differ h.control.opening ≡ true
+  pub kinds : kinds_fit h.control.opening ≡ true
   pub radios : h.control.opening.named ≡ true → Kept h
 
 -- Its places beside the queue's cells.
@@ -47,20 +47,20 @@ tracked r =
 
 module _ (k : ℕ) (h : Hub) (m : Queue) (r : Tracks k h m) where
   -- What the party sees is what it would see at the queue.
-  pub read_same : (p : ℕ) → (read_slot h.slots p).phase ≡ phaseIn (phases m) p
+  pub read_same : (p : ℕ) → (read_slot h.slots p).phase ≡ phase_in (phases m) p
   read_same p =
       read-phase h.slots p
-      ∙ ap (λ (l : List PartySlot). phaseIn (phasesOf l) p) r.shows.slots
+      ∙ ap (λ (l : List PartySlot). phase_in (phases_of l) p) r.shows.slots
 
   seat-alike : (p : ℕ)
-      → byTicket emptySeat (readSeat h.places) (read_slot h.slots p).phase
-      ≡ byTicket emptySeat m.cells (read_slot m.slots p).phase
+      → by_ticket empty_seat (read_seat h.places) (read_slot h.slots p).phase
+      ≡ by_ticket empty_seat m.cells (read_slot m.slots p).phase
   seat-alike p =
-      ap (λ (l : List PartySlot). byTicket emptySeat (readSeat h.places) (read_slot l p).phase) r.shows.slots
+      ap (λ (l : List PartySlot). by_ticket empty_seat (read_seat h.places) (read_slot l p).phase) r.shows.slots
       ∙ seat-same (tracked r) p _ (sym (read-phase m.slots p))
 
   pub look-same : (p : ℕ) → look h p ≡ queue.look m p
-  unfolding seenBy
+  unfolding seen_by
   look-same p = λ i.
-      sightOn (r.shows.figures i) (r.shows.opening i) (r.shows.pool i) p (read_slot (r.shows.slots i) p) (seat-alike p i)
-      (byWaiter freeSlot (read_slot (r.shows.slots i)) (seat-alike p i).place)
+      sight_on (r.shows.figures i) (r.shows.opening i) (r.shows.pool i) p (read_slot (r.shows.slots i) p) (seat-alike p i)
+      (by_waiter free_slot (read_slot (r.shows.slots i)) (seat-alike p i).place)

@@ -12,12 +12,12 @@ use lib.ListN.{length}
 use Rattle.hub.specs.declared.record.Phase.{Phase}
 use Rattle.hub.specs.declared.record.PlaceSlot.{PlaceSlot}
 use Rattle.hub.specs.Basics.{bit, count, weight}
-use Rattle.hub.specs.Ledger.{phaseIn}
-use Rattle.hub.specs.Phases.{byTicket, drawsTicket, isOneOf, isPlaceOf, ticketOf}
+use Rattle.hub.specs.Ledger.{phase_in}
+use Rattle.hub.specs.Phases.{by_ticket, draws_ticket, is_one_of, is_place_of, ticket_of}
 use Rattle.hub.specs.Queue.{write}
-use Rattle.hub.specs.Record.{emptySeat}
+use Rattle.hub.specs.Record.{empty_seat}
 use Rattle.hub.specs.Refinement.{Window}
-use Rattle.hub.specs.Ring.{PLACES, readSeat, writeSeat}
+use Rattle.hub.specs.Ring.{PLACES, read_seat, write_seat}
 use Rattle.hub.proofs.Laws.Phases.{by-ticket, ticketed}
 use Rattle.hub.proofs.Laws.Seats.{written-size}
 use Rattle.hub.proofs.Invariant.Weights.{lt-le, lt-pos, pick, drawing, own, hand, spent, served}
@@ -35,12 +35,12 @@ pub record Tracked (l : List Phase) (g : ℕ → PlaceSlot) (o : ℕ) (a : List 
   pub room : i + weight drawing l ≤ o + PLACES
 
 -- Where the places are not full, one more may ask.
-pub room-left : (l : List Phase) (o i : ℕ) → leb (o + PLACES) (i + count drawsTicket l) ≡ false
+pub room-left : (l : List Phase) (o i : ℕ) → leb (o + PLACES) (i + count draws_ticket l) ≡ false
     → i + weight drawing l + 1 ≤ o + PLACES
 room-left l o i z =
     omega (
       arith,
-      leb-false (o + PLACES) (i + count drawsTicket l) z,
+      leb-false (o + PLACES) (i + count draws_ticket l) z,
       count-pick (Phase.Acquiring ∷ Phase.Suspending ∷ Phase.AcquiringMarked ∷ Phase.SuspendingMarked ∷ []) l,
     )
 
@@ -48,7 +48,7 @@ module _ {l : List Phase} {g : ℕ → PlaceSlot} {o : ℕ} {a : List PlaceSlot}
     (x : Tracked l g o a n i r b q e) where
   -- The oldest ticket has been issued, and drawn to resume: the one before it is done.
   pub low : (o ≤ i) × (o ≤ r)
-  unfolding isPlaceOf
+  unfolding is_place_of
   low = go o refl
     where
       go : (u : ℕ) → o ≡ u → (u ≤ i) × (u ≤ r)
@@ -63,14 +63,14 @@ module _ {l : List Phase} {g : ℕ → PlaceSlot} {o : ℕ} {a : List PlaceSlot}
   high = omega (arith, x.room, resumed-most x.tickets, drawing-most x.tickets)
 
   -- A ticket with an owner or a hand has a place: one that is done has neither.
-  pub has-place : (p t : ℕ) → 1 ≤ own t (phaseIn l p) + hand t (phaseIn l p) → (o ≤ t) × (t < o + PLACES)
-  unfolding isPlaceOf isOneOf pick
-  has-place p t y = (go (dec_le o t), below (dec_le 1 (own t (phaseIn l p))))
+  pub has-place : (p t : ℕ) → 1 ≤ own t (phase_in l p) + hand t (phase_in l p) → (o ≤ t) × (t < o + PLACES)
+  unfolding is_place_of is_one_of pick
+  has-place p t y = (go (dec_le o t), below (dec_le 1 (own t (phase_in l p))))
     where
-      owner : own t (phaseIn l p) ≤ weight (own t) l
+      owner : own t (phase_in l p) ≤ weight (own t) l
       owner = one_in x.tickets (own t) p _ refl refl
 
-      holder : hand t (phaseIn l p) ≤ weight (hand t) l
+      holder : hand t (phase_in l p) ≤ weight (hand t) l
       holder = one_in x.tickets (hand t) p _ refl refl
 
       go : Dec (o ≤ t) → o ≤ t
@@ -89,44 +89,44 @@ module _ {l : List Phase} {g : ℕ → PlaceSlot} {o : ℕ} {a : List PlaceSlot}
             lt-le t r,
           )
 
-      below : Dec (1 ≤ own t (phaseIn l p)) → t < o + PLACES
+      below : Dec (1 ≤ own t (phase_in l p)) → t < o + PLACES
       below (yes z) = omega (arith, high, lt-pos t i (omega (arith, owner, (x.tickets.at t).owned)))
       below (no z) = omega (arith, high, lt-pos t r (omega (arith, holder, (x.tickets.at t).handed)))
 
   -- The ticket of a party's phase has a place.
-  pub ticket-place : (p : ℕ) (f : Phase) → phaseIn l p ≡ f → ticketed f ≡ true
-      → (o ≤ ticketOf f) × (ticketOf f < o + PLACES)
+  pub ticket-place : (p : ℕ) (f : Phase) → phase_in l p ≡ f → ticketed f ≡ true
+      → (o ≤ ticket_of f) × (ticket_of f < o + PLACES)
   ticket-place p f w z =
-      has-place p (ticketOf f)
-      (subst (λ (y : Phase). 1 ≤ own (ticketOf f) y + hand (ticketOf f) y) (sym w)
+      has-place p (ticket_of f)
+      (subst (λ (y : Phase). 1 ≤ own (ticket_of f) y + hand (ticket_of f) y) (sym w)
       (omega (arith, has-ticket f, ap bit z)))
 
   -- What a party sees at its ticket is what it would see at the cells.
-  pub seat-same : (p : ℕ) (f : Phase) → phaseIn l p ≡ f
-      → byTicket emptySeat (readSeat a) f ≡ byTicket emptySeat g f
+  pub seat-same : (p : ℕ) (f : Phase) → phase_in l p ≡ f
+      → by_ticket empty_seat (read_seat a) f ≡ by_ticket empty_seat g f
   seat-same p f w =
-      by-ticket emptySeat (readSeat a) f ∙ go (ticketed f) refl ∙ sym (by-ticket emptySeat g f)
+      by-ticket empty_seat (read_seat a) f ∙ go (ticketed f) refl ∙ sym (by-ticket empty_seat g f)
     where
       go : (y : Bool) → ticketed f ≡ y
-          → cond y (readSeat a (ticketOf f)) emptySeat ≡ cond y (g (ticketOf f)) emptySeat
-      go true z = let j = ticket-place p f w z in sym (x.window.within (ticketOf f) j.0 j.1)
+          → cond y (read_seat a (ticket_of f)) empty_seat ≡ cond y (g (ticket_of f)) empty_seat
+      go true z = let j = ticket-place p f w z in sym (x.window.within (ticket_of f) j.0 j.1)
       go false z = refl
 
   -- The place of a party's ticket is written in both.
-  pub placed-window : (p : ℕ) (f : Phase) → phaseIn l p ≡ f → (c : PlaceSlot)
-      → Window o (byTicket a (λ t. writeSeat a t c) f) (byTicket g (λ t. write g t c) f)
-      × (length (byTicket a (λ t. writeSeat a t c) f) ≡ PLACES)
+  pub placed-window : (p : ℕ) (f : Phase) → phase_in l p ≡ f → (c : PlaceSlot)
+      → Window o (by_ticket a (λ t. write_seat a t c) f) (by_ticket g (λ t. write g t c) f)
+      × (length (by_ticket a (λ t. write_seat a t c) f) ≡ PLACES)
   placed-window p f w c =
       subst₂ (λ (k : List PlaceSlot) (h : ℕ → PlaceSlot). Window o k h × (length k ≡ PLACES))
-      (sym (by-ticket a (λ t. writeSeat a t c) f)) (sym (by-ticket g (λ t. write g t c) f))
+      (sym (by-ticket a (λ t. write_seat a t c) f)) (sym (by-ticket g (λ t. write g t c) f))
       (go (ticketed f) refl)
     where
       go : (y : Bool) → ticketed f ≡ y
-          → Window o (cond y (writeSeat a (ticketOf f) c) a) (cond y (write g (ticketOf f) c) g)
-          × (length (cond y (writeSeat a (ticketOf f) c) a) ≡ PLACES)
+          → Window o (cond y (write_seat a (ticket_of f) c) a) (cond y (write g (ticket_of f) c) g)
+          × (length (cond y (write_seat a (ticket_of f) c) a) ≡ PLACES)
       go false z = (x.window, x.size)
       go true z =
           let j = ticket-place p f w z in (
-            window-write o a g x.size x.window (ticketOf f) c j.0 j.1,
-            written-size a x.size (ticketOf f) c,
+            window-write o a g x.size x.window (ticket_of f) c j.0 j.1,
+            written-size a x.size (ticket_of f) c,
           )

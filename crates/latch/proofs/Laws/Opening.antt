@@ -5,7 +5,7 @@ use mathlib.Core.Bool.{Bool, true, false}
 use native.Mathlib.Omega.{arith}
 use borrow.Author.Tests.{leb-true}
 use lib.Dec.{leb}
-use Rattle.hub.specs.Basics.{all_of, upTo32}
+use Rattle.hub.specs.Basics.{all_of, up_to32}
 use Rattle.hub.specs.declared.answers.Answer.{Answer}
 use Rattle.hub.specs.declared.answers.Refusal.{Refusal}
 use Rattle.hub.proofs.Laws.Bools.{first, second}
@@ -13,28 +13,28 @@ use Rattle.latch.specs.declared.moves.LatchCall.{LatchCall}
 use Rattle.latch.specs.declared.opening.LatchOpening.{LatchOpening}
 use Rattle.latch.specs.declared.opening.Start.{Start}
 use Rattle.latch.specs.Calls.{called, checked, apply}
-use Rattle.latch.specs.Fits.{figuresFit, fits}
-use Rattle.latch.specs.Opening.{fresh, notOpened, opening, openingIf, startCode, upTo200}
+use Rattle.latch.specs.Fits.{figures_fit, fits}
+use Rattle.latch.specs.Opening.{fresh, not_opened, opening, opening_if, start_code, up_to200}
 
 module _ (a b : Bool) (c n : ℕ) where
-  pub refused-3 : a ≡ false → openingIf a b c n ≡ notOpened Start.BadParties
-  unfolding openingIf
+  pub refused-3 : a ≡ false → opening_if a b c n ≡ not_opened Start.BadParties
+  unfolding opening_if
   refused-3 e = rw e
 
-  pub refused-18 : a ≡ true → b ≡ false → openingIf a b c n ≡ notOpened Start.BadCount
-  unfolding openingIf
+  pub refused-18 : a ≡ true → b ≡ false → opening_if a b c n ≡ not_opened Start.BadCount
+  unfolding opening_if
   refused-18 e f = rw (e, f)
 
   pub accepted : a ≡ true → b ≡ true
-      → openingIf a b c n ≡ record { start = Start.Opened; latch = fresh c n }
-  unfolding openingIf
+      → opening_if a b c n ≡ record { start = Start.Opened; latch = fresh c n }
+  unfolding opening_if
   accepted e f = rw (e, f)
 
 -- What a refused opening hands back refuses every call by 1.
 pub never-opened : (x : Start) (c : LatchCall)
-    → called (notOpened x).latch c
-    ≡ record { answer = Answer.Refused Refusal.Unfit; latch = (notOpened x).latch }
-unfolding fresh fits figuresFit all_of checked apply
+    → called (not_opened x).latch c
+    ≡ record { answer = Answer.Refused Refusal.Unfit; latch = (not_opened x).latch }
+unfolding fresh fits figures_fit all_of checked apply
 never-opened x c = refl
 
 -- An opening that is accepted is within bounds, and its record is fresh.
@@ -44,11 +44,11 @@ pub record InRange (c n : ℕ) : Type 0 where
   pub latch : (opening c n).latch ≡ fresh c n
 
 pub in-range : (c n : ℕ) → (opening c n).start ≡ Start.Opened → InRange c n
-unfolding openingIf
-in-range c n = go (upTo32 n) (upTo200 c) refl refl
+unfolding opening_if
+in-range c n = go (up_to32 n) (up_to200 c) refl refl
   where
-    go : (a b : Bool) → upTo32 n ≡ a → upTo200 c ≡ b
-        → (openingIf a b c n).start ≡ Start.Opened → InRange c n
+    go : (a b : Bool) → up_to32 n ≡ a → up_to200 c ≡ b
+        → (opening_if a b c n).start ≡ Start.Opened → InRange c n
     go false b x y e = let i : ◌≡◌ {A = ℕ} 0 1 = cc in let w : ⊥ = omega arith in absurd w
     go true false x y e = let i : ◌≡◌ {A = ℕ} 0 1 = cc in let w : ⊥ = omega arith in absurd w
     go true true x y e =
@@ -56,9 +56,9 @@ in-range c n = go (upTo32 n) (upTo200 c) refl refl
           parties =
               (leb-true 1 n (first (leb 1 n) _ x), leb-true n 32 (second (leb 1 n) _ x));
           count = (leb-true 1 c (first (leb 1 c) _ y), leb-true c 200 (second (leb 1 c) _ y));
-          latch = λ i. (openingIf (x i) (y i) c n).latch;
+          latch = λ i. (opening_if (x i) (y i) c n).latch;
         }
 
 -- A promise that gives how an opening went gives its code.
-pub with_code : {o d : LatchOpening} → o ≡ d → (o ≡ d) × (startCode o.start ≡ startCode d.start)
-with_code e = (e, ap (λ (x : LatchOpening). startCode x.start) e)
+pub with_code : {o d : LatchOpening} → o ≡ d → (o ≡ d) × (start_code o.start ≡ start_code d.start)
+with_code e = (e, ap (λ (x : LatchOpening). start_code x.start) e)

@@ -10,7 +10,7 @@ use Rattle.hub.specs.declared.answers.Refusal.{Refusal}
 use Rattle.latch.specs.declared.moves.LatchCall.{LatchCall}
 use Rattle.latch.specs.declared.moves.LatchOp.{LatchOp}
 use Rattle.latch.specs.declared.record.Latch.{Latch}
-use Rattle.latch.specs.Calls.{answer_of, apply, called, isFull}
+use Rattle.latch.specs.Calls.{answer_of, apply, called, is_full}
 use Rattle.latch.specs.Fits.{fits}
 use Rattle.latch.specs.Look.{look}
 use Rattle.latch.specs.Schedule.{run}
@@ -38,6 +38,6 @@ module _ (h : Latch) (p : ℕ) (r : Lasting h) where
   turned-away o l = sym (no-such-party h p o (lasting-fits h r) (le-ltb p h.parties l))
 
   pub let-in : (o : LatchOp) → p < h.parties
-      → let m = decide o (isFull h.oldest h.figures.issued h.slots) (look h p) in
+      → let m = decide o (is_full h.oldest h.figures.issued h.slots) (look h p) in
       called h (asks o p) ≡ record { answer = answer_of m; latch = apply h (look h p) m }
   let-in o l = sym (admitted h p o (lasting-fits h r) (lt-ltb p h.parties l))

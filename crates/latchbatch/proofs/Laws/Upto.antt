@@ -16,8 +16,8 @@ use Rattle.latch.specs.declared.record.Latch.{Latch}
 use Rattle.latch.specs.declared.record.LatchOutcome.{LatchOutcome}
 use Rattle.latch.specs.Calls.{called}
 use Rattle.latch.specs.Schedule.{entries, run}
-use Rattle.latchbatch.specs.Batch.{Lasting, answered, call_at, callFor, callsIn, framesOf}
-use Rattle.latchbatch.specs.Batch.{withReply}
+use Rattle.latchbatch.specs.Batch.{Lasting, answered, call_at, call_for, calls_in, frames_of}
+use Rattle.latchbatch.specs.Batch.{with_reply}
 use Rattle.latchbatch.proofs.Laws.Answered.{one_more}
 
 -- Its answer, in seven bytes.
@@ -26,19 +26,19 @@ frame c o = frame_of c.party (printed o.answer)
 
 -- A call takes its bytes off the calls, and its answer off the buffer.
 one-record : (h : Latch) (m : ℕ) (l : List ℕ)
-    → run h (callsIn (suc m) l) ≡ run (called h (call_at l 0)).latch (callsIn m (drop 2 l))
-unfolding run callsIn
+    → run h (calls_in (suc m) l) ≡ run (called h (call_at l 0)).latch (calls_in m (drop 2 l))
+unfolding run calls_in
 one-record h m l = refl
 
 one-reply : (h : Latch) (m : ℕ) (l out : List ℕ)
     → let c = call_at l 0 in
     let t = called h c in
     answered h (suc m) l out ≡ frame c t ++ answered t.latch m (drop 2 l) (drop 7 out)
-unfolding rendered entries callsIn
+unfolding rendered entries calls_in
 one-reply h m l out =
     let c = call_at l 0 in
     let t = called h c in
-    let rest = framesOf t.latch (callsIn m (drop 2 l)) in
+    let rest = frames_of t.latch (calls_in m (drop 2 l)) in
     append_assoc (frame c t) rest _
     ∙ ap (λ (r : List ℕ). frame c t ++ (rest ++ r))
     (ap (λ (n : ℕ). drop n out) (count m) ∙ sym (drop-drop (7 * m) 7 out))
@@ -53,7 +53,7 @@ pub record Upto (h₀ : Latch) (n : ℕ) (l out₀ : List ℕ) (h : Latch) (out 
   pub room : 7 * n ≤ length out
   pub length : length out ≡ length out₀
   pub lasting : Lasting h
-  pub left : run h (callsIn (n - i) (drop (2 * i) l)) ≡ run h₀ (callsIn n l)
+  pub left : run h (calls_in (n - i) (drop (2 * i) l)) ≡ run h₀ (calls_in n l)
   pub same : take (7 * i) out ++ answered h (n - i) (drop (2 * i) l) (drop (7 * i) out)
       ≡ answered h₀ n l out₀
 
@@ -66,7 +66,7 @@ start h n l out r a b =
       room = b;
       length = refl;
       lasting = r;
-      left = (λ i. run h (callsIn (all n i) l));
+      left = (λ i. run h (calls_in (all n i) l));
       same = (λ i. answered h (all n i) l out);
     }
   where
@@ -90,7 +90,7 @@ module _ (h₀ : Latch) (n : ℕ) (l out₀ : List ℕ) (h : Latch) (out : List 
 
     in-front : call_at l (2 * i) ≡ call_at here 0
     in-front =
-        (λ j. callFor
+        (λ j. call_for
         ((ap (λ (k : ℕ). get_or l k 0) (sym (add-zero (2 * i))) ∙ sym (get_or-drop (2 * i) l 0 0)) j)
         (sym (get_or-drop (2 * i) l 1 0) j))
 
@@ -99,7 +99,7 @@ module _ (h₀ : Latch) (n : ℕ) (l out₀ : List ℕ) (h : Latch) (out : List 
 
     -- One more call c, answered and left as t, whose answer is written in out' and whose record is h'.
     pub replied : (c : LatchCall) (t : LatchOutcome) (out' : List ℕ) (h' : Latch) → c ≡ call_at l (2 * i)
-        → called h c ≡ t → out' ≡ withReply i (frame c t) out → h' ≡ t.latch
+        → called h c ≡ t → out' ≡ with_reply i (frame c t) out → h' ≡ t.latch
         → Upto h₀ n l out₀ h' out' (i + 1)
     replied c t out' h' b e f g =
         let text = frame c t in
@@ -117,9 +117,9 @@ module _ (h₀ : Latch) (n : ℕ) (l out₀ : List ℕ) (h : Latch) (out : List 
           lasting =
               subst Lasting (sym (g ∙ ap (λ (t : LatchOutcome). t.latch) (sym e))) (one_more h c u.lasting);
           left =
-              (λ j. run ((g ∙ ap (λ (t : LatchOutcome). t.latch) is) j) (callsIn m (later j)))
+              (λ j. run ((g ∙ ap (λ (t : LatchOutcome). t.latch) is) j) (calls_in m (later j)))
               ∙ sym (one-record h m here)
-              ∙ ap (λ (k : ℕ). run h (callsIn k here)) (sym fewer)
+              ∙ ap (λ (k : ℕ). run h (calls_in k here)) (sym fewer)
               ∙ u.left;
           same =
               (λ j. take (by-7 i j) (put j) ++ answered (g j) m (later j) (drop (by-7 i j) (put j)))
@@ -140,10 +140,10 @@ module _ (h₀ : Latch) (n : ℕ) (l out₀ : List ℕ) (h : Latch) (out : List 
         by-7 : (i : ℕ) → 7 * (i + 1) ≡ 7 * i + 7
         by-7 i = omega arith
 
-  pub ended : n ≤ i → (h ≡ run h₀ (callsIn n l)) × (out ≡ answered h₀ n l out₀)
-  unfolding run rendered entries callsIn
+  pub ended : n ≤ i → (h ≡ run h₀ (calls_in n l)) × (out ≡ answered h₀ n l out₀)
+  unfolding run rendered entries calls_in
   ended e = (
-    ap (λ (k : ℕ). run h (callsIn k (drop (2 * i) l))) (sym none) ∙ u.left,
+    ap (λ (k : ℕ). run h (calls_in k (drop (2 * i) l))) (sym none) ∙ u.left,
     sym (take-append-drop (7 * i) out)
         ∙ ap (λ (k : ℕ). take (7 * i) out ++ answered h k (drop (2 * i) l) (drop (7 * i) out)) (sym none)
         ∙ u.same,

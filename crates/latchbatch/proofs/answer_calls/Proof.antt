@@ -12,9 +12,9 @@ use lib.ListN.{length, get_or, set, length-map}
 use Rattle.hub.specs.declared.answers.Answer.{Answer}
 use Rattle.hub.specs.declared.record.PlaceSlot.{PlaceSlot}
 use Rattle.hub.specs.Answers.{printed}
-use Rattle.hub.specs.Kinds.{kindIn}
-use Rattle.hub.specs.Phases.{ticketOf}
-use Rattle.hub.specs.Ring.{PLACES, readSeat}
+use Rattle.hub.specs.Kinds.{kind_in}
+use Rattle.hub.specs.Phases.{ticket_of}
+use Rattle.hub.specs.Ring.{PLACES, read_seat}
 use Rattle.encoding.specs.Frame.{frame_of}
 use Rattle.transition.proofs.Laws.Loops.{tidy}
 use Rattle.latch.specs.declared.moves.LatchCall.{LatchCall}
@@ -22,20 +22,20 @@ use Rattle.latch.specs.declared.moves.LatchOp.{LatchOp}
 use Rattle.latch.specs.declared.moves.LatchSight.{LatchSight}
 use Rattle.latch.specs.declared.record.Latch.{Latch}
 use Rattle.latch.specs.declared.record.LatchSlot.{LatchSlot}
-use Rattle.latch.specs.Calls.{answer_of, apply, called, isFull, ringOf, withRing}
+use Rattle.latch.specs.Calls.{answer_of, apply, called, is_full, ring_of, with_ring}
 use Rattle.latch.specs.Look.{look}
 use Rattle.latch.specs.Moves.{Move}
-use Rattle.latch.specs.Record.{of_fields, read_slot, writeSlot}
+use Rattle.latch.specs.Record.{of_fields, read_slot, write_slot}
 use Rattle.latch.specs.Table.{decide}
 use Rattle.latcheffect.specs.declared.effect.LatchEffect.{LatchEffect}
-use Rattle.latcheffect.specs.Effect.{effectBy}
-use Rattle.latchmove.specs.Tidied.{tidiedBy}
+use Rattle.latcheffect.specs.Effect.{effect_by}
+use Rattle.latchmove.specs.Tidied.{tidied_by}
 use Rattle.latchmove.proofs.Laws.Called.{Counted, asks, said, left}
 use Rattle.latchmove.proofs.Laws.Indexed.{reads, stores}
 use Rattle.latchmove.proofs.Laws.Ops.{as-asked}
-use Rattle.latchmove.proofs.Laws.Sight.{Reads, sightBy, sight_of}
+use Rattle.latchmove.proofs.Laws.Sight.{Reads, sight_by, sight_of}
 use Rattle.latchmove.proofs.Laws.Stored.{nobody, still, few-turns}
-use Rattle.latchbatch.specs.Batch.{call_at, withReply}
+use Rattle.latchbatch.specs.Batch.{call_at, with_reply}
 use Rattle.latchbatch.proofs.Laws.Answered.{counts, has-slot, turned-away, let-in}
 use Rattle.latchbatch.proofs.Laws.Upto.{Upto, start, whole-call, whole-reply, replied, ended}
 use Rattle.latchbatch.proofs.answer_calls.Statement.{statement}
@@ -143,12 +143,12 @@ seat c = c.before.before.before.by-ticket.result
 abbrev waiter : At tie.After-slot-within → LatchSlot
 waiter c = c.slot-within.result
 
-abbrev placeIndex : At tie.After-slot-within → ℕ
-placeIndex c = c.before.before.before.before.before.before.seat-index.result
+abbrev place_index : At tie.After-slot-within → ℕ
+place_index c = c.before.before.before.before.before.before.seat-index.result
 
 index : (c : At tie.After-slot-within)
     → let e = entered c in
-    placeIndex c ≡ ticketOf (read_slot (head e).loop.slots (party e.before)).phase % PLACES
+    place_index c ≡ ticket_of (read_slot (head e).loop.slots (party e.before)).phase % PLACES
 unfolding read_slot
 index c = c.before.before.before.before.before.before.seat-index.ensures
 
@@ -159,30 +159,30 @@ unfolding read_slot
 reading c =
     let e = entered c in
     let b = c.before.before.before in
-    reads (latch (head e)) (party e.before) (placeIndex c) (index c) _ _ _ _ (head e).loop.inv.1
+    reads (latch (head e)) (party e.before) (place_index c) (index c) _ _ _ _ (head e).loop.inv.1
     b.before.empty-seat.ensures b.by-ticket.ensures
     c.before.before.waiter-at.ensures c.slot-within.ensures
 
 -- The effect is that of the call.
 abbrev full : At tie.At-loop → Bool
-full h = isFull h.loop.oldest h.loop.figures.issued h.loop.slots
+full h = is_full h.loop.oldest h.loop.figures.issued h.loop.slots
 
 abbrev sight : At tie.After-slot-within → LatchSight
 sight c = sight_of (latch (head (entered c))) (party (entered c).before) (seat c) (waiter c)
 
 effect_is : (c : At tie.After-decide-by)
     → let h = head (entering c) in
-    c.decide_by.result ≡ effectBy (op c) (full h) (sight (seen c))
-unfolding read_slot kindIn
+    c.decide_by.result ≡ effect_by (op c) (full h) (sight (seen c))
+unfolding read_slot kind_in
 effect_is c =
     let h = head (entering c) in
     let p = party (entering c).before in
-    let s : ℕ → LatchSight = λ k. sightBy k (latch h) p (seat (seen c)) (waiter (seen c)) in
+    let s : ℕ → LatchSight = λ k. sight_by k (latch h) p (seat (seen c)) (waiter (seen c)) in
     let k = get_or h.before.built_in.result p 0 in
     c.decide_by.ensures
-    ∙ ap (λ (b : Bool). effectBy (op c) b (s k)) c.before.full-for.ensures
+    ∙ ap (λ (b : Bool). effect_by (op c) b (s k)) c.before.full-for.ensures
     ∙ as-asked (full h) (s k) (op c)
-    ∙ ap (λ (l : List ℕ). effectBy (op c) (full h) (s (get_or l p 0))) h.before.built_in.ensures
+    ∙ ap (λ (l : List ℕ). effect_by (op c) (full h) (s (get_or l p 0))) h.before.built_in.ensures
 
 abbrev move : At tie.After-decide-by → Move
 move c =
@@ -222,38 +222,38 @@ untidied s =
     let h = head e in
     let f = (placed s).before.before in
     of_fields (latch h).parties f.figures-after.result h.loop.oldest
-    (set h.loop.places (placeIndex (seen (effected s))) (placed s).by-ticket2.result)
-    (writeSlot (woken (placed s)).if2.slots (party e.before) f.before.slot-after.result)
+    (set h.loop.places (place_index (seen (effected s))) (placed s).by-ticket2.result)
+    (write_slot (woken (placed s)).if2.slots (party e.before) f.before.slot-after.result)
 
 woken-slots : (s : At tie.After-is-untidy)
     → (woken (placed s)).if2.slots
-    ≡ writeSlot (head (entering (effected s))).loop.slots (effect s).woken (effect s).waiter
-unfolding writeSlot
+    ≡ write_slot (head (entering (effected s))).loop.slots (effect s).woken (effect s).waiter
+unfolding write_slot
 woken-slots s =
     let h = head (entering (effected s)) in
     ⊎_elim
-    (λ w. w.2 ∙ ap (writeSlot h.loop.slots (effect s).woken) w.1.ensures)
+    (λ w. w.2 ∙ ap (write_slot h.loop.slots (effect s).woken) w.1.ensures)
     (λ w. w.1
     ∙ nobody h.loop.slots (effect s).woken (effect s).waiter
     (omega (arith, h.loop.inv.1, w.0.left)))
     (woken (placed s)).if2.came
 
 -- What is left, once it is tidied, is what the call leaves.
-leaves : (s : At tie.After-is-untidy) (u : Latch) → u ≡ tidiedBy (effect s).turns (untidied s)
+leaves : (s : At tie.After-is-untidy) (u : Latch) → u ≡ tidied_by (effect s).turns (untidied s)
     → u ≡ leaving (effected s)
 unfolding read_slot
 leaves s u e =
     let d = effected s in
     let f = (placed s).before.before in
     e
-    ∙ ap (tidiedBy (effect s).turns)
+    ∙ ap (tidied_by (effect s).turns)
     (stores (latch (head (entering d))) (party (entering d).before) _ (index (seen d)) (effect s) _ _ _ _ _
     f.figures-after.ensures (placed s).before.seat-after.ensures (placed s).by-ticket2.ensures
     f.before.slot-after.ensures (woken-slots s))
     ∙ left _ _ _ _ _ (reading (seen d)) (op d) (effect s) (effect_is d)
 
 -- One more call is answered: its answer is written, and u is the record that is left.
-one_more : (s : At tie.After-is-untidy) (u : Latch) → u ≡ tidiedBy (effect s).turns (untidied s)
+one_more : (s : At tie.After-is-untidy) (u : Latch) → u ≡ tidied_by (effect s).turns (untidied s)
     → let h = head (entering (effected s)) in
     Upto (latch₀ h) (begun h).args.count (bytes h) (begun h).args.out.now u (written s).put-at2.new.0
     (h.loop.i + 1)
@@ -263,7 +263,7 @@ one_more s u e =
     replied _ _ _ _ _ _ _ (head b).loop.inv.0 (turning b).loop-test.taken (call d) _ _ u (call-is d)
     (answered d)
     ((written s).put-at2.ensures
-    ∙ ap (λ (a : Answer). withReply (head b).loop.i (frame_of (party b.before) (printed a)) (head b).loop.out)
+    ∙ ap (λ (a : Answer). with_reply (head b).loop.i (frame_of (party b.before) (printed a)) (head b).loop.out)
     ((written s).before.answer-after.ensures
     ∙ said _ _ _ _ _ (reading (seen d)) (op d) (effect s) (effect_is d)))
     (leaves s u e)
@@ -434,13 +434,13 @@ loop-less-2 : At tie.Need-loop-smaller-2
 loop-less-2 c = omega (arith, (turning (entering (effected c.before))).loop-test.taken)
 
 loop-again-2 : At tie.Need-loop-preserved-2
-unfolding readSeat writeSlot
+unfolding read_seat write_slot
 loop-again-2 c =
     let s = c.before in
     let nothing =
-    tidy (effect s).turns (ringOf (untidied s))
+    tidy (effect s).turns (ring_of (untidied s))
     (sym s.is-untidy.ensures ∙ not-true _ c.if3.true) in
-    (one_more s _ (ap (withRing (untidied s)) nothing), still-32 s)
+    (one_more s _ (ap (with_ring (untidied s)) nothing), still-32 s)
 
 reclaim-requires : At tie.Need-reclaim-requires
 reclaim-requires c κs =
@@ -451,10 +451,10 @@ loop-less-3 : At tie.Need-loop-smaller-3
 loop-less-3 c = omega (arith, (turning (entering (effected (settled c)))).loop-test.taken)
 
 loop-again-3 : At tie.Need-loop-preserved-3
-unfolding writeSlot
+unfolding write_slot
 loop-again-3 c =
     let s = settled c in
-    (one_more s _ (ap (withRing (untidied s)) c.before.reclaim.ensures), still-32 s)
+    (one_more s _ (ap (with_ring (untidied s)) c.before.reclaim.ensures), still-32 s)
 
 same_length : At tie.Need-same-length
 same_length c = search rules

@@ -9,23 +9,23 @@ use native.Mathlib.Omega.{arith}
 use Prim.Native.Nat.{ℕ, ◌<◌, ◌%◌, ◌≤◌}
 use lib.ListN.{length, set}
 use Rattle.hub.specs.declared.record.PlaceSlot.{PlaceSlot}
-use Rattle.hub.specs.Kinds.{kindIn}
-use Rattle.hub.specs.Phases.{ticketOf}
-use Rattle.hub.specs.Ring.{PLACES, readSeat}
+use Rattle.hub.specs.Kinds.{kind_in}
+use Rattle.hub.specs.Phases.{ticket_of}
+use Rattle.hub.specs.Ring.{PLACES, read_seat}
 use Rattle.hub.proofs.Laws.Lists.{mapped-size}
 use Rattle.transition.proofs.Laws.Loops.{tidy}
 use Rattle.latch.specs.declared.moves.LatchSight.{LatchSight}
 use Rattle.latch.specs.declared.record.Latch.{Latch}
 use Rattle.latch.specs.declared.record.LatchSlot.{LatchSlot}
-use Rattle.latch.specs.Calls.{called, isFull, ringOf, withRing}
+use Rattle.latch.specs.Calls.{called, is_full, ring_of, with_ring}
 use Rattle.latch.specs.Fits.{fits}
-use Rattle.latch.specs.Record.{read_slot, writeSlot}
-use Rattle.latcheffect.specs.Effect.{effectBy}
-use Rattle.latchmove.specs.Tidied.{tidiedBy}
+use Rattle.latch.specs.Record.{read_slot, write_slot}
+use Rattle.latcheffect.specs.Effect.{effect_by}
+use Rattle.latchmove.specs.Tidied.{tidied_by}
 use Rattle.latchmove.proofs.Laws.Called.{asks, unfit, no-such-party, Counted, counted}
 use Rattle.latchmove.proofs.Laws.Called.{outcome-is, with-printed}
 use Rattle.latchmove.proofs.Laws.Indexed.{reads, stores}
-use Rattle.latchmove.proofs.Laws.Sight.{Reads, sightBy, sight_of}
+use Rattle.latchmove.proofs.Laws.Sight.{Reads, sight_by, sight_of}
 use Rattle.latchmove.proofs.Laws.Stored.{made, nobody, stored, few-turns}
 use Rattle.latchcall.proofs.call.Statement.{statement}
 use Rattle.latchcall.proofs.call.Tie as tie
@@ -87,7 +87,7 @@ abbrev at : tie.After-kind-in → ℕ
 at c = (seen c).before.before.before.before.before.before.seat-index.result
 
 index : (c : tie.After-kind-in)
-    → at c ≡ ticketOf (read_slot (latch (start c)).slots (party (start c))).phase % PLACES
+    → at c ≡ ticket_of (read_slot (latch (start c)).slots (party (start c))).phase % PLACES
 unfolding read_slot
 index c = (seen c).before.before.before.before.before.before.seat-index.ensures
 
@@ -107,18 +107,18 @@ sight c = sight_of (latch (start c)) (party (start c)) (seat c) (waiter c)
 
 abbrev full : tie.After-decide → Bool
 full c =
-    isFull (latch (begin c)).oldest (latch (begin c)).figures.issued (latch (begin c)).slots
+    is_full (latch (begin c)).oldest (latch (begin c)).figures.issued (latch (begin c)).slots
 
 effect_is : (c : tie.After-decide)
     → let s = sight (kinded c) in
-    c.decide.result ≡ effectBy (begin c).args.op (full c) s
+    c.decide.result ≡ effect_by (begin c).args.op (full c) s
 unfolding read_slot
 effect_is c =
     let k = kinded c in
-    let s : ℕ → LatchSight = λ n. sightBy n (latch (start k)) (party (start k)) (seat k) (waiter k) in
+    let s : ℕ → LatchSight = λ n. sight_by n (latch (start k)) (party (start k)) (seat k) (waiter k) in
     c.decide.ensures
-    ∙ ap (λ (n : ℕ). effectBy (begin c).args.op (full c) (s n))
-    (k.kind-in.ensures ∙ ap (λ (l : List ℕ). kindIn l (party (start k))) (tabled (seen k)).built_in.ensures)
+    ∙ ap (λ (n : ℕ). effect_by (begin c).args.op (full c) (s n))
+    (k.kind-in.ensures ∙ ap (λ (l : List ℕ). kind_in l (party (start k))) (tabled (seen k)).built_in.ensures)
 
 turns-most : (c : tie.After-decide) → c.decide.result.turns ≤ 256
 turns-most c =
@@ -128,8 +128,8 @@ turns-most c =
 slots_set : (c : tie.Joined3)
     → let h = latch (begin c.before) in
     let e = c.before.decide.result in
-    c.if3.latch ≡ made h h.figures h.places (writeSlot h.slots e.woken e.waiter)
-unfolding writeSlot
+    c.if3.latch ≡ made h h.figures h.places (write_slot h.slots e.woken e.waiter)
+unfolding write_slot
 slots_set c =
     let h = latch (begin c.before) in
     let e = c.before.decide.result in
@@ -145,7 +145,7 @@ after c =
     let g = c.before.before.before.if3.latch in
     let e = (decided c).decide.result in
     made g e.figures (set g.places (at (kinded (decided c))) c.by-ticket2.result)
-    (writeSlot g.slots (party (begin (decided c))) e.slot)
+    (write_slot g.slots (party (begin (decided c))) e.slot)
 
 is-stored : (c : tie.After-by-ticket2)
     → after c ≡ stored (latch (begin (decided c))) (party (begin (decided c))) (decided c).decide.result
@@ -155,13 +155,13 @@ is-stored c =
     let k = kinded d in
     let e = d.decide.result in
     ap (λ (g : Latch). made g e.figures (set g.places (at k) c.by-ticket2.result)
-    (writeSlot g.slots (party (begin d)) e.slot)) (slots_set c.before.before.before)
+    (write_slot g.slots (party (begin d)) e.slot)) (slots_set c.before.before.before)
     ∙ stores (latch (begin d)) (party (begin d)) (at k) (index k) e _ _ _ _ _ refl refl c.by-ticket2.ensures refl refl
 
 -- Tidied, it is what the call leaves.
 leaves : (c : tie.After-by-ticket2) (g : Latch)
     → let d = decided c in
-    g ≡ tidiedBy d.decide.result.turns (after c)
+    g ≡ tidied_by d.decide.result.turns (after c)
     → record { answer = d.decide.result.answer; latch = g }
     ≡ called (latch (begin d)) (asks (begin d).args.op (party (begin d)))
 leaves c g e =
@@ -169,7 +169,7 @@ leaves c g e =
     let t = tested (seen (kinded d)) in
     outcome-is _ _ _ _ _ (reading (kinded d)) (begin d).args.op d.decide.result (effect_is d)
     (fitting t.before) (lt-ltb _ _ t.if2.left) g
-    (e ∙ ap (tidiedBy d.decide.result.turns) (is-stored c))
+    (e ∙ ap (tidied_by d.decide.result.turns) (is-stored c))
 
 fits-requires : tie.Need-fits-requires
 fits-requires c κs = search rules
@@ -275,13 +275,13 @@ is-untidy-requires : tie.Need-is-untidy-requires
 is-untidy-requires c κs = search rules
 
 returns-3 : tie.Need-returns-3
-unfolding readSeat writeSlot
+unfolding read_seat write_slot
 returns-3 c =
     let b = placed c.before.before in
     let h = after b in
     with-printed (leaves b _
-    (ap (withRing h)
-    (tidy (decided b).decide.result.turns (ringOf h)
+    (ap (with_ring h)
+    (tidy (decided b).decide.result.turns (ring_of h)
     (sym c.before.is-untidy.ensures ∙ not-true _ c.if4.true))))
 
 reclaim-requires : tie.Need-reclaim-requires
@@ -297,11 +297,11 @@ reclaim-requires c κs =
     )
 
 returns-4 : tie.Need-returns-4
-unfolding writeSlot
+unfolding write_slot
 returns-4 c =
     let r = c.before.before in
     let b = placed r.before.before.before.before in
-    with-printed (leaves b _ (ap (withRing (after b)) r.reclaim.ensures))
+    with-printed (leaves b _ (ap (with_ring (after b)) r.reclaim.ensures))
 
 pub call-spec : {M : Type 1} → statement M
 call-spec =

@@ -5,11 +5,11 @@ use lib.Dec.{eqb}
 use Rattle.hub.specs.declared.answers.Answer.{Answer}
 use Rattle.hub.specs.declared.answers.Refusal.{Refusal}
 use Rattle.hub.specs.declared.record.Phase.{Phase}
-use Rattle.hub.specs.Table.{canCancel, givenUp}
+use Rattle.hub.specs.Table.{can_cancel, given_up}
 use Rattle.latch.specs.declared.moves.LatchOp.{LatchOp}
 use Rattle.latch.specs.declared.moves.LatchSight.{LatchSight}
 use Rattle.latch.specs.Moves.{Refuse}
-use Rattle.latch.specs.Record.{withPhase}
+use Rattle.latch.specs.Record.{with_phase}
 use Rattle.latch.specs.Table.{await, cancel, decide, turn}
 use Rattle.latcheffect.specs.declared.effect.LatchEffect.{LatchEffect}
 use Rattle.latcheffect.specs.Effect.{effect_of}
@@ -34,20 +34,20 @@ module _ (can three : Bool) (x : Phase) (s : LatchSight) where
   may-not e f = rw (e, f)
 
   pub may : can ≡ true → three ≡ false
-      → cancel can three x s ≡ turn (withPhase x s.slot) Answer.Accepted s
+      → cancel can three x s ≡ turn (with_phase x s.slot) Answer.Accepted s
   unfolding cancel
   may e f = rw (e, f)
 
 -- What a phase that is known leads to; a phase in which nobody can give up.
 module _ (s : LatchSight) where
   pub gives_up : {f : Phase} {e : LatchEffect} → s.slot.phase ≡ f
-      → e ≡ effect_of (cancel (canCancel f) (eqb s.kind 3) (givenUp f) s) s
+      → e ≡ effect_of (cancel (can_cancel f) (eqb s.kind 3) (given_up f) s) s
       → e ≡ effect_of (decide LatchOp.Cancel false s) s
   unfolding decide
   gives_up i h =
-      h ∙ ap (λ (x : Phase). effect_of (cancel (canCancel x) (eqb s.kind 3) (givenUp x) s) s) (sym i)
+      h ∙ ap (λ (x : Phase). effect_of (cancel (can_cancel x) (eqb s.kind 3) (given_up x) s) s) (sym i)
 
-  pub not-waiting : (x : Phase) → canCancel s.slot.phase ≡ false
+  pub not-waiting : (x : Phase) → can_cancel s.slot.phase ≡ false
       → decide LatchOp.Cancel false s ≡ cancel false (eqb s.kind 3) x s
   unfolding decide cancel
   not-waiting x e = rw e

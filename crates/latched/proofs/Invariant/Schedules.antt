@@ -12,32 +12,32 @@ use Rattle.hub.specs.declared.answers.Refusal.{Refusal}
 use Rattle.hub.specs.declared.record.Phase.{Phase}
 use Rattle.hub.specs.declared.record.Place.{Place}
 use Rattle.hub.specs.declared.record.Place.TheVariants.{Empty, Cancelled, Done}
-use Rattle.hub.specs.Answers.{printed, refusalCode}
+use Rattle.hub.specs.Answers.{printed, refusal_code}
 use Rattle.hub.specs.Basics.{bit, weight}
-use Rattle.hub.specs.Ledger.{phaseIn}
-use Rattle.hub.specs.Phases.{isOneOf, isPlaceOf}
+use Rattle.hub.specs.Ledger.{phase_in}
+use Rattle.hub.specs.Phases.{is_one_of, is_place_of}
 use Rattle.hub.specs.Record.{PARTIES}
 use Rattle.hub.proofs.Laws.Bools.{if-true, if-false}
 use Rattle.hub.proofs.Laws.Lists.{weight-replicate}
 use Rattle.hub.proofs.Laws.Printed.{no-refusal}
-use Rattle.hub.proofs.Laws.Ranges.{sumFrom, sum-zero}
+use Rattle.hub.proofs.Laws.Ranges.{sum_from, sum-zero}
 use Rattle.hub.proofs.Invariant.Schedules.{is-cancelled, refusal-code}
 use Rattle.hub.proofs.Invariant.Weights.{same_self, lt_no, lt-suc, pick, most, TICKETS}
 use Rattle.hub.proofs.Invariant.Weights.{resuming, refusing, drawing, suspending}
 use Rattle.hub.proofs.Invariant.Weights.{live, handing, cancelling, own, hand, stage}
-use Rattle.hub.proofs.Invariant.Weights.{permitCell, cancelledCell, refusedCell}
+use Rattle.hub.proofs.Invariant.Weights.{permit_cell, cancelled_cell, refused_cell}
 use Rattle.hub.proofs.Invariant.Skipped.{skipped-shift}
 use Rattle.latch.specs.declared.moves.LatchCall.{LatchCall}
 use Rattle.latch.specs.declared.record.LatchSlot.{LatchSlot}
 use Rattle.latch.specs.Calls.{answer_of, checked}
 use Rattle.latched.specs.Claims.{lets_go}
-use Rattle.latch.specs.Ledger.{Ledger, countIn, enter, opened, slotIn, slotsAfter, succeeded, waitersAfter}
-use Rattle.latch.specs.Look.{seenBy}
+use Rattle.latch.specs.Ledger.{Ledger, count_in, enter, opened, slot_in, slots_after, succeeded, waiters_after}
+use Rattle.latch.specs.Look.{seen_by}
 use Rattle.latch.specs.Moves.{Move}
 use Rattle.latch.specs.Moves.{Refuse, Act, Put, Wake}
-use Rattle.latch.specs.Queue.{Queue, phases, places, canSkip, skipped, skip, tidied}
+use Rattle.latch.specs.Queue.{Queue, phases, places, can_skip, skipped, skip, tidied}
 use Rattle.latch.specs.Queue.{apply, look, move_of, next, fresh}
-use Rattle.latch.specs.Record.{freeSlot, phasesOf, read_slot}
+use Rattle.latch.specs.Record.{free_slot, phases_of, read_slot}
 use Rattle.latch.specs.Table.{decide}
 use Rattle.latch.proofs.Laws.Slots.{read-phase}
 use Rattle.latched.proofs.Invariant.Weights.{due_at, holding, left, spare}
@@ -55,7 +55,7 @@ pub record Quiet (m m' : Queue) : Type 0 where
 -- One cancelled cell skipped: no party moves, and its cell is done.
 module _ (m : Queue) (inv : Inv m) (e : places m m.figures.resumed ≡ Cancelled) where
   abbrev still : LatchSlot
-  still = slotIn m.slots 0
+  still = slot_in m.slots 0
 
   abbrev resumed : ℕ
   resumed = m.figures.resumed
@@ -72,7 +72,7 @@ module _ (m : Queue) (inv : Inv m) (e : places m m.figures.resumed ≡ Cancelled
       }
 
   skipped-inv : Inv (skipped m)
-  unfolding isPlaceOf
+  unfolding is_place_of
   skipped-inv =
       keep m (skipped m) 0 still still resumed Cancelled Done inv still-shift
       (omega (
@@ -95,10 +95,10 @@ unfolding skip
 skip-keeps zero m inv =
     (inv, record { parties = refl; slots = refl; count = refl; waiters = refl })
 skip-keeps (suc n) m inv =
-    go (canSkip m) refl (λ c. skip-keeps n (skipped m) (skipped-inv m inv (is-cancelled _ c)))
+    go (can_skip m) refl (λ c. skip-keeps n (skipped m) (skipped-inv m inv (is-cancelled _ c)))
   where
-    go : (b : Bool) → canSkip m ≡ b
-        → (canSkip m ≡ true → Inv (skip n (skipped m)) × Quiet (skipped m) (skip n (skipped m)))
+    go : (b : Bool) → can_skip m ≡ b
+        → (can_skip m ≡ true → Inv (skip n (skipped m)) × Quiet (skipped m) (skip n (skipped m)))
         → Inv (cond b (skip n (skipped m)) m) × Quiet m (cond b (skip n (skipped m)) m)
     go false e f = (inv, record { parties = refl; slots = refl; count = refl; waiters = refl })
     go true e f =
@@ -114,7 +114,7 @@ tidied-keeps m inv = skip-keeps m.figures.issued m inv
 -- The ledger e agrees with the queue m, which was opened with N = c.
 pub record Agrees (c : ℕ) (e : Ledger) (m : Queue) : Type 0 where
   pub replayed : e.slots ≡ m.slots
-  pub count : countIn c e ≡ m.figures.count
+  pub count : count_in c e ≡ m.figures.count
   pub waiters : e.waiters ≡ m.figures.waiters
 
 abbrev pub entered : Ledger → LatchCall → Answer → Ledger
@@ -125,7 +125,7 @@ unfolding enter
 refused-same e c r = if-true _ e _ (refusal-code r)
 
 -- A refusal lets nobody go.
-refused-keeps : (r : Refusal) → bit (lets_go (refusalCode r)) ≡ 0
+refused-keeps : (r : Refusal) → bit (lets_go (refusal_code r)) ≡ 0
 refused-keeps r = rw (no-refusal r 0x21 (omega arith), no-refusal r 0x25 (omega arith), no-refusal r 0x2A (omega arith)) refl
 
 -- What one call leads to: the invariant, the ledger's agreement, and nobody let go before the mark.
@@ -141,11 +141,11 @@ module _ (n : ℕ) (m : Queue) (inv : Inv m) (c : LatchCall) where
       let s = x.reports in
       record {
         replayed =
-            ap₂ (λ (w : ℕ). slotsAfter c.op c.party w (printed r)) a.waiters a.replayed
+            ap₂ (λ (w : ℕ). slots_after c.op c.party w (printed r)) a.waiters a.replayed
             ∙ sym s.moved;
         count = omega (arith, a.count, s.count);
         waiters =
-            ap₂ (λ (l : List LatchSlot). waitersAfter (printed r).code (slotIn l c.party))
+            ap₂ (λ (l : List LatchSlot). waiters_after (printed r).code (slot_in l c.party))
             a.replayed a.waiters
             ∙ sym s.waiters;
       }
@@ -170,7 +170,7 @@ module _ (n : ℕ) (m : Queue) (inv : Inv m) (c : LatchCall) where
 
   apply-good : (v : Move) → Good c.op c.party m (look m c.party).slot.phase v
       → (e : Ledger) → Agrees n e m → Kept n e c (answer_of v) m (apply m (look m c.party) v)
-  unfolding apply seenBy
+  unfolding apply seen_by
   apply-good (Refuse r) g e a =
       record {
         inv = inv;
@@ -184,7 +184,7 @@ module _ (n : ℕ) (m : Queue) (inv : Inv m) (c : LatchCall) where
   pub move-good : (b : Bool) → ltb c.party m.parties ≡ b
       → Good c.op c.party m (look m c.party).slot.phase
       (checked true b (decide c.op false (look m c.party)))
-  unfolding checked seenBy
+  unfolding checked seen_by
   move-good false i =
       absent-rests c.op _
       (read-phase m.slots c.party ∙ inv.tickets.beyond c.party (ltb-false _ _ i))
@@ -197,18 +197,18 @@ module _ (n : ℕ) (m : Queue) (inv : Inv m) (c : LatchCall) where
 -- A queue just opened with N = c and n.
 module _ (c n : ℕ) where
   none : (w : Phase → ℕ) → w Phase.Free ≡ 0
-      → weight w (phasesOf (replicate PARTIES freeSlot)) ≡ 0
+      → weight w (phases_of (replicate PARTIES free_slot)) ≡ 0
   none w z = weight-replicate w Phase.Free z PARTIES
 
-  bare : (w : Place → ℕ) → w Empty ≡ 0 → sumFrom (λ t. w Empty) 0 TICKETS ≡ 0
+  bare : (w : Place → ℕ) → w Empty ≡ 0 → sum_from (λ t. w Empty) 0 TICKETS ≡ 0
   bare w z = sum-zero (λ t. w Empty) 0 TICKETS (λ t i j. z)
 
-  all-free : (n i : ℕ) → slotIn (replicate n freeSlot) i ≡ freeSlot
+  all-free : (n i : ℕ) → slot_in (replicate n free_slot) i ≡ free_slot
   all-free zero i = refl
   all-free (suc n) zero = refl
   all-free (suc n) (suc i) = all-free n i
 
-  free-phase : (n i : ℕ) → phaseIn (phasesOf (replicate n freeSlot)) i ≡ Phase.Free
+  free-phase : (n i : ℕ) → phase_in (phases_of (replicate n free_slot)) i ≡ Phase.Free
   free-phase zero i = refl
   free-phase (suc n) zero = refl
   free-phase (suc n) (suc i) = free-phase n i
@@ -218,7 +218,7 @@ module _ (c n : ℕ) where
   nothing-due (suc c) = refl
 
   pub fresh-inv : 1 ≤ n → n ≤ PARTIES → c ≤ 200 → Inv (fresh c n)
-  unfolding fresh pick isOneOf isPlaceOf
+  unfolding fresh pick is_one_of is_place_of
   fresh-inv a b d =
       record {
         tickets =
@@ -233,9 +233,9 @@ module _ (c n : ℕ) where
                     none cancelling refl,
                     none suspending refl,
                     none handing refl,
-                    bare cancelledCell refl,
+                    bare cancelled_cell refl,
                     nothing-due c,
-                    weight-replicate spare freeSlot refl PARTIES,
+                    weight-replicate spare free_slot refl PARTIES,
                   );
               balance =
                   omega (
@@ -244,10 +244,10 @@ module _ (c n : ℕ) where
                     none suspending refl,
                     none live refl,
                     none refusing refl,
-                    bare permitCell refl,
-                    bare refusedCell refl,
+                    bare permit_cell refl,
+                    bare refused_cell refl,
                     nothing-due c,
-                    weight-replicate spare freeSlot refl PARTIES,
+                    weight-replicate spare free_slot refl PARTIES,
                   );
               borne = omega arith;
               drawn = omega (arith, none drawing refl);
@@ -266,12 +266,12 @@ module _ (c n : ℕ) where
               arith,
               none resuming refl,
               none refusing refl,
-              bare permitCell refl,
-              bare refusedCell refl,
+              bare permit_cell refl,
+              bare refused_cell refl,
             );
         loaded = λ p. omega (arith, ap (λ (s : LatchSlot). resuming s.phase) (all-free PARTIES p));
         unloaded = λ p. omega (arith, ap left (all-free PARTIES p));
-        borne = omega (arith, weight-replicate left freeSlot refl PARTIES, bare permitCell refl);
+        borne = omega (arith, weight-replicate left free_slot refl PARTIES, bare permit_cell refl);
         crowd = omega arith;
         count = d;
         unheld = λ p. ap (λ (s : LatchSlot). holding s.phase) (all-free PARTIES p);

@@ -10,14 +10,14 @@ use Rattle.hub.specs.declared.record.Phase.{Phase}
 use Rattle.hub.specs.declared.record.Phase.TheVariants.{Acquiring, AcquiringMarked}
 use Rattle.hub.specs.declared.record.Place.{Place}
 use Rattle.hub.specs.Basics.{weight}
-use Rattle.hub.specs.Phases.{isOneOf}
+use Rattle.hub.specs.Phases.{is_one_of}
 use Rattle.hub.proofs.Laws.Bools.{if-true, if-false}
 use Rattle.hub.proofs.Laws.Phases.{every-phase}
 use Rattle.hub.proofs.Laws.Ranges.{sum-set}
 use Rattle.hub.proofs.Invariant.Weights.{one, pick, suspending, live, total, TICKETS}
 use Rattle.latch.specs.declared.record.LatchFigures.{LatchFigures}
 use Rattle.latch.specs.declared.record.LatchSlot.{LatchSlot}
-use Rattle.latch.specs.Fits.{HUB-ONLY}
+use Rattle.latch.specs.Fits.{HUB_ONLY}
 use Rattle.latch.specs.Queue.{Queue, phases, places}
 
 -- While the count is above 0 each waiter is due a hand-over that nobody carries yet.
@@ -50,24 +50,24 @@ spare s = s.left - 1
 
 -- Who holds, or is at a radio: nobody at a latch. Who has asked.
 abbrev pub holding : Phase → ℕ
-holding = pick HUB-ONLY one
+holding = pick HUB_ONLY one
 
 abbrev pub asked : Phase → ℕ
 asked = pick (Acquiring ∷ AcquiringMarked ∷ []) one
 
 pub one-wait : (f : Phase) → suspending f + live f + asked f ≤ 1
-unfolding pick isOneOf
+unfolding pick is_one_of
 one-wait = every-phase (λ f. suspending f + live f + asked f ≤ 1) (λ t. omega arith)
 
 -- The sums of a queue.
 abbrev pub sum : (Phase → ℕ) → Queue → ℕ
 sum w m = weight w (phases m)
 
-abbrev pub slotSum : (LatchSlot → ℕ) → Queue → ℕ
-slotSum w m = weight w m.slots
+abbrev pub slot_sum : (LatchSlot → ℕ) → Queue → ℕ
+slot_sum w m = weight w m.slots
 
-abbrev pub cellSum : (Place → ℕ) → Queue → ℕ
-cellSum w m = total w (places m)
+abbrev pub cell_sum : (Place → ℕ) → Queue → ℕ
+cell_sum w m = total w (places m)
 
 -- One cell is within the sum.
 pub one_cell : (w : Place → ℕ) (g : ℕ → Place) (t : ℕ) → t < TICKETS → w (g t) ≤ total w g

@@ -10,8 +10,8 @@ use lib.ListN.{length}
 use Rattle.hub.specs.declared.answers.Answer.{Answer}
 use Rattle.hub.specs.declared.answers.Refusal.{Refusal}
 use Rattle.hub.specs.declared.record.Phase.{Phase}
-use Rattle.hub.specs.Ledger.{phaseIn}
-use Rattle.hub.specs.Refinement.{isSeven}
+use Rattle.hub.specs.Ledger.{phase_in}
+use Rattle.hub.specs.Refinement.{is_seven}
 use Rattle.hub.specs.Ring.{PLACES}
 use Rattle.hub.proofs.Invariant.Weights.{drawing}
 use Rattle.hub.proofs.Window.Tracked.{placed-window, room-left}
@@ -22,18 +22,18 @@ use Rattle.latch.specs.declared.moves.LatchOp.TheVariants.{Await, Step, Cancel, 
 use Rattle.latch.specs.declared.moves.LatchSight.{LatchSight}
 use Rattle.latch.specs.declared.record.Latch.{Latch}
 use Rattle.latch.specs.declared.record.LatchSlot.{LatchSlot}
-use Rattle.latch.specs.Calls.{isFull, checked, move_of, answer_of, apply, tidied}
-use Rattle.latch.specs.Look.{look, seenBy}
+use Rattle.latch.specs.Calls.{is_full, checked, move_of, answer_of, apply, tidied}
+use Rattle.latch.specs.Look.{look, seen_by}
 use Rattle.latch.specs.Moves.{Move}
 use Rattle.latch.specs.Moves.{Refuse, Act, Put, Wake}
 use Rattle.latch.specs.Queue.{Queue, phases}
 use Rattle.latch.specs.Queue as queue
-use Rattle.latch.specs.Record.{writeSlot}
+use Rattle.latch.specs.Record.{write_slot}
 use Rattle.latched.specs.Refinement.{Shows}
 use Rattle.latch.specs.Table.{decide, await}
 use Rattle.latch.proofs.Laws.Slots.{read-phase}
 use Rattle.latched.proofs.Invariant.Weights.{sum}
-use Rattle.latched.proofs.Invariant.Rows.{Good, Next, isAwait}
+use Rattle.latched.proofs.Invariant.Rows.{Good, Next, is_await}
 use Rattle.latched.proofs.Invariant.Walk.{decide-good}
 use Rattle.latched.proofs.Window.Shown.{Tracks, tracked, look-same}
 use Rattle.latched.proofs.Window.Moved.{tidied-tracks}
@@ -41,9 +41,9 @@ use Rattle.latched.proofs.Window.Reached.{reached-fits}
 
 -- What the latch's move v does beside the queue's: the same, unless it answers 7, and then nothing.
 pub record Follows (h : Latch) (m : Queue) (c : LatchCall) (s : LatchSight) (v : Move) : Type 0 where
-  pub alike : isSeven (answer_of v) ≡ false
+  pub alike : is_seven (answer_of v) ≡ false
       → Tracks (apply h s v) (queue.next m c) × (answer_of v ≡ answer_of (queue.move_of m c))
-  pub seven : isSeven (answer_of v) ≡ true → apply h s v ≡ h
+  pub seven : is_seven (answer_of v) ≡ true → apply h s v ≡ h
 
 module _ (h : Latch) (m : Queue) (r : Tracks h m) (c : LatchCall) where
   abbrev seen : LatchSight
@@ -53,13 +53,13 @@ module _ (h : Latch) (m : Queue) (r : Tracks h m) (c : LatchCall) where
   phase = seen.slot.phase
 
   -- the party's phase is in the list of everybody's
-  own-phase : phaseIn (phases m) c.party ≡ phase
-  unfolding seenBy
+  own-phase : phase_in (phases m) c.party ≡ phase
+  unfolding seen_by
   own-phase = sym (read-phase m.slots c.party)
 
   -- A move made by both, and one that answers 7.
   beside : (v : Move) → Tracks (apply h seen v) (queue.apply m seen v)
-      → (isSeven (answer_of v) ≡ true → apply h seen v ≡ h) → v ≡ queue.move_of m c
+      → (is_seven (answer_of v) ≡ true → apply h seen v ≡ h) → v ≡ queue.move_of m c
       → Follows h m c seen v
   beside v t z e =
       record {
@@ -71,7 +71,7 @@ module _ (h : Latch) (m : Queue) (r : Tracks h m) (c : LatchCall) where
       }
 
   -- A good move, for which there is room.
-  module _ (spare : m.figures.issued + sum drawing m + isAwait c.op ≤ h.oldest + PLACES) where
+  module _ (spare : m.figures.issued + sum drawing m + is_await c.op ≤ h.oldest + PLACES) where
     changed : (a : Answer) (h' : Latch) (m' : Queue) → Next c.op c.party a m m'
         → Shows h' m' → length h'.places ≡ PLACES → h'.oldest ≡ h.oldest
         → Tracks (tidied h') (queue.tidied m')
@@ -86,14 +86,14 @@ module _ (h : Latch) (m : Queue) (r : Tracks h m) (c : LatchCall) where
 
     apply-tracks : (v : Move) → Good c.op c.party m phase v
         → Tracks (apply h seen v) (queue.apply m seen v)
-    unfolding apply queue.apply seenBy
+    unfolding apply queue.apply seen_by
     apply-tracks (Refuse x) g = r
     apply-tracks (Act x) g =
         changed x.answer _ _ g
         (record {
           parties = r.shows.parties;
           figures = refl;
-          slots = ap (λ (l : List LatchSlot). writeSlot l c.party x.slot) r.shows.slots;
+          slots = ap (λ (l : List LatchSlot). write_slot l c.party x.slot) r.shows.slots;
           window = r.shows.window;
         })
         r.size refl
@@ -103,7 +103,7 @@ module _ (h : Latch) (m : Queue) (r : Tracks h m) (c : LatchCall) where
         (record {
           parties = r.shows.parties;
           figures = refl;
-          slots = ap (λ (l : List LatchSlot). writeSlot l c.party x.slot) r.shows.slots;
+          slots = ap (λ (l : List LatchSlot). write_slot l c.party x.slot) r.shows.slots;
           window = q.0;
         })
         q.1 refl
@@ -114,7 +114,7 @@ module _ (h : Latch) (m : Queue) (r : Tracks h m) (c : LatchCall) where
           parties = r.shows.parties;
           figures = refl;
           slots =
-              ap (λ (l : List LatchSlot). writeSlot (writeSlot l w s) c.party x.slot)
+              ap (λ (l : List LatchSlot). write_slot (write_slot l w s) c.party x.slot)
               r.shows.slots;
           window = q.0;
         })
@@ -124,7 +124,7 @@ module _ (h : Latch) (m : Queue) (r : Tracks h m) (c : LatchCall) where
         → Follows h m c seen v
     made v g e = beside v (apply-tracks v g) (still v g) e
       where
-        still : (v : Move) → Good c.op c.party m phase v → isSeven (answer_of v) ≡ true
+        still : (v : Move) → Good c.op c.party m phase v → is_seven (answer_of v) ≡ true
             → apply h seen v ≡ h
         still (Refuse x) g i = unfold apply in refl
         still (Act x) g i = absurd (not-seven x.answer g.reports.success i)
@@ -152,7 +152,7 @@ module _ (h : Latch) (m : Queue) (r : Tracks h m) (c : LatchCall) where
   full-await true false e = seventh
 
   abbrev full : Bool
-  full = isFull h.oldest h.figures.issued h.slots
+  full = is_full h.oldest h.figures.issued h.slots
 
   decided : (b : Bool) (o : LatchOp) → full ≡ b → c.op ≡ o
       → Good c.op c.party m phase (decide o false seen)
@@ -163,20 +163,20 @@ module _ (h : Latch) (m : Queue) (r : Tracks h m) (c : LatchCall) where
       (omega (
         arith,
         room-left (phases m) h.oldest m.figures.issued
-            (sym (λ i. isFull h.oldest (r.shows.figures i).issued (r.shows.slots i)) ∙ f),
+            (sym (λ i. is_full h.oldest (r.shows.figures i).issued (r.shows.slots i)) ∙ f),
         at_most c.op,
       ))
       (decide o false seen) g e
     where
-      at_most : (o : LatchOp) → isAwait o ≤ 1
+      at_most : (o : LatchOp) → is_await o ≤ 1
       at_most Await = omega arith
       at_most Step = omega arith
       at_most Cancel = omega arith
       at_most CountDown = omega arith
   decided true Await f z g e = full-await _ _ e
-  decided true Step f z g e = made (omega (arith, r.room, ap isAwait z)) _ g e
-  decided true Cancel f z g e = made (omega (arith, r.room, ap isAwait z)) _ g e
-  decided true CountDown f z g e = made (omega (arith, r.room, ap isAwait z)) _ g e
+  decided true Step f z g e = made (omega (arith, r.room, ap is_await z)) _ g e
+  decided true Cancel f z g e = made (omega (arith, r.room, ap is_await z)) _ g e
+  decided true CountDown f z g e = made (omega (arith, r.room, ap is_await z)) _ g e
 
   in-turn : (b : Bool) → ltb c.party m.parties ≡ b
       → Follows h m c seen (checked true b (decide c.op full seen))

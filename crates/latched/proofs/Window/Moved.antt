@@ -2,29 +2,29 @@
 use Prim.Native.Nat.{ℕ, zero, suc}
 use mathlib.Core.Path.{◌≡◌, refl, sym, ap, subst}
 use mathlib.Core.Bool.{Bool, true, false, cond}
-use Rattle.hub.proofs.Window.Tidied.{CellQueue, cellsFrom, skipCells, tidied-tracked}
+use Rattle.hub.proofs.Window.Tidied.{CellQueue, cells_from, skip_cells, tidied-tracked}
 use Rattle.latch.specs.declared.record.Latch.{Latch}
 use Rattle.latch.specs.declared.record.LatchFigures.{LatchFigures}
 use Rattle.latch.specs.Calls.{tidied}
 use Rattle.latch.specs.Queue.{Queue}
 use Rattle.latch.specs.Queue as queue
-use Rattle.latch.specs.Table.{withResumed}
+use Rattle.latch.specs.Table.{with_resumed}
 use Rattle.latched.proofs.Invariant.Keep.{Inv}
 use Rattle.latched.proofs.Invariant.Schedules.{tidied-keeps}
 use Rattle.latched.proofs.Window.Shown.{Tracks, tracked}
 
 -- The queue's loop moves its cells, and the next ticket to resume, alone.
-abbrev withCells : Queue → CellQueue → Queue
-withCells m c = queue.withParts (withResumed c.resumed m.figures) c.cells m.slots m
+abbrev with_cells : Queue → CellQueue → Queue
+with_cells m c = queue.with_parts (with_resumed c.resumed m.figures) c.cells m.slots m
 
-skip-cells : (n : ℕ) (m : Queue) → queue.skip n m ≡ withCells m (skipCells n m.figures.resumed m.cells)
-unfolding queue.skip skipCells
+skip-cells : (n : ℕ) (m : Queue) → queue.skip n m ≡ with_cells m (skip_cells n m.figures.resumed m.cells)
+unfolding queue.skip skip_cells
 skip-cells zero m = refl
-skip-cells (suc n) m = go (queue.canSkip m) (skip-cells n (queue.skipped m))
+skip-cells (suc n) m = go (queue.can_skip m) (skip-cells n (queue.skipped m))
   where
-    go : (b : Bool) {c : CellQueue} → queue.skip n (queue.skipped m) ≡ withCells m c
+    go : (b : Bool) {c : CellQueue} → queue.skip n (queue.skipped m) ≡ with_cells m c
         → cond b (queue.skip n (queue.skipped m)) m
-        ≡ withCells m (cond b c (cellsFrom m.figures.resumed m.cells))
+        ≡ with_cells m (cond b c (cells_from m.figures.resumed m.cells))
     go true e = e
     go false e = refl
 
@@ -42,7 +42,7 @@ tidied-tracks h m r =
       shows =
           record {
             parties = r.shows.parties;
-            figures = λ i. withResumed (x.resumed i) (r.shows.figures i);
+            figures = λ i. with_resumed (x.resumed i) (r.shows.figures i);
             slots = r.shows.slots;
             window = x.tracked.window;
           };

@@ -1,7 +1,7 @@
 -- `figures_fit` meets its contract: its tests are the clauses, in the same order.
 use borrow.Author.Rules.{rules}
 use borrow.Author.Tests.{lt-leb, le-leb}
-use Rattle.latch.specs.Fits.{figuresFit}
+use Rattle.latch.specs.Fits.{figures_fit}
 use Rattle.clauses.proofs.Laws.Bools.{failed, passed, fails, next, last}
 use Rattle.latchfit.proofs.figures_fit.Statement.{statement}
 use Rattle.latchfit.proofs.figures_fit.Tie as tie
@@ -10,49 +10,49 @@ up-to-32-requires : tie.Need-up-to-32-requires
 up-to-32-requires c κs = search rules
 
 returns : tie.Need-returns
-unfolding figuresFit
+unfolding figures_fit
 returns c = fails 0 _ (failed c.before.up-to-32.ensures c.if1.true)
 
 returns-2 : tie.Need-returns-2
-unfolding figuresFit
+unfolding figures_fit
 returns-2 c = fails 1 _ (lt-leb _ _ c.if2.true)
 
 returns-3 : tie.Need-returns-3
-unfolding figuresFit
+unfolding figures_fit
 returns-3 c = fails 2 _ (lt-leb _ _ c.if3.true)
 
 returns-4 : tie.Need-returns-4
-unfolding figuresFit
+unfolding figures_fit
 returns-4 c = fails 3 _ (lt-leb _ _ c.if4.true)
 
 returns-5 : tie.Need-returns-5
-unfolding figuresFit
+unfolding figures_fit
 returns-5 c = fails 4 _ (lt-leb _ _ c.if5.true)
 
 returns-6 : tie.Need-returns-6
-unfolding figuresFit
+unfolding figures_fit
 returns-6 c = fails 5 _ (lt-leb _ _ c.if6.true)
 
 returns-7 : tie.Need-returns-7
-unfolding figuresFit
+unfolding figures_fit
 returns-7 c = fails 6 _ (lt-leb _ _ c.if7.true)
 
 returns-8 : tie.Need-returns-8
-unfolding figuresFit
+unfolding figures_fit
 returns-8 c = fails 7 _ (lt-leb _ _ c.if8.true)
 
 add-if9 : tie.Need-overflow-add-if9
 add-if9 c = search rules
 
 returns-9 : tie.Need-returns-9
-unfolding figuresFit
+unfolding figures_fit
 returns-9 c = fails 8 _ (lt-leb _ _ c.if9.true)
 
 add-result : tie.Need-overflow-add-result
 add-result c = search rules
 
 returns-10 : tie.Need-returns-10
-unfolding figuresFit
+unfolding figures_fit
 returns-10 c =
     let f = c.before in
     let d = f.before.before.before.before.before.before in

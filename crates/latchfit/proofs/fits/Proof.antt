@@ -9,12 +9,12 @@ use native.Mathlib.Omega.{arith}
 use lib.ListN.{length}
 use Rattle.latch.specs.declared.record.Latch.{Latch}
 use Rattle.hub.specs.Basics.{all_from}
-use Rattle.hub.specs.Ring.{readSeat}
-use Rattle.clauses.specs.Window.{ticketAt}
+use Rattle.hub.specs.Ring.{read_seat}
+use Rattle.clauses.specs.Window.{ticket_at}
 use Rattle.clauses.proofs.Laws.Bools.{failed, passed}
 use Rattle.clauses.proofs.Laws.Ranges.{Left, one-fails, one_passes, none_left, by_index}
 use Rattle.hub.proofs.Laws.Lists.{mapped-size}
-use Rattle.latch.specs.Fits.{figuresFit, partyFits, placeFits}
+use Rattle.latch.specs.Fits.{figures_fit, party_fits, place_fits}
 use Rattle.latch.specs.Record.{read_slot}
 use Rattle.latchfit.proofs.Laws.Clauses.{oldest-small, parties-few}
 use Rattle.latchfit.proofs.Laws.Clauses.{party-test, free-fits, past-parties}
@@ -25,12 +25,12 @@ use Rattle.latchfit.proofs.fits.Tie as tie
 
 -- The parties below p are tested, and x is what is noted of them; so are the places below index i.
 abbrev Parties : Latch → Bool → ℕ → Type 0
-Parties h = Left (partyFits h) 32 (all_from (partyFits h) 0 32)
+Parties h = Left (party_fits h) 32 (all_from (party_fits h) 0 32)
 
 abbrev Places : Latch → ℕ → Type 0
 Places h =
-    Left (λ i. placeFits h (ticketAt h.oldest i)) 256
-    (all_from (placeFits h) h.oldest 256) true
+    Left (λ i. place_fits h (ticket_at h.oldest i)) 256
+    (all_from (place_fits h) h.oldest 256) true
 
 moved : (h : Latch) {i j : ℕ} → Places h i → i ≡ j → Places h j
 moved h l e = subst (Places h) e l
@@ -83,7 +83,7 @@ record4 c = record_of (loop c.before.before)
 abbrev index : At tie.At-loop4 → ℕ
 index c = 8 * c.before.before.loop3.j + c.loop4.k
 
-figures : (c : At tie.At-loop) → figuresFit (record_of c).parties (record_of c).figures (record_of c).oldest ≡ true
+figures : (c : At tie.At-loop) → figures_fit (record_of c).parties (record_of c).figures (record_of c).oldest ≡ true
 figures c = passed c.before.before.figures-fit.ensures c.before.if1.false
 
 -- No party below n is past the slots, and no sum with the oldest ticket past 32 bits.
@@ -99,9 +99,9 @@ size c = search mapped-size
 -- The party's test is the definition's.
 told : (c : At tie.After-member-fits)
     → c.member-fits.result
-    ≡ partyFits (record_of c.before.before.before.before.before.before)
+    ≡ party_fits (record_of c.before.before.before.before.before.before)
     c.before.before.before.before.before.before.loop.p
-unfolding read_slot readSeat
+unfolding read_slot read_seat
 told c =
     let l = c.before.before.before.before.before in
     party-test (record_of l.before) _ _ l.loop-test.true c.before.before.ticket.ensures
@@ -221,7 +221,7 @@ returns-3 c =
     ∙ none_left _ 32 _ q.loop2.free _ q.loop2.invariant.1 (omega arith))
 
 loop3-holds : At tie.Need-loop3-init
-loop3-holds c = by_index (placeFits (record_of c.before.before.before.before)) _
+loop3-holds c = by_index (place_fits (record_of c.before.before.before.before)) _
 
 loop4-holds : At tie.Need-loop4-init
 loop4-holds c =

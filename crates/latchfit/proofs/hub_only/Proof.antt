@@ -4,9 +4,9 @@ use mathlib.Core.Path.{refl, ap, ◌∙◌}
 use mathlib.Core.Bool.{Bool, ◌||◌}
 use mathlib.Core.List.{[], ◌∷◌}
 use lib.Dec.{eqb}
-use Rattle.hub.specs.Phases.{isOneOf, ofRadios, rank}
-use Rattle.hub.proofs.Laws.Phases.{allBut, phase-arm}
-use Rattle.latch.specs.Fits.{HUB-ONLY}
+use Rattle.hub.specs.Phases.{is_one_of, of_radios, rank}
+use Rattle.hub.proofs.Laws.Phases.{all_but, phase-arm}
+use Rattle.latch.specs.Fits.{HUB_ONLY}
 use Rattle.latchfit.proofs.hub_only.Statement.{statement}
 use Rattle.latchfit.proofs.hub_only.Tie as tie
 
@@ -17,16 +17,16 @@ of-radios-requires : tie.Need-of-radios-requires
 of-radios-requires c κs = search rules
 
 returns : tie.Need-returns
-unfolding isOneOf
+unfolding is_one_of
 returns c =
     let f = c.before.before.args.phase in
     c.of-radios.ensures
-    ∙ ap (λ (b : Bool). b || ofRadios f)
-    (phase-arm (allBut (1 ∷ [])) (λ x. eqb (rank x) 1) f refl c.before.match.keys2)
+    ∙ ap (λ (b : Bool). b || of_radios f)
+    (phase-arm (all_but (1 ∷ [])) (λ x. eqb (rank x) 1) f refl c.before.match.keys2)
 
 returns-2 : tie.Need-returns-2
-unfolding isOneOf
-returns-2 c = phase-arm (1 ∷ []) (isOneOf HUB-ONLY) c.before.before.args.phase refl c.before.match.keys1
+unfolding is_one_of
+returns-2 c = phase-arm (1 ∷ []) (is_one_of HUB_ONLY) c.before.before.args.phase refl c.before.match.keys1
 
 pub hub-only-spec : {M : Type 1} → statement M
 hub-only-spec = tie.close (tie.spec enum_told of-radios-requires returns returns-2)

@@ -4,9 +4,9 @@ use mathlib.Core.Path.{ap, ◌∙◌}
 use mathlib.Core.Bool.{true, ◌&&◌}
 use Rattle.hub.specs.declared.record.Figures.{Figures}
 use Rattle.hub.specs.Basics.{implies}
-use Rattle.hub.specs.Fits.{placeListed}
+use Rattle.hub.specs.Fits.{place_listed}
 use Rattle.hub.specs.Fits as hub
-use Rattle.hub.specs.Phases.{ofRadios}
+use Rattle.hub.specs.Phases.{of_radios}
 use Rattle.clauses.proofs.Laws.Bools.{failed, passed}
 use Rattle.latchfit.proofs.Laws.Clauses.{as-at-hub, slot-passes}
 use Rattle.latchfit.proofs.member_fits.Statement.{statement}
@@ -31,7 +31,7 @@ returns-2 c =
     slot-passes _ _ _ (passed c.before.before.before.slot-fits.ensures c.before.before.if1.false)
     (c.party-fits.ensures
     ∙ ap (λ (f : Figures).
-    hub.ticketFits f a.oldest x && placeListed x a.place && implies (ofRadios x) true)
+    hub.ticket_fits f a.oldest x && place_listed x a.place && implies (of_radios x) true)
     c.before.tickets-of.ensures
     ∙ as-at-hub a.figures a.oldest x a.place)
 

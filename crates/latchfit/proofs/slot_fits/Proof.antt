@@ -2,9 +2,9 @@
 use borrow.Author.Rules.{rules}
 use mathlib.Core.Path.{refl, sym, ◌∙◌}
 use mathlib.Core.List.{[], ◌∷◌}
-use Rattle.hub.specs.Phases.{isOneOf, resumes}
-use Rattle.hub.proofs.Laws.Phases.{allBut, phase-arm}
-use Rattle.latch.specs.Fits.{slotFits}
+use Rattle.hub.specs.Phases.{is_one_of, resumes}
+use Rattle.hub.proofs.Laws.Phases.{all_but, phase-arm}
+use Rattle.latch.specs.Fits.{slot_fits}
 use Rattle.latchfit.proofs.slot_fits.Statement.{statement}
 use Rattle.latchfit.proofs.slot_fits.Tie as tie
 
@@ -12,14 +12,14 @@ hub-only-requires : tie.Need-hub-only-requires
 hub-only-requires c κs = search rules
 
 returns : tie.Need-returns
-unfolding slotFits
+unfolding slot_fits
 returns c = let barred = sym c.before.hub-only.ensures ∙ c.if1.true in rw barred
 
 left-fits-requires : tie.Need-left-fits-requires
 left-fits-requires c κs = search rules
 
 returns-2 : tie.Need-returns-2
-unfolding slotFits isOneOf
+unfolding slot_fits is_one_of
 returns-2 c =
     let b = c.before.before in
     let barred = sym b.before.hub-only.ensures ∙ b.if1.false in
@@ -28,12 +28,12 @@ returns-2 c =
     rw (barred, ← carries) c.left-fits.ensures
 
 returns-3 : tie.Need-returns-3
-unfolding slotFits isOneOf
+unfolding slot_fits is_one_of
 returns-3 c =
     let b = c.before in
     let barred = sym b.before.hub-only.ensures ∙ b.if1.false in
     let carries =
-    phase-arm (allBut (10 ∷ 11 ∷ [])) resumes b.before.before.args.slot.phase refl c.match.keys2 in
+    phase-arm (all_but (10 ∷ 11 ∷ [])) resumes b.before.before.args.slot.phase refl c.match.keys2 in
     rw (barred, ← carries)
 
 pub slot-fits-spec : {M : Type 1} → statement M

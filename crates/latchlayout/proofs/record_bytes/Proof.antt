@@ -5,9 +5,9 @@ use mathlib.Core.List.{List, [], ◌++◌, append_assoc}
 use Prim.Native.Nat.{ℕ}
 use native.Mathlib.Omega.{arith}
 use lib.ListN.{length, replicate}
-use Rattle.cells.specs.Places.{placeBytes}
+use Rattle.cells.specs.Places.{place_bytes}
 use Rattle.cells.proofs.Laws.Cells.{nothing, next, all-written}
-use Rattle.latchlayout.specs.Written.{figureBytes, leftBytes, markBytes, phaseBytes}
+use Rattle.latchlayout.specs.Written.{figure_bytes, left_bytes, mark_bytes, phase_bytes}
 use Rattle.latchlayout.proofs.record_bytes.Statement.{statement}
 use Rattle.latchlayout.proofs.record_bytes.Tie as tie
 
@@ -108,7 +108,7 @@ returns c =
     let w5 =
     next 1523 _ 1491 32 _ _ _ _ w4 (omega arith) at-marks-of.marks-of.ensures marks.1 marks.0 in
     all-written 1523 _ 1523 _ w5 (omega arith)
-    ∙ five (figureBytes h) (placeBytes h.places) (phaseBytes h.slots) (leftBytes h.slots) (markBytes h.slots)
+    ∙ five (figure_bytes h) (place_bytes h.places) (phase_bytes h.slots) (left_bytes h.slots) (mark_bytes h.slots)
 
 pub record-bytes-spec : {M : Type 1} → statement M
 record-bytes-spec =

@@ -10,7 +10,7 @@ use Rattle.hub.specs.declared.answers.Refusal.{Refusal}
 use Rattle.hub.specs.declared.record.PlaceSlot.{PlaceSlot}
 use Rattle.hub.specs.Answers.{printed}
 use Rattle.hub.specs.Basics.{all_from}
-use Rattle.hub.specs.Record.{MAX-BEGUN, PARTIES}
+use Rattle.hub.specs.Record.{MAX_BEGUN, PARTIES}
 use Rattle.hub.specs.Ring.{PLACES}
 use Rattle.hub.proofs.Laws.Bools.{clause, first, second}
 use Rattle.latch.specs.declared.moves.LatchCall.{LatchCall}
@@ -18,14 +18,14 @@ use Rattle.latch.specs.declared.moves.LatchOp.{LatchOp}
 use Rattle.latch.specs.declared.record.Latch.{Latch}
 use Rattle.latch.specs.declared.record.LatchOutcome.{LatchOutcome}
 use Rattle.latch.specs.declared.record.LatchSlot.{LatchSlot}
-use Rattle.latch.specs.Calls.{answer_of, apply, called, checked, isFull}
-use Rattle.latch.specs.Fits.{fits, figuresClauses, figuresFit, partyFits, placeFits}
+use Rattle.latch.specs.Calls.{answer_of, apply, called, checked, is_full}
+use Rattle.latch.specs.Fits.{fits, figures_clauses, figures_fit, party_fits, place_fits}
 use Rattle.latch.specs.Look.{look}
 use Rattle.latch.specs.Moves.{Move}
 use Rattle.latch.specs.Table.{decide}
 use Rattle.latcheffect.specs.declared.effect.LatchEffect.{LatchEffect}
-use Rattle.latcheffect.specs.Effect.{effectBy, effect_of}
-use Rattle.latchmove.specs.Tidied.{tidiedBy}
+use Rattle.latcheffect.specs.Effect.{effect_by, effect_of}
+use Rattle.latchmove.specs.Tidied.{tidied_by}
 use Rattle.latchmove.proofs.Laws.Sight.{Reads, looked, sight_of}
 use Rattle.latchmove.proofs.Laws.Stored.{applied, stored, told}
 
@@ -42,7 +42,7 @@ abbrev outcome : Latch → ℕ → Move → LatchOutcome
 outcome h p m = record { answer = answer_of m; latch = apply h (look h p) m }
 
 abbrev full : Latch → Bool
-full h = isFull h.oldest h.figures.issued h.slots
+full h = is_full h.oldest h.figures.issued h.slots
 
 -- Refused by 1, and by 4; the record stays as it was.
 pub unfit : (h : Latch) (p : ℕ) (o : LatchOp) → fits h ≡ false
@@ -69,26 +69,26 @@ admitted h p o e f =
 pub record Counted (h : Latch) : Type 0 where
   pub parties : h.parties ≤ 32
   pub waiters : h.figures.waiters ≤ 32
-  pub issued : h.figures.issued ≤ MAX-BEGUN
-  pub resumed : h.figures.resumed ≤ MAX-BEGUN
-  pub oldest : h.oldest ≤ MAX-BEGUN
+  pub issued : h.figures.issued ≤ MAX_BEGUN
+  pub resumed : h.figures.resumed ≤ MAX_BEGUN
+  pub oldest : h.oldest ≤ MAX_BEGUN
 
 pub counted : (h : Latch) → fits h ≡ true → Counted h
-unfolding fits figuresFit
+unfolding fits figures_fit
 counted h e =
-    let parties = all_from (partyFits h) 0 PARTIES in
-    let places = all_from (placeFits h) h.oldest PLACES in
-    let f = figuresFit h.parties h.figures h.oldest in
+    let parties = all_from (party_fits h) 0 PARTIES in
+    let places = all_from (place_fits h) h.oldest PLACES in
+    let f = figures_fit h.parties h.figures h.oldest in
     let all = first f parties (first (f && parties) places e) in
-    let cs = figuresClauses h.parties h.figures h.oldest in
+    let cs = figures_clauses h.parties h.figures h.oldest in
     let n = clause 0 cs all in
-    let i = leb-true h.figures.issued MAX-BEGUN (clause 4 cs all) in
+    let i = leb-true h.figures.issued MAX_BEGUN (clause 4 cs all) in
     let o = leb-true h.oldest h.figures.issued (clause 6 cs all) in
     record {
       parties = leb-true h.parties 32 (second (leb 1 h.parties) _ n);
       waiters = leb-true h.figures.waiters 32 (clause 2 cs all);
       issued = i;
-      resumed = leb-true h.figures.resumed MAX-BEGUN (clause 5 cs all);
+      resumed = leb-true h.figures.resumed MAX_BEGUN (clause 5 cs all);
       oldest = omega arith;
     }
 
@@ -96,25 +96,25 @@ module _ (h : Latch) (p : ℕ) (seat : PlaceSlot) (q : ℕ) (waiter : LatchSlot)
     (r : Reads h p seat q waiter) where
   -- The effect e that was decided from what is seen.
   module _ (o : LatchOp) (e : LatchEffect)
-      (is : e ≡ effectBy o (full h) (sight_of h p seat waiter)) where
+      (is : e ≡ effect_by o (full h) (sight_of h p seat waiter)) where
     abbrev pub move : Move
     move = decide o (full h) (look h p)
 
     effect : e ≡ effect_of move (look h p)
-    unfolding effectBy
-    effect = is ∙ ap (effectBy o (full h)) (looked h p seat q waiter r)
+    unfolding effect_by
+    effect = is ∙ ap (effect_by o (full h)) (looked h p seat q waiter r)
 
     pub said : e.answer ≡ answer_of move
     said = ap (λ (e : LatchEffect). e.answer) effect ∙ told move (look h p)
 
-    pub left : tidiedBy e.turns (stored h p e) ≡ apply h (look h p) move
+    pub left : tidied_by e.turns (stored h p e) ≡ apply h (look h p) move
     left =
-        ap (λ (e : LatchEffect). tidiedBy e.turns (stored h p e)) effect
+        ap (λ (e : LatchEffect). tidied_by e.turns (stored h p e)) effect
         ∙ applied h p r.size move
 
     -- What the call answers and leaves, where the record fits and has the party.
     pub outcome-is : fits h ≡ true → ltb p h.parties ≡ true → (g : Latch)
-        → g ≡ tidiedBy e.turns (stored h p e)
+        → g ≡ tidied_by e.turns (stored h p e)
         → record { answer = e.answer; latch = g } ≡ called h (asks o p)
     outcome-is f n g eg =
         ap₂ (λ (a : Answer) (g : Latch). record { answer = a; latch = g }) said (eg ∙ left)

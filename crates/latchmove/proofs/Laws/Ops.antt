@@ -9,17 +9,17 @@ use Rattle.latch.specs.declared.moves.LatchOp.TheVariants.{Await, Step, Cancel, 
 use Rattle.latch.specs.declared.moves.LatchSight.{LatchSight}
 use Rattle.latch.specs.Table.{decide}
 use Rattle.latch.specs.contracts.moves.LatchOp as op
-use Rattle.latcheffect.specs.Effect.{effectBy}
-use Rattle.latchmove.specs.Room.{fullFor}
+use Rattle.latcheffect.specs.Effect.{effect_by}
+use Rattle.latchmove.specs.Room.{full_for}
 
-pub unasked : (b : Bool) (o : LatchOp) → OneOf (1 ∷ 2 ∷ 3 ∷ []) (tag_of op.the_type o) → false ≡ fullFor o b
+pub unasked : (b : Bool) (o : LatchOp) → OneOf (1 ∷ 2 ∷ 3 ∷ []) (tag_of op.the_type o) → false ≡ full_for o b
 unasked b Await t = absurd (miss (1 ∷ 2 ∷ 3 ∷ []) 0 tt t)
 unasked b Step t = refl
 unasked b Cancel t = refl
 unasked b CountDown t = refl
 
-pub as-asked : (b : Bool) (s : LatchSight) (o : LatchOp) → effectBy o (fullFor o b) s ≡ effectBy o b s
-unfolding effectBy decide
+pub as-asked : (b : Bool) (s : LatchSight) (o : LatchOp) → effect_by o (full_for o b) s ≡ effect_by o b s
+unfolding effect_by decide
 as-asked b s Await = refl
 as-asked b s Step = refl
 as-asked b s Cancel = refl

@@ -4,10 +4,10 @@ use mathlib.Core.Path.{◌≡◌, refl, ◌∙◌}
 use mathlib.Core.List.{[]}
 use native.Mathlib.Omega.{arith}
 use lib.ListN.{length, replicate}
-use Rattle.cells.specs.Places.{placeBytes}
+use Rattle.cells.specs.Places.{place_bytes}
 use Rattle.cells.proofs.Laws.Cells.{nothing, next, all-written, six}
-use Rattle.radiobytes.specs.Written.{radioBytes}
-use Rattle.layout.specs.Written.{figureBytes, markBytes, phaseBytes}
+use Rattle.radiobytes.specs.Written.{radio_bytes}
+use Rattle.layout.specs.Written.{figure_bytes, mark_bytes, phase_bytes}
 use Rattle.layout.proofs.record_bytes.Statement.{statement}
 use Rattle.layout.proofs.record_bytes.Tie as tie
 
@@ -119,8 +119,8 @@ returns c =
     next 1881 _ 1817 32 _ _ _ _ w4 (omega arith) at-marks-of.marks-of.ensures marks.1 marks.0 in
     let kinds = at-put-few2.put-few2.ensures in
     let w6 = next 1881 _ 1849 32 _ _ _ _ w5 (omega arith) refl kinds.1 kinds.0 in
-    all-written 1881 _ 1881 _ w6 (omega arith) ∙ six (figureBytes h) (placeBytes h.places) (phaseBytes h.slots)
-    (radioBytes h.control.opening h.slots h.places h.control.pool) (markBytes h.slots) h.control.opening.kinds
+    all-written 1881 _ 1881 _ w6 (omega arith) ∙ six (figure_bytes h) (place_bytes h.places) (phase_bytes h.slots)
+    (radio_bytes h.control.opening h.slots h.places h.control.pool) (mark_bytes h.slots) h.control.opening.kinds
 
 pub record-bytes-spec : {M : Type 1} → statement M
 record-bytes-spec =

@@ -1,6 +1,6 @@
 -- `record_of` meets its contract: each part is read where it stands.
 use borrow.Author.Rules.{rules}
-use Rattle.hub.specs.Record.{controlOf, of_fields}
+use Rattle.hub.specs.Record.{control_of, of_fields}
 use Rattle.layout.proofs.record_of.Statement.{statement}
 use Rattle.layout.proofs.record_of.Tie as tie
 
@@ -26,7 +26,7 @@ returns : tie.Need-returns
 returns c =
     λ j.
     of_fields (c.before.before.places-at.ensures j) (c.before.slots-of.ensures j)
-    (controlOf (c.before.before.before.before.before.Opening-of.ensures j)
+    (control_of (c.before.before.before.before.before.Opening-of.ensures j)
     (c.before.before.before.before.figures-of.ensures j) (c.before.before.before.number_at.ensures j)
     (c.pool-of.ensures j))
 

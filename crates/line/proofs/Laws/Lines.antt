@@ -12,10 +12,10 @@ use lib.Seq.{take_all}
 use native.Mathlib.Nat.{le_of_eq}
 use Rattle.hub.specs.declared.opening.Opening.{Opening}
 use Rattle.encoding.specs.Frame.{is_call, op_of}
-use Rattle.encoding.specs.Hex.{digitOf, isDigit, spelled, byte_of}
-use Rattle.line.specs.Requests.{LONGEST, Request, malformed, toOpen, toCall}
-use Rattle.line.specs.Requests.{allDigits, unreadable, bytes_of, openingIn, requested, spelledBy}
-use Rattle.line.specs.Requests.{requestOf, headerOf, isOpening}
+use Rattle.encoding.specs.Hex.{digit_of, is_digit, spelled, byte_of}
+use Rattle.line.specs.Requests.{LONGEST, Request, malformed, to_open, to_call}
+use Rattle.line.specs.Requests.{all_digits, unreadable, bytes_of, opening_in, requested, spelled_by}
+use Rattle.line.specs.Requests.{request_of, header_of, is_opening}
 
 -- The first two characters spell a byte, or do not; x and y are their values.
 pub byte-short : (l : List ℕ) → length l < 2 → 256 ≡ byte_of l
@@ -23,36 +23,36 @@ byte-short [] e = refl
 byte-short (a ∷ []) e = refl
 byte-short (a ∷ b ∷ l) e = absurd (omega arith)
 
-module _ (l : List ℕ) (long : 2 ≤ length l) (x : ℕ) (first : x ≡ digitOf (get_or l 0 0)) where
+module _ (l : List ℕ) (long : 2 ≤ length l) (x : ℕ) (first : x ≡ digit_of (get_or l 0 0)) where
   pub byte-first : 16 ≤ x → 256 ≡ byte_of l
   byte-first m = go l long (subst (λ (d : ℕ). 16 ≤ d) first m)
     where
-      go : (l : List ℕ) → 2 ≤ length l → 16 ≤ digitOf (get_or l 0 0) → 256 ≡ byte_of l
+      go : (l : List ℕ) → 2 ≤ length l → 16 ≤ digit_of (get_or l 0 0) → 256 ≡ byte_of l
       go [] n m = absurd (omega arith)
       go (a ∷ []) n m = absurd (omega arith)
-      go (a ∷ b ∷ l) n m = simp (le-ltb (digitOf a) 16 m)
+      go (a ∷ b ∷ l) n m = simp (le-ltb (digit_of a) 16 m)
 
-  module _ (y : ℕ) (second : y ≡ digitOf (get_or l 1 0)) (low : x < 16) where
+  module _ (y : ℕ) (second : y ≡ digit_of (get_or l 1 0)) (low : x < 16) where
     pub byte-second : 16 ≤ y → 256 ≡ byte_of l
     byte-second m =
         go l long (subst (λ (d : ℕ). d < 16) first low) (subst (λ (d : ℕ). 16 ≤ d) second m)
       where
-        go : (l : List ℕ) → 2 ≤ length l → digitOf (get_or l 0 0) < 16 → 16 ≤ digitOf (get_or l 1 0)
+        go : (l : List ℕ) → 2 ≤ length l → digit_of (get_or l 0 0) < 16 → 16 ≤ digit_of (get_or l 1 0)
             → 256 ≡ byte_of l
         go [] n i m = absurd (omega arith)
         go (a ∷ []) n i m = absurd (omega arith)
-        go (a ∷ b ∷ l) n i m = simp (lt-ltb (digitOf a) 16 i, le-ltb (digitOf b) 16 m)
+        go (a ∷ b ∷ l) n i m = simp (lt-ltb (digit_of a) 16 i, le-ltb (digit_of b) 16 m)
 
     pub byte-both : y < 16 → 16 * x + y ≡ byte_of l
     byte-both m =
         (λ i. 16 * first i + second i)
         ∙ go l long (subst (λ (d : ℕ). d < 16) first low) (subst (λ (d : ℕ). d < 16) second m)
       where
-        go : (l : List ℕ) → 2 ≤ length l → digitOf (get_or l 0 0) < 16 → digitOf (get_or l 1 0) < 16
-            → 16 * digitOf (get_or l 0 0) + digitOf (get_or l 1 0) ≡ byte_of l
+        go : (l : List ℕ) → 2 ≤ length l → digit_of (get_or l 0 0) < 16 → digit_of (get_or l 1 0) < 16
+            → 16 * digit_of (get_or l 0 0) + digit_of (get_or l 1 0) ≡ byte_of l
         go [] n i m = absurd (omega arith)
         go (a ∷ []) n i m = absurd (omega arith)
-        go (a ∷ b ∷ l) n i m = simp (lt-ltb (digitOf a) 16 i, lt-ltb (digitOf b) 16 m)
+        go (a ∷ b ∷ l) n i m = simp (lt-ltb (digit_of a) 16 i, lt-ltb (digit_of b) 16 m)
 
 -- The part of a line from its n-th character on.
 pub from : (n : ℕ) (l : List ℕ) → take (length l - n) (drop n l) ≡ drop n l
@@ -60,20 +60,20 @@ from n l = take_all (length l - n) (drop n l) (le_of_eq (length-drop n l))
 
 -- An unreadable line spells nothing; one of digits alone, even and not too long, their bytes.
 module _ (l : List ℕ) where
-  pub too_long : LONGEST < length l → [] ≡ spelledBy l
-  unfolding spelledBy
+  pub too_long : LONGEST < length l → [] ≡ spelled_by l
+  unfolding spelled_by
   too_long m = rw (lt-ltb LONGEST (length l) m)
 
-  pub odd : length l % 2 ≡ 1 → [] ≡ spelledBy l
-  unfolding spelledBy
-  odd e = go (ltb LONGEST (length l)) _ (allDigits l) (bytes_of l) (eq-eqb (length l % 2) 1 e)
+  pub odd : length l % 2 ≡ 1 → [] ≡ spelled_by l
+  unfolding spelled_by
+  odd e = go (ltb LONGEST (length l)) _ (all_digits l) (bytes_of l) (eq-eqb (length l % 2) 1 e)
     where
       go : (p q r : Bool) (x : List ℕ) → q ≡ true → [] ≡ cond (p || q || not r) [] x
       go true q r x f = refl
       go false q r x f = ap (λ (b : Bool). cond (b || not r) [] x) (sym f)
 
-  pub no_digit : allDigits l ≡ false → [] ≡ spelledBy l
-  unfolding spelledBy
+  pub no_digit : all_digits l ≡ false → [] ≡ spelled_by l
+  unfolding spelled_by
   no_digit e = go (ltb LONGEST (length l)) (eqb (length l % 2) 1) _ (bytes_of l) e
     where
       go : (p q r : Bool) (x : List ℕ) → r ≡ false → [] ≡ cond (p || q || not r) [] x
@@ -81,22 +81,22 @@ module _ (l : List ℕ) where
       go false true r x f = refl
       go false false r x f = ap (λ (b : Bool). cond (not b) [] x) (sym f)
 
-  pub readable : length l ≤ LONGEST → (length l % 2 ≡ 1 → ⊥) → allDigits l ≡ true
-      → bytes_of l ≡ spelledBy l
-  unfolding spelledBy
+  pub readable : length l ≤ LONGEST → (length l % 2 ≡ 1 → ⊥) → all_digits l ≡ true
+      → bytes_of l ≡ spelled_by l
+  unfolding spelled_by
   readable m e d = rw (le-ltb LONGEST (length l) m, ne_eqb (length l % 2) 1 e, d)
 
 -- A line that asks nothing, readable or not.
-nothing : (l : List ℕ) → requested (bytes_of l) ≡ malformed → malformed ≡ requestOf l
-unfolding requestOf spelledBy requested
+nothing : (l : List ℕ) → requested (bytes_of l) ≡ malformed → malformed ≡ request_of l
+unfolding request_of spelled_by requested
 nothing l e = either (unreadable l) (bytes_of l) e
   where
     either : (b : Bool) (m : List ℕ) → requested m ≡ malformed → malformed ≡ requested (cond b [] m)
     either true m f = refl
     either false m f = sym f
 
-unread : (l : List ℕ) → allDigits l ≡ false → malformed ≡ requestOf l
-unfolding requestOf requested
+unread : (l : List ℕ) → all_digits l ≡ false → malformed ≡ request_of l
+unfolding request_of requested
 unread l e = ap requested (no_digit l e)
 
 -- A line of four characters that is a call has no line feed in it.
@@ -106,85 +106,85 @@ pub record NoFeed (a b x y : ℕ) : Type 0 where
   pub third : x ≡ 0x0A → ⊥
   pub fourth : y ≡ 0x0A → ⊥
 
-no-feed : (c : ℕ) → isDigit c ≡ true → c ≡ 0x0A → ⊥
-unfolding digitOf
+no-feed : (c : ℕ) → is_digit c ≡ true → c ≡ 0x0A → ⊥
+unfolding digit_of
 no-feed c d e =
-    let z : false ≡ true = sym (ap isDigit e) ∙ d in
+    let z : false ≡ true = sym (ap is_digit e) ∙ d in
     let n : ◌≡◌ {A = ℕ} 0 1 = cc in
     omega arith
 
-pub call-feeds : (a b x y : ℕ) → 16 ≤ (headerOf (requestOf (a ∷ b ∷ x ∷ y ∷ []))).code → NoFeed a b x y
-unfolding allDigits
-call-feeds a b x y m = go (allDigits (a ∷ b ∷ x ∷ y ∷ [])) refl
+pub call-feeds : (a b x y : ℕ) → 16 ≤ (header_of (request_of (a ∷ b ∷ x ∷ y ∷ []))).code → NoFeed a b x y
+unfolding all_digits
+call-feeds a b x y m = go (all_digits (a ∷ b ∷ x ∷ y ∷ [])) refl
   where
-    go : (d : Bool) → allDigits (a ∷ b ∷ x ∷ y ∷ []) ≡ d → NoFeed a b x y
+    go : (d : Bool) → all_digits (a ∷ b ∷ x ∷ y ∷ []) ≡ d → NoFeed a b x y
     go true e =
-        let f = second (isDigit a) (allDigits (b ∷ x ∷ y ∷ [])) e in
-        let g = second (isDigit b) (allDigits (x ∷ y ∷ [])) f in
-        let h = second (isDigit x) (allDigits (y ∷ [])) g in
+        let f = second (is_digit a) (all_digits (b ∷ x ∷ y ∷ [])) e in
+        let g = second (is_digit b) (all_digits (x ∷ y ∷ [])) f in
+        let h = second (is_digit x) (all_digits (y ∷ [])) g in
         record {
-          first = no-feed a (first (isDigit a) (allDigits (b ∷ x ∷ y ∷ [])) e);
-          second = no-feed b (first (isDigit b) (allDigits (x ∷ y ∷ [])) f);
-          third = no-feed x (first (isDigit x) (allDigits (y ∷ [])) g);
-          fourth = no-feed y (first (isDigit y) true h);
+          first = no-feed a (first (is_digit a) (all_digits (b ∷ x ∷ y ∷ [])) e);
+          second = no-feed b (first (is_digit b) (all_digits (x ∷ y ∷ [])) f);
+          third = no-feed x (first (is_digit x) (all_digits (y ∷ [])) g);
+          fourth = no-feed y (first (is_digit y) true h);
         }
     go false e =
         absurd
-        (omega (arith, m, ap (λ (r : Request). (headerOf r).code) (unread (a ∷ b ∷ x ∷ y ∷ []) e)))
+        (omega (arith, m, ap (λ (r : Request). (header_of r).code) (unread (a ∷ b ∷ x ∷ y ∷ []) e)))
 
-abbrev twoDigits : ℕ → ℕ → Bool
-twoDigits a b = isDigit a && isDigit b
+abbrev two_digits : ℕ → ℕ → Bool
+two_digits a b = is_digit a && is_digit b
 
-small : (a b : ℕ) → twoDigits a b ≡ true → spelled a b < 256
+small : (a b : ℕ) → two_digits a b ≡ true → spelled a b < 256
 small a b e =
     omega (
       arith,
-      ltb-true (digitOf a) 16 (first (isDigit a) (isDigit b) e),
-      ltb-true (digitOf b) 16 (second (isDigit a) (isDigit b) e),
+      ltb-true (digit_of a) 16 (first (is_digit a) (is_digit b) e),
+      ltb-true (digit_of b) 16 (second (is_digit a) (is_digit b) e),
     )
 
 -- Two characters in front of others: they spell a byte, or the line is not all digits.
 module _ (a b : ℕ) (l : List ℕ) where
-  pub spells : byte_of (a ∷ b ∷ l) < 256 → twoDigits a b ≡ true
-  spells = go (twoDigits a b) refl
+  pub spells : byte_of (a ∷ b ∷ l) < 256 → two_digits a b ≡ true
+  spells = go (two_digits a b) refl
     where
-      go : (d : Bool) → twoDigits a b ≡ d → cond d (spelled a b) 256 < 256 → twoDigits a b ≡ true
+      go : (d : Bool) → two_digits a b ≡ d → cond d (spelled a b) 256 < 256 → two_digits a b ≡ true
       go true e m = e
       go false e m = absurd (omega arith)
 
-  pub strays : 256 ≤ byte_of (a ∷ b ∷ l) → twoDigits a b ≡ false
-  strays = go (twoDigits a b) refl
+  pub strays : 256 ≤ byte_of (a ∷ b ∷ l) → two_digits a b ≡ false
+  strays = go (two_digits a b) refl
     where
-      go : (d : Bool) → twoDigits a b ≡ d → 256 ≤ cond d (spelled a b) 256 → twoDigits a b ≡ false
+      go : (d : Bool) → two_digits a b ≡ d → 256 ≤ cond d (spelled a b) 256 → two_digits a b ≡ false
       go true e m = absurd (omega (arith, small a b e))
       go false e m = e
 
-  pub digits : allDigits (a ∷ b ∷ l) ≡ twoDigits a b && allDigits l
-  unfolding allDigits
-  digits = go (isDigit a)
+  pub digits : all_digits (a ∷ b ∷ l) ≡ two_digits a b && all_digits l
+  unfolding all_digits
+  digits = go (is_digit a)
     where
-      go : (p : Bool) → p && (isDigit b && allDigits l) ≡ (p && isDigit b) && allDigits l
+      go : (p : Bool) → p && (is_digit b && all_digits l) ≡ (p && is_digit b) && all_digits l
       go true = refl
       go false = refl
 
-  pub stray : twoDigits a b ≡ false → allDigits (a ∷ b ∷ l) ≡ false
+  pub stray : two_digits a b ≡ false → all_digits (a ∷ b ∷ l) ≡ false
   stray e = digits ∙ rw e
 
-  later : allDigits l ≡ false → allDigits (a ∷ b ∷ l) ≡ false
-  later e = digits ∙ rw e (go (twoDigits a b))
+  later : all_digits l ≡ false → all_digits (a ∷ b ∷ l) ≡ false
+  later e = digits ∙ rw e (go (two_digits a b))
     where
       go : (p : Bool) → p && false ≡ false
       go true = refl
       go false = refl
 
-  pub one_more : twoDigits a b ≡ true → allDigits l ≡ true → allDigits (a ∷ b ∷ l) ≡ true
+  pub one_more : two_digits a b ≡ true → all_digits l ≡ true → all_digits (a ∷ b ∷ l) ≡ true
   one_more e f = digits ∙ rw (e, f)
 
-  pub byte-is : twoDigits a b ≡ true → byte_of (a ∷ b ∷ l) ≡ spelled a b
+  pub byte-is : two_digits a b ≡ true → byte_of (a ∷ b ∷ l) ≡ spelled a b
   byte-is e = rw e
 
-pub none : allDigits [] ≡ true
-unfolding allDigits
+pub none : all_digits [] ≡ true
+unfolding all_digits
 none = refl
 
 of_four : (P : List ℕ → Type 0) → ((a b x y : ℕ) → P (a ∷ b ∷ x ∷ y ∷ []))
@@ -197,41 +197,41 @@ of_four P f (a ∷ b ∷ x ∷ y ∷ []) e = f a b x y
 of_four P f (a ∷ b ∷ x ∷ y ∷ z ∷ l) e = absurd (omega arith)
 
 -- A call: its code, then its party.
-pub four-code : (l : List ℕ) → length l ≡ 4 → is_call (byte_of l) ≡ false → malformed ≡ requestOf l
+pub four-code : (l : List ℕ) → length l ≡ 4 → is_call (byte_of l) ≡ false → malformed ≡ request_of l
 unfolding bytes_of requested
 four-code =
-    of_four (λ l. is_call (byte_of l) ≡ false → malformed ≡ requestOf l)
-    (λ a b x y. go a b x y (twoDigits a b) refl)
+    of_four (λ l. is_call (byte_of l) ≡ false → malformed ≡ request_of l)
+    (λ a b x y. go a b x y (two_digits a b) refl)
   where
-    go : (a b x y : ℕ) (d : Bool) → twoDigits a b ≡ d
-        → is_call (byte_of (a ∷ b ∷ x ∷ y ∷ [])) ≡ false → malformed ≡ requestOf (a ∷ b ∷ x ∷ y ∷ [])
+    go : (a b x y : ℕ) (d : Bool) → two_digits a b ≡ d
+        → is_call (byte_of (a ∷ b ∷ x ∷ y ∷ [])) ≡ false → malformed ≡ request_of (a ∷ b ∷ x ∷ y ∷ [])
     go a b x y true e f =
         nothing (a ∷ b ∷ x ∷ y ∷ [])
         (if-false (is_call (spelled a b)) _ malformed (ap is_call (sym (byte-is a b (x ∷ y ∷ []) e)) ∙ f))
     go a b x y false e f = unread (a ∷ b ∷ x ∷ y ∷ []) (stray a b (x ∷ y ∷ []) e)
 
-pub four-party : (l : List ℕ) → length l ≡ 4 → 256 ≤ byte_of (drop 2 l) → malformed ≡ requestOf l
+pub four-party : (l : List ℕ) → length l ≡ 4 → 256 ≤ byte_of (drop 2 l) → malformed ≡ request_of l
 four-party =
-    of_four (λ l. 256 ≤ byte_of (drop 2 l) → malformed ≡ requestOf l)
+    of_four (λ l. 256 ≤ byte_of (drop 2 l) → malformed ≡ request_of l)
     (λ a b x y m. unread (a ∷ b ∷ x ∷ y ∷ []) (later a b (x ∷ y ∷ []) (stray x y [] (strays x y [] m))))
 
 pub four : (l : List ℕ) → length l ≡ 4 → is_call (byte_of l) ≡ true → byte_of l < 256
     → byte_of (drop 2 l) < 256
-    → toCall (record { op = op_of (byte_of l); party = byte_of (drop 2 l) }) ≡ requestOf l
-unfolding requestOf bytes_of requested
+    → to_call (record { op = op_of (byte_of l); party = byte_of (drop 2 l) }) ≡ request_of l
+unfolding request_of bytes_of requested
 four =
     of_four
     (λ l. is_call (byte_of l) ≡ true → byte_of l < 256 → byte_of (drop 2 l) < 256
-    → toCall (record { op = op_of (byte_of l); party = byte_of (drop 2 l) }) ≡ requestOf l)
+    → to_call (record { op = op_of (byte_of l); party = byte_of (drop 2 l) }) ≡ request_of l)
     (λ a b x y f m n. go a b x y f (spells a b (x ∷ y ∷ []) m) (spells x y [] n))
   where
-    go : (a b x y : ℕ) → is_call (byte_of (a ∷ b ∷ x ∷ y ∷ [])) ≡ true → twoDigits a b ≡ true
-        → twoDigits x y ≡ true
-        → toCall (record { op = op_of (byte_of (a ∷ b ∷ x ∷ y ∷ [])); party = byte_of (x ∷ y ∷ []) })
-        ≡ requestOf (a ∷ b ∷ x ∷ y ∷ [])
+    go : (a b x y : ℕ) → is_call (byte_of (a ∷ b ∷ x ∷ y ∷ [])) ≡ true → two_digits a b ≡ true
+        → two_digits x y ≡ true
+        → to_call (record { op = op_of (byte_of (a ∷ b ∷ x ∷ y ∷ [])); party = byte_of (x ∷ y ∷ []) })
+        ≡ request_of (a ∷ b ∷ x ∷ y ∷ [])
     go a b x y f d e =
         let l = a ∷ b ∷ x ∷ y ∷ [] in
-        (λ i. toCall (record {
+        (λ i. to_call (record {
           op = op_of (byte-is a b (x ∷ y ∷ []) d i);
           party = byte-is x y [] e i;
         }))
@@ -249,8 +249,8 @@ halves [] = (omega arith, omega arith)
 halves (a ∷ []) = (omega arith, omega arith)
 halves (a ∷ b ∷ l) = (omega (arith, (halves l).0), omega (arith, (halves l).1))
 
-two_bytes : (l : List ℕ) → length (spelledBy l) ≡ 2 → length l ≡ 4
-unfolding spelledBy
+two_bytes : (l : List ℕ) → length (spelled_by l) ≡ 2 → length l ≡ 4
+unfolding spelled_by
 two_bytes l e = go (unreadable l) refl e
   where
     even : (p q r : Bool) → p || q || r ≡ false → q ≡ false
@@ -265,12 +265,12 @@ two_bytes l e = go (unreadable l) refl e
           arith,
           (halves l).0,
           (halves l).1,
-          eqb-false (length l % 2) 1 (even (ltb LONGEST (length l)) _ (not (allDigits l)) f),
+          eqb-false (length l % 2) 1 (even (ltb LONGEST (length l)) _ (not (all_digits l)) f),
         )
 
-no_header : (m : List ℕ) → (length m ≡ 2 → ⊥) → isOpening (requested m) ≡ false
-    → headerOf malformed ≡ headerOf (requested m)
-unfolding requested openingIn
+no_header : (m : List ℕ) → (length m ≡ 2 → ⊥) → is_opening (requested m) ≡ false
+    → header_of malformed ≡ header_of (requested m)
+unfolding requested opening_in
 no_header [] f e = refl
 no_header (c ∷ []) f e = refl
 no_header (c ∷ p ∷ []) f e = absurd (f refl)
@@ -278,21 +278,21 @@ no_header (c ∷ k ∷ n ∷ l) f e =
     go (eqb c 0x01) (eqb c 0x02 && leb k (length l)) _ _ e
   where
     go : (a b : Bool) (o p : Opening)
-        → isOpening (cond a (toOpen o) (cond b (toOpen p) malformed)) ≡ false
-        → headerOf malformed ≡ headerOf (cond a (toOpen o) (cond b (toOpen p) malformed))
+        → is_opening (cond a (to_open o) (cond b (to_open p) malformed)) ≡ false
+        → header_of malformed ≡ header_of (cond a (to_open o) (cond b (to_open p) malformed))
     go true b o p e = let z : ◌≡◌ {A = ℕ} 0 1 = cc in absurd (omega arith)
     go false true o p e = let z : ◌≡◌ {A = ℕ} 0 1 = cc in absurd (omega arith)
     go false false o p e = refl
 
 -- Another length than four is no call: an opening, or nothing.
-pub not-four : (l : List ℕ) → (length l ≡ 4 → ⊥) → isOpening (requestOf l) ≡ false
-    → headerOf malformed ≡ headerOf (requestOf l)
-unfolding requestOf
-not-four l f = no_header (spelledBy l) (λ e. f (two_bytes l e))
+pub not-four : (l : List ℕ) → (length l ≡ 4 → ⊥) → is_opening (request_of l) ≡ false
+    → header_of malformed ≡ header_of (request_of l)
+unfolding request_of
+not-four l f = no_header (spelled_by l) (λ e. f (two_bytes l e))
 
 -- An opening, whatever it asks for.
-pub an-opening : (r : Request) → isOpening r ≡ true
-    → record { code = 0x01; party = 0xFF } ≡ headerOf r
+pub an-opening : (r : Request) → is_opening r ≡ true
+    → record { code = 0x01; party = 0xFF } ≡ header_of r
 an-opening malformed e = let z : ◌≡◌ {A = ℕ} 0 1 = cc in absurd (omega arith)
-an-opening (toOpen o) e = refl
-an-opening (toCall c) e = let z : ◌≡◌ {A = ℕ} 0 1 = cc in absurd (omega arith)
+an-opening (to_open o) e = refl
+an-opening (to_call c) e = let z : ◌≡◌ {A = ℕ} 0 1 = cc in absurd (omega arith)

@@ -11,39 +11,39 @@ use Rattle.hub.specs.Look.{look}
 use Rattle.hub.specs.Schedule.{entries, run}
 use Rattle.hub.proofs.Laws.Bools.{if-true, if-false}
 use Rattle.hub.proofs.Laws.Opening.{kept-opening}
-use Rattle.line.specs.Program.{isOpen, Reply, Response, whenOpen, beforeOpen, respond}
-use Rattle.line.specs.Program.{replyOf, replies, after}
-use Rattle.line.specs.Requests.{Request, malformed, toOpen, toCall}
+use Rattle.line.specs.Program.{is_open, Reply, Response, when_open, before_open, respond}
+use Rattle.line.specs.Program.{reply_of, replies, after}
+use Rattle.line.specs.Requests.{Request, malformed, to_open, to_call}
 
 -- A request on a hub that is open, or not.
-pub respond-open : (h : Hub) (r : Request) → isOpen h ≡ true → respond h r ≡ whenOpen h r
+pub respond-open : (h : Hub) (r : Request) → is_open h ≡ true → respond h r ≡ when_open h r
 unfolding respond
-respond-open h r o = if-true (isOpen h) (whenOpen h r) (beforeOpen r) o
+respond-open h r o = if-true (is_open h) (when_open h r) (before_open r) o
 
-pub respond-before : (h : Hub) (r : Request) → isOpen h ≡ false → respond h r ≡ beforeOpen r
+pub respond-before : (h : Hub) (r : Request) → is_open h ≡ false → respond h r ≡ before_open r
 unfolding respond
-respond-before h r o = if-false (isOpen h) (whenOpen h r) (beforeOpen r) o
+respond-before h r o = if-false (is_open h) (when_open h r) (before_open r) o
 
-pub still_open : (h : Hub) (r : Request) → isOpen h ≡ true → isOpen (whenOpen h r).hub ≡ true
-unfolding whenOpen
+pub still_open : (h : Hub) (r : Request) → is_open h ≡ true → is_open (when_open h r).hub ≡ true
+unfolding when_open
 still_open h malformed o = o
-still_open h (toOpen p) o = o
-still_open h (toCall c) o =
+still_open h (to_open p) o = o
+still_open h (to_call c) o =
     ap (λ (o : Opening). leb 1 o.permits) (kept-opening h (look h c.party) (move_of h c)) ∙ o
 
-pub schedule-replies : (cs : List Call) (h : Hub) → isOpen h ≡ true
-    → replies h (map toCall cs) ≡ map replyOf (entries h cs)
-unfolding replies entries whenOpen
+pub schedule-replies : (cs : List Call) (h : Hub) → is_open h ≡ true
+    → replies h (map to_call cs) ≡ map reply_of (entries h cs)
+unfolding replies entries when_open
 schedule-replies [] h o = refl
 schedule-replies (c ∷ cs) h o =
-    (λ i. let t = respond-open h (toCall c) o i in t.reply ∷ replies t.hub (map toCall cs))
-    ∙ ap (λ (l : List Reply). (whenOpen h (toCall c)).reply ∷ l)
-    (schedule-replies cs (called h c).hub (still_open h (toCall c) o))
+    (λ i. let t = respond-open h (to_call c) o i in t.reply ∷ replies t.hub (map to_call cs))
+    ∙ ap (λ (l : List Reply). (when_open h (to_call c)).reply ∷ l)
+    (schedule-replies cs (called h c).hub (still_open h (to_call c) o))
 
-pub schedule-after : (cs : List Call) (h : Hub) → isOpen h ≡ true
-    → after h (map toCall cs) ≡ run h cs
-unfolding after run whenOpen
+pub schedule-after : (cs : List Call) (h : Hub) → is_open h ≡ true
+    → after h (map to_call cs) ≡ run h cs
+unfolding after run when_open
 schedule-after [] h o = refl
 schedule-after (c ∷ cs) h o =
-    ap (λ (t : Response). after t.hub (map toCall cs)) (respond-open h (toCall c) o)
-    ∙ schedule-after cs (called h c).hub (still_open h (toCall c) o)
+    ap (λ (t : Response). after t.hub (map to_call cs)) (respond-open h (to_call c) o)
+    ∙ schedule-after cs (called h c).hub (still_open h (to_call c) o)

@@ -7,8 +7,8 @@ use mathlib.Core.Logic.{◌≢◌}
 use borrow.Author.Tests.{eqb-true, eq-eqb, ne_eqb}
 use lib.Dec.{eqb}
 use lib.ListN.{get_or}
-use Rattle.listings.specs.Listings.Machine.{Cell, Request, cellRank, is_null, isParkedAt, isThreadOf, override}
-use Rattle.listings.specs.Listings.Shown.{isAborted, isCancelledCell, isFresh, isParked, isRefuse, is_value}
+use Rattle.listings.specs.Listings.Machine.{Cell, Request, cell_rank, is_null, is_parked_at, is_thread_of, override}
+use Rattle.listings.specs.Listings.Shown.{is_aborted, is_cancelled_cell, is_fresh, is_parked, is_refuse, is_value}
 use Rattle.hub.proofs.Laws.Bools.{if-true, if-false, never}
 
 pub override-same : {A : Type 0} (g : ℕ → A) (i : ℕ) (a : A) → override g i a i ≡ a
@@ -38,7 +38,7 @@ thread-in =
       | Cell.Refuse ↦ 0
     ]
 
-cell-back : (c : Cell) → c ≡ cell-of (cellRank c) (thread-in c)
+cell-back : (c : Cell) → c ≡ cell-of (cell_rank c) (thread-in c)
 unfolding cell-of
 cell-back Cell.Null = refl
 cell-back (Cell.Thread q) = refl
@@ -48,8 +48,8 @@ cell-back Cell.Resumed = refl
 cell-back Cell.Cancelled = refl
 cell-back Cell.Refuse = refl
 
-of-rank : (r : ℕ) (c : Cell) → eqb (cellRank c) r ≡ true → c ≡ cell-of r (thread-in c)
-of-rank r c e = cell-back c ∙ ap (λ (n : ℕ). cell-of n (thread-in c)) (eqb-true (cellRank c) r e)
+of-rank : (r : ℕ) (c : Cell) → eqb (cell_rank c) r ≡ true → c ≡ cell-of r (thread-in c)
+of-rank r c e = cell-back c ∙ ap (λ (n : ℕ). cell-of n (thread-in c)) (eqb-true (cell_rank c) r e)
 
 pub null-cell : (c : Cell) → is_null c ≡ true → c ≡ Cell.Null
 unfolding cell-of
@@ -59,15 +59,15 @@ pub value_cell : (c : Cell) → is_value c ≡ true → c ≡ Cell.Value
 unfolding cell-of
 value_cell = of-rank 2
 
-pub cancelled-cell : (c : Cell) → isCancelledCell c ≡ true → c ≡ Cell.Cancelled
+pub cancelled-cell : (c : Cell) → is_cancelled_cell c ≡ true → c ≡ Cell.Cancelled
 unfolding cell-of
 cancelled-cell = of-rank 5
 
-pub refuse-cell : (c : Cell) → isRefuse c ≡ true → c ≡ Cell.Refuse
+pub refuse-cell : (c : Cell) → is_refuse c ≡ true → c ≡ Cell.Refuse
 unfolding cell-of
 refuse-cell = of-rank 6
 
-pub thread-cell : (q : ℕ) (c : Cell) → isThreadOf q c ≡ true → c ≡ Cell.Thread q
+pub thread-cell : (q : ℕ) (c : Cell) → is_thread_of q c ≡ true → c ≡ Cell.Thread q
 thread-cell q Cell.Null e = never (sym e)
 thread-cell q (Cell.Thread r) e = ap Cell.Thread (eqb-true r q e)
 thread-cell q Cell.Value e = never (sym e)
@@ -77,33 +77,33 @@ thread-cell q Cell.Cancelled e = never (sym e)
 thread-cell q Cell.Refuse e = never (sym e)
 
 -- Requests.
-pub fresh-request : (g : Request) → isFresh g ≡ true → g ≡ Request.Fresh
+pub fresh-request : (g : Request) → is_fresh g ≡ true → g ≡ Request.Fresh
 fresh-request Request.Fresh e = refl
 fresh-request (Request.Parked j) e = never (sym e)
 fresh-request Request.Unparked e = never (sym e)
 fresh-request Request.Aborted e = never (sym e)
 
-pub aborted-request : (g : Request) → isAborted g ≡ true → g ≡ Request.Aborted
+pub aborted-request : (g : Request) → is_aborted g ≡ true → g ≡ Request.Aborted
 aborted-request Request.Fresh e = never (sym e)
 aborted-request (Request.Parked j) e = never (sym e)
 aborted-request Request.Unparked e = never (sym e)
 aborted-request Request.Aborted e = refl
 
-pub parked-request : (t : ℕ) (g : Request) → isParkedAt t g ≡ true → g ≡ Request.Parked t
+pub parked-request : (t : ℕ) (g : Request) → is_parked_at t g ≡ true → g ≡ Request.Parked t
 parked-request t Request.Fresh e = never (sym e)
 parked-request t (Request.Parked j) e = ap Request.Parked (eqb-true j t e)
 parked-request t Request.Unparked e = never (sym e)
 parked-request t Request.Aborted e = never (sym e)
 
 -- A request that is in no cell is in no cell t.
-pub not-parked : (t : ℕ) (g : Request) → not (isParked g) ≡ true → isParkedAt t g ≡ false
+pub not-parked : (t : ℕ) (g : Request) → not (is_parked g) ≡ true → is_parked_at t g ≡ false
 not-parked t Request.Fresh e = refl
 not-parked t (Request.Parked j) e = never (sym e)
 not-parked t Request.Unparked e = refl
 not-parked t Request.Aborted e = refl
 
-pub fresh-apart : (g : Request) → isFresh g ≡ true → not (isParked g) ≡ true
+pub fresh-apart : (g : Request) → is_fresh g ≡ true → not (is_parked g) ≡ true
 fresh-apart g e = rw (fresh-request g e)
 
-pub aborted-apart : (g : Request) → isAborted g ≡ true → not (isParked g) ≡ true
+pub aborted-apart : (g : Request) → is_aborted g ≡ true → not (is_parked g) ≡ true
 aborted-apart g e = rw (aborted-request g e)

@@ -12,14 +12,14 @@ use Rattle.listings.specs.Listings.Machine.{Listing, Request, act, park}
 use Rattle.listings.specs.Listings.Machine.{Outside, Inside, Acquire9, Suspend6, Suspend9, Suspend10, Release16, Resume2}
 use Rattle.listings.specs.Listings.Machine.{Handler45, Handler55}
 use Rattle.listings.specs.Listings.Execution.{actions, words}
-use Rattle.listings.specs.Listings.Shown.{isParked, line_of, requestFits}
-use Rattle.listings.specs.Listings.Words.{said, saidAtPark, say, sayOf}
-use Rattle.hub.specs.Look.{seenBy}
-use Rattle.hub.specs.Phases.{isOneOf}
+use Rattle.listings.specs.Listings.Shown.{is_parked, line_of, request_fits}
+use Rattle.listings.specs.Listings.Words.{said, said_at_park, say, say_of}
+use Rattle.hub.specs.Look.{seen_by}
+use Rattle.hub.specs.Phases.{is_one_of}
 use Rattle.hub.specs.Queue.{Queue, look, phases}
 use Rattle.hub.specs.Record.{read_slot}
-use Rattle.hub.specs.Table.{aboveZero, belowZero, stepAborting, stepAcquiring, stepReleasing, stepSuspending}
-use Rattle.hub.specs.Table.{withPermit, withoutPermit}
+use Rattle.hub.specs.Table.{above_zero, below_zero, step_aborting, step_acquiring, step_releasing, step_suspending}
+use Rattle.hub.specs.Table.{with_permit, without_permit}
 use Rattle.hub.proofs.Laws.Bools.{if-true, if-false}
 use Rattle.listings.proofs.Listings.Cells.{aborted-request}
 use Rattle.listings.proofs.Listings.Kept.{Shows, phase-row}
@@ -27,22 +27,22 @@ use Rattle.listings.proofs.Listings.Known.{line_at, request-at}
 use Rattle.listings.proofs.Listings.Played.{Fine, acts, ends, parking, parks}
 
 -- A permit of its own, or none any more: with radios a step more, which is none of the semaphore's.
-permit-line : (b : Bool) → Inside ≡ line_of (withPermit b)
+permit-line : (b : Bool) → Inside ≡ line_of (with_permit b)
 permit-line true = refl
 permit-line false = refl
 
-back-line : (b : Bool) → Outside ≡ line_of (withoutPermit b)
+back-line : (b : Bool) → Outside ≡ line_of (without_permit b)
 back-line true = refl
 back-line false = refl
 
 -- A request that is in no cell fits there.
-permit-fits : (b : Bool) (g : Request) → not (isParked g) ≡ true → requestFits (withPermit b) g ≡ true
-unfolding requestFits isOneOf
+permit-fits : (b : Bool) (g : Request) → not (is_parked g) ≡ true → request_fits (with_permit b) g ≡ true
+unfolding request_fits is_one_of
 permit-fits true g e = e
 permit-fits false g e = e
 
-back_fits : (b : Bool) (g : Request) → not (isParked g) ≡ true → requestFits (withoutPermit b) g ≡ true
-unfolding requestFits isOneOf
+back_fits : (b : Bool) (g : Request) → not (is_parked g) ≡ true → request_fits (without_permit b) g ≡ true
+unfolding request_fits is_one_of
 back_fits true g e = e
 back_fits false g e = e
 
@@ -50,17 +50,17 @@ module _ (m : Queue) (s : Listing) (w : Shows m s) (p : ℕ) (l : p < length (ph
   abbrev has : Phase → Type 0
   has f = (read_slot m.slots p).phase ≡ f
 
-  above : (u : Bool) → aboveZero m.figures.counter ≡ u → aboveZero s.state ≡ u
-  above u c = ap aboveZero w.counter ∙ c
+  above : (u : Bool) → above_zero m.figures.counter ≡ u → above_zero s.state ≡ u
+  above u c = ap above_zero w.counter ∙ c
 
-  below : (u : Bool) → belowZero m.figures.counter ≡ u → belowZero s.state ≡ u
-  below u c = ap belowZero w.counter ∙ c
+  below : (u : Bool) → below_zero m.figures.counter ≡ u → below_zero s.state ≡ u
+  below u c = ap below_zero w.counter ∙ c
 
   -- 21, 22: with a mark or without
   pub asked : (f x : Phase) → Acquire9 ≡ line_of f → Suspend6 ≡ line_of x
-      → ((g : Request) → requestFits f g ≡ true → (not (isParked g) ≡ true) × (requestFits x g ≡ true))
-      → (u : Bool) → aboveZero m.figures.counter ≡ u → has f → Fine Op.Step p m s f (stepAcquiring x u (look m p))
-  unfolding stepAcquiring seenBy actions words said act
+      → ((g : Request) → request_fits f g ≡ true → (not (is_parked g) ≡ true) × (request_fits x g ≡ true))
+      → (u : Bool) → above_zero m.figures.counter ≡ u → has f → Fine Op.Step p m s f (step_acquiring x u (look m p))
+  unfolding step_acquiring seen_by actions words said act
   asked f x a b j true c e =
       acts _ [] s p Acquire9 (say 0x21) [] (line_at m s w p f e ∙ sym a) (rw (above true c))
       (ends _ _ (phase-row m s w p l _ _ _ _ _ (ap pred_ℤ w.counter) w.issued refl
@@ -73,19 +73,19 @@ module _ (m : Queue) (s : Listing) (w : Shows m s) (p : ℕ) (l : p < length (ph
 
   -- 23
   pub unnumbered : (f : Phase) (x : ℕ → Phase) → Suspend6 ≡ line_of f → ((t : ℕ) → Suspend9 t ≡ line_of (x t))
-      → ((t : ℕ) (g : Request) → requestFits f g ≡ true → requestFits (x t) g ≡ true)
-      → has f → Fine Op.Step p m s f (stepSuspending x (look m p))
-  unfolding stepSuspending seenBy actions words said act
+      → ((t : ℕ) (g : Request) → request_fits f g ≡ true → request_fits (x t) g ≡ true)
+      → has f → Fine Op.Step p m s f (step_suspending x (look m p))
+  unfolding step_suspending seen_by actions words said act
   unnumbered f x a b j e =
-      acts _ [] s p Suspend6 (sayOf 0x23 m.figures.issued) [] (line_at m s w p f e ∙ sym a)
-      (ap (sayOf 0x23) w.issued)
+      acts _ [] s p Suspend6 (say_of 0x23 m.figures.issued) [] (line_at m s w p f e ∙ sym a)
+      (ap (say_of 0x23) w.issued)
       (ends _ _ (phase-row m s w p l _ _ _ _ _ w.counter (ap (λ (n : ℕ). n + 1) w.issued) refl
       (ap Suspend9 w.issued ∙ b _) (j _ (s.requests p) (request-at m s w p f e))))
 
   -- 26, 27
-  pub giving-back : (u : Bool) → belowZero m.figures.counter ≡ u → has Releasing
-      → Fine Op.Step p m s Releasing (stepReleasing u (look m p))
-  unfolding stepReleasing seenBy actions words said act requestFits isOneOf
+  pub giving-back : (u : Bool) → below_zero m.figures.counter ≡ u → has Releasing
+      → Fine Op.Step p m s Releasing (step_releasing u (look m p))
+  unfolding step_releasing seen_by actions words said act request_fits is_one_of
   giving-back true c e =
       acts _ [] s p Release16 (say 0x27) [] (line_at m s w p Releasing e) (rw (below true c))
       (ends _ _ (phase-row m s w p l _ _ _ _ _ (ap suc_ℤ w.counter) w.issued refl
@@ -97,9 +97,9 @@ module _ (m : Queue) (s : Listing) (w : Shows m s) (p : ℕ) (l : p < length (ph
       (back_fits m.opening.named (s.requests p) (request-at m s w p Releasing e))))
 
   -- 2E, 2F
-  pub giving-up : (t : ℕ) (u : Bool) → belowZero m.figures.counter ≡ u → has (Aborting t)
-      → Fine Op.Step p m s (Aborting t) (stepAborting t u (look m p))
-  unfolding stepAborting seenBy actions words saidAtPark park requestFits isOneOf
+  pub giving-up : (t : ℕ) (u : Bool) → below_zero m.figures.counter ≡ u → has (Aborting t)
+      → Fine Op.Step p m s (Aborting t) (step_aborting t u (look m p))
+  unfolding step_aborting seen_by actions words said_at_park park request_fits is_one_of
   giving-up t true c e =
       let z = aborted-request (s.requests p) (request-at m s w p (Aborting t) e) in
       acts _ [] s p (Suspend10 t) (say 0x2E) [] (line_at m s w p (Aborting t) e)

@@ -13,18 +13,18 @@ use Rattle.hub.specs.declared.record.Phase.TheVariants.{Free, Holding, Waiting}
 use Rattle.hub.specs.declared.record.Phase.TheVariants.{Resuming, ResumingAt}
 use Rattle.hub.specs.declared.record.Place.{Place}
 use Rattle.hub.specs.declared.record.Place.TheVariants as place
-use Rattle.listings.specs.Listings.Machine.{Cell, Listing, Request, act, branch, is_null, isParkedAt, isThreadOf, mark, park}
+use Rattle.listings.specs.Listings.Machine.{Cell, Listing, Request, act, branch, is_null, is_parked_at, is_thread_of, mark, park}
 use Rattle.listings.specs.Listings.Machine.{override, request, goto}
 use Rattle.listings.specs.Listings.Machine.{Outside, Inside, Suspend10, Resume4, Resume7, Resume10, Resume11, Resume19, Resume26, Resume28}
 use Rattle.listings.specs.Listings.Machine.{Acts}
 use Rattle.listings.specs.Listings.Execution.{actions, words}
-use Rattle.listings.specs.Listings.Shown.{isCancelledCell, isLastMark, isParked, requestFits}
-use Rattle.listings.specs.Listings.Words.{said, saidAtPark, sayOf, sayWoke}
-use Rattle.hub.specs.Look.{seenBy}
-use Rattle.hub.specs.Phases.{byWaiter, isOneOf, isWaiting, ticketOf}
+use Rattle.listings.specs.Listings.Shown.{is_cancelled_cell, is_last_mark, is_parked, request_fits}
+use Rattle.listings.specs.Listings.Words.{said, said_at_park, say_of, say_woke}
+use Rattle.hub.specs.Look.{seen_by}
+use Rattle.hub.specs.Phases.{by_waiter, is_one_of, is_waiting, ticket_of}
 use Rattle.hub.specs.Queue.{Queue, look, phases, places, write}
-use Rattle.hub.specs.Record.{emptySeat, freeSlot, read_slot, withPhase, withPlace}
-use Rattle.hub.specs.Table.{resumeWaiter, stepResumingAt}
+use Rattle.hub.specs.Record.{empty_seat, free_slot, read_slot, with_phase, with_place}
+use Rattle.hub.specs.Table.{resume_waiter, step_resuming_at}
 use Rattle.hub.proofs.Laws.Bools.{never}
 use Rattle.hub.proofs.Laws.Phases.{one_of}
 use Rattle.hub.proofs.Laws.Slots.{read-phase, write-phase}
@@ -39,11 +39,11 @@ use Rattle.listings.proofs.Listings.Known.{request-at}
 use Rattle.listings.proofs.Listings.Played.{Fine, acts, ends, not_so, parking, parks, so}
 
 -- The waiter's phase, by its ticket.
-pub waits-here : (t : ℕ) (g : Phase) → isWaiting g ≡ true → stand t g ≡ 1 → g ≡ Waiting t
-unfolding pick isOneOf
+pub waits-here : (t : ℕ) (g : Phase) → is_waiting g ≡ true → stand t g ≡ 1 → g ≡ Waiting t
+unfolding pick is_one_of
 waits-here t g y o =
     let v = one_of (Waiting 0) g y in
-    v ∙ ap Waiting (same-eq (ticketOf g) t (omega (arith, ap (stand t) v)))
+    v ∙ ap Waiting (same-eq (ticket_of g) t (omega (arith, ap (stand t) v)))
 
 module _ (k : ℕ) (m : Queue) (inv : Inv k m) (s : Listing) (w : Shows m s) (p : ℕ) (l : p < length (phases m)) (t : ℕ)
     (e : (read_slot m.slots p).phase ≡ ResumingAt t) where
@@ -54,62 +54,62 @@ module _ (k : ℕ) (m : Queue) (inv : Inv k m) (s : Listing) (w : Shows m s) (p 
   own_line : s.lines p ≡ Resume4 t
   own_line = line_at m s w p (ResumingAt t) e
 
-  apart : not (isParked (s.requests p)) ≡ true
-  unfolding requestFits isOneOf
+  apart : not (is_parked (s.requests p)) ≡ true
+  unfolding request_fits is_one_of
   apart = request-at m s w p (ResumingAt t) e
 
   -- 29
-  leaves : places m t ≡ place.Empty → Fine Op.Step p m s (ResumingAt t) (stepResumingAt t false place.Empty (look m p))
-  unfolding stepResumingAt seenBy actions words said act requestFits isOneOf
+  leaves : places m t ≡ place.Empty → Fine Op.Step p m s (ResumingAt t) (step_resuming_at t false place.Empty (look m p))
+  unfolding step_resuming_at seen_by actions words said act request_fits is_one_of
   leaves i =
       let z = null-cell (s.cells t) (cell_at m s w t place.Empty i) in
       let s₁ = goto p (branch t (s.cells t)) s in
-      acts _ (Acts p ∷ []) s p (Resume4 t) [] (sayOf 0x29 t) own_line (rw z)
-      (acts _ [] s₁ p (Resume7 t) (sayOf 0x29 t) [] (looks Cell.Null z) (rw z)
+      acts _ (Acts p ∷ []) s p (Resume4 t) [] (say_of 0x29 t) own_line (rw z)
+      (acts _ [] s₁ p (Resume7 t) (say_of 0x29 t) [] (looks Cell.Null z) (rw z)
       (so _ [] (is_null (s.cells t)) _ _ _ (ap is_null z)
       (ends _ _ (cell-written m s w p l Free t place.Permit s₁ (came-to p s s _ (came-here p s)) Outside refl apart
       Cell.Value refl (other-cell s t Cell.Null Cell.Value z refl)))))
 
   -- 2C
   skips : places m t ≡ place.Cancelled
-      → Fine Op.Step p m s (ResumingAt t) (stepResumingAt t false place.Cancelled (look m p))
-  unfolding stepResumingAt seenBy actions words said act requestFits isOneOf
+      → Fine Op.Step p m s (ResumingAt t) (step_resuming_at t false place.Cancelled (look m p))
+  unfolding step_resuming_at seen_by actions words said act request_fits is_one_of
   skips i =
       let z = cancelled-cell (s.cells t) (cell_at m s w t place.Cancelled i) in
       let s₁ = goto p (branch t (s.cells t)) s in
-      acts _ (Acts p ∷ []) s p (Resume4 t) (sayOf 0x2C t) [] own_line (rw z)
+      acts _ (Acts p ∷ []) s p (Resume4 t) (say_of 0x2C t) [] own_line (rw z)
       (acts _ [] s₁ p (Resume26 t) [] [] (looks Cell.Cancelled z) refl
-      (ends _ _ (cell-kept m s w p l Resuming t place.Done s₁ (came-to p s s _ (came-here p s)) _ refl apart (ap isLastMark z))))
+      (ends _ _ (cell-kept m s w p l Resuming t place.Done s₁ (came-to p s s _ (came-here p s)) _ refl apart (ap is_last_mark z))))
 
   -- 2D
   is-refused : places m t ≡ place.Refused
-      → Fine Op.Step p m s (ResumingAt t) (stepResumingAt t false place.Refused (look m p))
-  unfolding stepResumingAt seenBy actions words said act requestFits isOneOf
+      → Fine Op.Step p m s (ResumingAt t) (step_resuming_at t false place.Refused (look m p))
+  unfolding step_resuming_at seen_by actions words said act request_fits is_one_of
   is-refused i =
       let z = refuse-cell (s.cells t) (cell_at m s w t place.Refused i) in
       let s₁ = goto p (branch t (s.cells t)) s in
-      acts _ (Acts p ∷ []) s p (Resume4 t) (sayOf 0x2D t) [] own_line (rw z)
+      acts _ (Acts p ∷ []) s p (Resume4 t) (say_of 0x2D t) [] own_line (rw z)
       (acts _ [] s₁ p (Resume28 t) [] [] (looks Cell.Refuse z) refl
-      (ends _ _ (cell-kept m s w p l Free t place.Done s₁ (came-to p s s _ (came-here p s)) _ refl apart (ap isLastMark z))))
+      (ends _ _ (cell-kept m s w p l Free t place.Done s₁ (came-to p s s _ (came-here p s)) _ refl apart (ap is_last_mark z))))
 
   module _ (q : ℕ) (i : places m t ≡ place.Waiting q) where
     z₀ : s.cells t ≡ Cell.Thread q
     z₀ = thread-cell q (s.cells t) (cell_at m s w t (place.Waiting q) i)
 
     -- 2B
-    delegates : isWaiting (read_slot m.slots q).phase ≡ false
-        → Fine Op.Step p m s (ResumingAt t) (resumeWaiter false q t (look m p))
-    unfolding resumeWaiter seenBy actions words said act requestFits isOneOf
+    delegates : is_waiting (read_slot m.slots q).phase ≡ false
+        → Fine Op.Step p m s (ResumingAt t) (resume_waiter false q t (look m p))
+    unfolding resume_waiter seen_by actions words said act request_fits is_one_of
     delegates v =
         let f = not-parked t (s.requests q) (apart-unless (read_slot m.slots q).phase (s.requests q) v (w.requests q)) in
         let s₁ = goto p (branch t (s.cells t)) s in
         let s₂ = goto p (Resume19 t q) s₁ in
-        acts _ (Acts p ∷ Acts p ∷ []) s p (Resume4 t) [] (sayOf 0x2B t) own_line (rw z₀)
-        (acts _ (Acts p ∷ []) s₁ p (Resume10 t q) [] (sayOf 0x2B t) (looks (Cell.Thread q) z₀) (rw f)
-        (not_so _ (Acts p ∷ []) (isParkedAt t (s.requests q)) _ _ _ f
-        (acts _ [] s₂ p (Resume19 t q) (sayOf 0x2B t) [] (line-now p (Resume19 t q) s₁)
+        acts _ (Acts p ∷ Acts p ∷ []) s p (Resume4 t) [] (say_of 0x2B t) own_line (rw z₀)
+        (acts _ (Acts p ∷ []) s₁ p (Resume10 t q) [] (say_of 0x2B t) (looks (Cell.Thread q) z₀) (rw f)
+        (not_so _ (Acts p ∷ []) (is_parked_at t (s.requests q)) _ _ _ f
+        (acts _ [] s₂ p (Resume19 t q) (say_of 0x2B t) [] (line-now p (Resume19 t q) s₁)
         (rw (cell_at m s w t (place.Waiting q) i))
-        (so _ [] (isThreadOf q (s.cells t)) _ _ _ (cell_at m s w t (place.Waiting q) i)
+        (so _ [] (is_thread_of q (s.cells t)) _ _ _ (cell_at m s w t (place.Waiting q) i)
         (ends _ _ (cell-written m s w p l Free t place.Permit s₂
         (came-to p s s₁ (Resume19 t q) (came-to p s s _ (came-here p s))) Outside refl apart
         Cell.Value refl (other-cell s t (Cell.Thread q) Cell.Value z₀ refl)))))))
@@ -120,8 +120,8 @@ module _ (k : ℕ) (m : Queue) (inv : Inv k m) (s : Listing) (w : Shows m s) (p 
       others y =
           let z : ◌≡◌ {A = ℕ} 0 1 = cc (ap (λ (r : ℕ). (read_slot m.slots r).phase) y) in omega arith
 
-      wins : isParkedAt t (s.requests q) ≡ true
-      unfolding requestFits isOneOf
+      wins : is_parked_at t (s.requests q) ≡ true
+      unfolding request_fits is_one_of
       wins = request-at m s w q (Waiting t) f
 
       inside-q : q < length (phases m)
@@ -137,16 +137,16 @@ module _ (k : ℕ) (m : Queue) (inv : Inv k m) (s : Listing) (w : Shows m s) (p 
       s' = goto q Inside (request q Request.Unparked s)
 
       w' : Shows m' s'
-      unfolding m' s' requestFits isOneOf
+      unfolding m' s' request_fits is_one_of
       w' =
           keep m s w q inside-q Holding m.cells m.figures s' w.counter w.issued w.behind w.passed w.cells
           (override-same s.lines q Inside) (λ r d. override-other s.lines q Inside r d)
-          (ap (λ (g : Request). not (isParked g)) (override-same s.requests q Request.Unparked))
+          (ap (λ (g : Request). not (is_parked g)) (override-same s.requests q Request.Unparked))
           (λ r d. override-other s.requests q Request.Unparked r d)
 
       size : p < length (phases m')
       unfolding m'
-      size = omega (arith, l, ap length (write-phase m.slots q (withPhase Holding freeSlot)), sizes)
+      size = omega (arith, l, ap length (write-phase m.slots q (with_phase Holding free_slot)), sizes)
         where
           sizes : length (set (phases m) q Holding) ≡ length (phases m)
           sizes = simp length-set
@@ -164,8 +164,8 @@ module _ (k : ℕ) (m : Queue) (inv : Inv k m) (s : Listing) (w : Shows m s) (p 
       came =
           record {
             state = refl;
-            suspendIdx = refl;
-            resumeIdx = refl;
+            suspend_idx = refl;
+            resume_idx = refl;
             cells = refl;
             requests = refl;
             lines = λ r d. line r d (ℕ_discrete r q);
@@ -184,23 +184,23 @@ module _ (k : ℕ) (m : Queue) (inv : Inv k m) (s : Listing) (w : Shows m s) (p 
               ∙ override-other s.lines p (branch t (s.cells t)) r d
               ∙ sym (override-other s.lines q Inside r y)
 
-      last : Shows (set_to m' p Free (write m.cells t (withPlace place.Done emptySeat)) m.figures)
+      last : Shows (set_to m' p Free (write m.cells t (with_place place.Done empty_seat)) m.figures)
           (goto p Outside (mark t Cell.Resumed s₃))
-      unfolding m' s' requestFits isOneOf
+      unfolding m' s' request_fits is_one_of
       last =
           cell-written m' s' w' p size Free t place.Done s₃ came Outside refl
-          (ap (λ (g : Request). not (isParked g)) (override-other s.requests q Request.Unparked p (λ y. others (sym y))) ∙ apart)
-          Cell.Resumed refl (λ z. never (sym z ∙ ap isCancelledCell z₀))
+          (ap (λ (g : Request). not (is_parked g)) (override-other s.requests q Request.Unparked p (λ y. others (sym y))) ∙ apart)
+          Cell.Resumed refl (λ z. never (sym z ∙ ap is_cancelled_cell z₀))
 
-      wakes : Fine Op.Step p m s (ResumingAt t) (resumeWaiter true q t (look m p))
-      unfolding resumeWaiter seenBy actions words said saidAtPark act park m' s₂ s₃
+      wakes : Fine Op.Step p m s (ResumingAt t) (resume_waiter true q t (look m p))
+      unfolding resume_waiter seen_by actions words said said_at_park act park m' s₂ s₃
       wakes =
           let b = branch t (s.cells t) in
           let g = override-same s.requests q Request.Unparked in
           let h = line_at m s w q (Waiting t) f in
-          acts _ (Acts p ∷ Acts q ∷ Acts p ∷ []) s p (Resume4 t) [] (sayWoke q t) own_line (rw z₀)
-          (acts _ (Acts q ∷ Acts p ∷ []) (goto p b s) p (Resume10 t q) (sayWoke q t) [] (looks (Cell.Thread q) z₀) (rw wins)
-          (so _ (Acts q ∷ Acts p ∷ []) (isParkedAt t (s.requests q)) _ _ _ wins
+          acts _ (Acts p ∷ Acts q ∷ Acts p ∷ []) s p (Resume4 t) [] (say_woke q t) own_line (rw z₀)
+          (acts _ (Acts q ∷ Acts p ∷ []) (goto p b s) p (Resume10 t q) (say_woke q t) [] (looks (Cell.Thread q) z₀) (rw wins)
+          (so _ (Acts q ∷ Acts p ∷ []) (is_parked_at t (s.requests q)) _ _ _ wins
           (acts _ (Acts p ∷ []) s₂ q (Suspend10 t) [] []
           (override-other (override s.lines p b) p (Resume11 t) q others ∙ override-other s.lines p b q others ∙ h)
           (parking s₂ q t Request.Unparked g)
@@ -211,21 +211,21 @@ module _ (k : ℕ) (m : Queue) (inv : Inv k m) (s : Listing) (w : Shows m s) (p 
           (ends _ _ last))))))
 
   pub handing : (a : Place) → places m t ≡ a → (look m p).seat.place ≡ a
-      → Fine Op.Step p m s (ResumingAt t) (stepResumingAt t (isWaiting (look m p).waiter.phase) a (look m p))
-  unfolding stepResumingAt seenBy
+      → Fine Op.Step p m s (ResumingAt t) (step_resuming_at t (is_waiting (look m p).waiter.phase) a (look m p))
+  unfolding step_resuming_at seen_by
   handing place.Empty i j = leaves i
-  handing (place.Waiting q) i j = go (isWaiting (look m p).waiter.phase) refl
+  handing (place.Waiting q) i j = go (is_waiting (look m p).waiter.phase) refl
     where
       same-waiter : (look m p).waiter.phase ≡ (read_slot m.slots q).phase
-      same-waiter = ap (λ (a : Place). (byWaiter freeSlot (read_slot m.slots) a).phase) j
+      same-waiter = ap (λ (a : Place). (by_waiter free_slot (read_slot m.slots) a).phase) j
 
-      go : (b : Bool) → isWaiting (look m p).waiter.phase ≡ b
-          → Fine Op.Step p m s (ResumingAt t) (resumeWaiter b q t (look m p))
+      go : (b : Bool) → is_waiting (look m p).waiter.phase ≡ b
+          → Fine Op.Step p m s (ResumingAt t) (resume_waiter b q t (look m p))
       go true y =
           wakes q i
-          (waits-here t (read_slot m.slots q).phase (sym (ap isWaiting same-waiter) ∙ y)
+          (waits-here t (read_slot m.slots q).phase (sym (ap is_waiting same-waiter) ∙ y)
           (ap (stand t) (read-phase m.slots q) ∙ inv.tickets.named t q i))
-      go false y = delegates q i (sym (ap isWaiting same-waiter) ∙ y)
+      go false y = delegates q i (sym (ap is_waiting same-waiter) ∙ y)
   handing place.Cancelled i j = skips i
   handing place.Refused i j = is-refused i
   handing place.Permit i j = tt

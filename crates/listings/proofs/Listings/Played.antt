@@ -9,7 +9,7 @@ use Rattle.hub.specs.declared.record.Phase.{Phase}
 use Rattle.hub.specs.Answers.{Printed, printed}
 use Rattle.listings.specs.Listings.Machine.{Event, Line, Listing, Request, aborted, act, happen, park, play, request}
 use Rattle.listings.specs.Listings.Machine.{Acts, Cancels, Suspend10}
-use Rattle.listings.specs.Listings.Words.{said, saidAt, saidAtPark, say, told}
+use Rattle.listings.specs.Listings.Words.{said, said_at, said_at_park, say, told}
 use Rattle.listings.specs.Listings.Execution.{actions, words}
 use Rattle.hub.specs.Moves.{Move}
 use Rattle.hub.specs.Moves.{Refuse, Tell, Act, Put, Wake}
@@ -27,7 +27,7 @@ ends n s w = (w, refl)
 -- An action of a thread whose line is known; a test that is known.
 pub acts : (n : Queue) (es : List Event) (s : Listing) (p : ℕ) (x : Line) (a b : List Printed)
     → s.lines p ≡ x → said x p s ≡ a → Gives n es (act x p s) b → Gives n (Acts p ∷ es) s (a ++ b)
-unfolding play happen told saidAt
+unfolding play happen told said_at
 acts n es s p x a b e i z = (
   subst (λ (y : Line). Shows n (play es (act y p s))) (sym e) z.0,
   subst (λ (y : Line). said y p s ++ told es (act y p s) ≡ a ++ b) (sym e) (ap₂ ◌++◌ i z.1),
@@ -48,19 +48,19 @@ unfolding act
 parks n es s q t g a e z = subst (λ (h : Request). Gives n es (park h q t s) a) (sym e) z
 
 pub parking : (s : Listing) (q t : ℕ) (g : Request) → s.requests q ≡ g
-    → said (Suspend10 t) q s ≡ saidAtPark g s
+    → said (Suspend10 t) q s ≡ said_at_park g s
 unfolding said
-parking s q t g e = ap (λ (h : Request). saidAtPark h s) e
+parking s q t g e = ap (λ (h : Request). said_at_park h s) e
 
 -- A thread is cancelled.
 pub cancels : (n : Queue) (s : Listing) (p : ℕ) → Shows n (request p (aborted (s.requests p)) s)
     → Gives n (Cancels p ∷ []) s (say 0x20)
-unfolding play happen told saidAt
+unfolding play happen told said_at
 cancels n s p z = (z, refl)
 
 -- What the listings' actions owe to a move, before the tidying.
 abbrev pub Owes : Op → ℕ → Queue → Listing → Answer → Type 0
-Owes o p n s y = Gives n (actions o p s.resumeIdx (printed y)) s (words s.resumeIdx (printed y))
+Owes o p n s y = Gives n (actions o p s.resume_idx (printed y)) s (words s.resume_idx (printed y))
 
 abbrev pub Fine : Op → ℕ → Queue → Listing → Phase → Move → Type 0
 Fine o p m s f (Refuse r) = Unit {0}

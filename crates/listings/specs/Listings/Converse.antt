@@ -14,35 +14,35 @@ use Rattle.hub.specs.declared.record.Phase.TheVariants.{Resuming, ResumingAt}
 use Rattle.hub.specs.declared.record.Phase.TheVariants.{AcquiringMarked, SuspendingMarked, TicketedMarked}
 use Rattle.hub.specs.declared.record.Place.{Place}
 use Rattle.hub.specs.Answers.{Printed, printed}
-use Rattle.hub.specs.Kinds.{kindIn}
-use Rattle.listings.specs.Listings.Machine.{Event, Line, Listing, Request, happen, idle, is_null, isParkedAt}
-use Rattle.listings.specs.Listings.Machine.{isThreadOf, play, unparks}
+use Rattle.hub.specs.Kinds.{kind_in}
+use Rattle.listings.specs.Listings.Machine.{Event, Line, Listing, Request, happen, idle, is_null, is_parked_at}
+use Rattle.listings.specs.Listings.Machine.{is_thread_of, play, unparks}
 use Rattle.listings.specs.Listings.Machine.{Outside, Inside, Acquire9, Suspend6, Suspend9, Suspend10, Suspend12}
 use Rattle.listings.specs.Listings.Machine.{Taking12}
 use Rattle.listings.specs.Listings.Machine.{Release16, Resume2, Resume4, Resume7, Resume10, Resume11, Resume19}
 use Rattle.listings.specs.Listings.Machine.{Resume26, Resume28, Handler45, Handler55, Cancels, Acts}
-use Rattle.listings.specs.Listings.Shown.{isCancelledCell, isCellOf, isParked, isRefuse}
-use Rattle.listings.specs.Listings.Words.{saidAt}
+use Rattle.listings.specs.Listings.Shown.{is_cancelled_cell, is_cell_of, is_parked, is_refuse}
+use Rattle.listings.specs.Listings.Words.{said_at}
 use Rattle.hub.specs.Opening.{opening}
-use Rattle.hub.specs.Phases.{isDone, isOneOf, isWaiting, ticketOf}
+use Rattle.hub.specs.Phases.{is_done, is_one_of, is_waiting, ticket_of}
 use Rattle.hub.specs.Queue.{Queue, places}
 use Rattle.hub.specs.Queue as queue
-use Rattle.hub.specs.Record.{MAX-BEGUN, read_slot}
-use Rattle.hub.specs.Table.{canCancel}
+use Rattle.hub.specs.Record.{MAX_BEGUN, read_slot}
+use Rattle.hub.specs.Table.{can_cancel}
 
 abbrev pub call_of : Op → ℕ → List Call
 call_of o p = record { op = o; party = p } ∷ []
 
-abbrev pub phaseOf : Queue → ℕ → Phase
-phaseOf m p = (read_slot m.slots p).phase
+abbrev pub phase_of : Queue → ℕ → Phase
+phase_of m p = (read_slot m.slots p).phase
 
 -- The call, if any, that the next action of thread p decides. The draw and the read of a cell that the queue has
 -- passed decide none.
-unfoldable pub atPark : Request → ℕ → List Call
-atPark Request.Fresh p = []
-atPark (Request.Parked j) p = []
-atPark Request.Unparked p = []
-atPark Request.Aborted p = call_of Op.Step p
+unfoldable pub at_park : Request → ℕ → List Call
+at_park Request.Fresh p = []
+at_park (Request.Parked j) p = []
+at_park Request.Unparked p = []
+at_park Request.Aborted p = call_of Op.Step p
 
 unfoldable pub decides : Line → ℕ → Queue → Listing → List Call
 decides Outside p m s = call_of Op.Acquire p
@@ -50,18 +50,18 @@ decides Inside p m s = call_of Op.Release p
 decides Acquire9 p m s = call_of Op.Step p
 decides Suspend6 p m s = call_of Op.Step p
 decides (Suspend9 i) p m s = call_of Op.Step p
-decides (Suspend10 i) p m s = atPark (s.requests p) p
+decides (Suspend10 i) p m s = at_park (s.requests p) p
 decides (Suspend12 i) p m s = []
 decides (Taking12 i) p m s = []
 decides Release16 p m s = call_of Op.Step p
-decides Resume2 p m s = cond (ltb s.resumeIdx m.figures.resumed) [] (call_of Op.Step p)
+decides Resume2 p m s = cond (ltb s.resume_idx m.figures.resumed) [] (call_of Op.Step p)
 decides (Resume4 i) p m s =
-    cond (isOneOf (Resuming ∷ []) (phaseOf m p)) []
-    (cond (isCancelledCell (s.cells i) || isRefuse (s.cells i)) (call_of Op.Step p) [])
+    cond (is_one_of (Resuming ∷ []) (phase_of m p)) []
+    (cond (is_cancelled_cell (s.cells i) || is_refuse (s.cells i)) (call_of Op.Step p) [])
 decides (Resume7 i) p m s = cond (is_null (s.cells i)) (call_of Op.Step p) []
 decides (Resume10 i q) p m s = cond (unparks q i s) (call_of Op.Step p) []
 decides (Resume11 i) p m s = []
-decides (Resume19 i q) p m s = cond (isThreadOf q (s.cells i)) (call_of Op.Step p) []
+decides (Resume19 i q) p m s = cond (is_thread_of q (s.cells i)) (call_of Op.Step p) []
 decides (Resume26 i) p m s = []
 decides (Resume28 i) p m s = []
 decides (Handler45 i) p m s = call_of Op.Step p
@@ -70,7 +70,7 @@ decides (Handler55 i) p m s = call_of Op.Step p
 -- A cancel() that comes too late is no call.
 unfoldable pub calls_at : Event → Queue → Listing → List Call
 calls_at (Acts p) m s = decides (s.lines p) p m s
-calls_at (Cancels p) m s = cond (canCancel (phaseOf m p)) (call_of Op.Cancel p) []
+calls_at (Cancels p) m s = cond (can_cancel (phase_of m p)) (call_of Op.Cancel p) []
 
 -- Of an execution: the calls, each on the queue that those before it left; and what the actions say that make one.
 unfoldable pub calls : Queue → Listing → List Event → List Call
@@ -79,24 +79,24 @@ calls m s (e ∷ es) =
     let cs = calls_at e m s in
     cs ++ calls (queue.run m cs) (happen e s) es
 
-abbrev pub saidFor : List Call → List Printed → List Printed
-saidFor [] a = []
-saidFor (c ∷ cs) a = a
+abbrev pub said_for : List Call → List Printed → List Printed
+said_for [] a = []
+said_for (c ∷ cs) a = a
 
 unfoldable pub decided : Queue → Listing → List Event → List Printed
 decided m s [] = []
 decided m s (e ∷ es) =
     let cs = calls_at e m s in
-    saidFor cs (saidAt e s) ++ decided (queue.run m cs) (happen e s) es
+    said_for cs (said_at e s) ++ decided (queue.run m cs) (happen e s) es
 
 -- A cell whose row is over, though a thread is still to write its last mark there; a cell that the queue has passed.
 pub record RowOver (m : Queue) (s : Listing) (i : ℕ) : Type 0 where
   pub done : places m i ≡ Place.Done
-  pub other : isCancelledCell (s.cells i) ≡ false
+  pub other : is_cancelled_cell (s.cells i) ≡ false
 
 pub record Passed (m : Queue) (s : Listing) (i : ℕ) : Type 0 where
   pub done : places m i ≡ Place.Done
-  pub cancelled : isCancelledCell (s.cells i) ≡ true
+  pub cancelled : is_cancelled_cell (s.cells i) ≡ true
 
 -- Where a party of phase f is whose thread comes to a line with the request g. A thread may be part-way through a
 -- row.
@@ -135,23 +135,23 @@ Where (Handler45 i) m s f g = f ≡ Cancelling i
 Where (Handler55 i) m s f g = f ≡ Refusing i
 
 -- A request is parked while its party waits, and only then.
-abbrev pub parkFits : Phase → Request → Bool
-parkFits f g = cond (isWaiting f) (isParkedAt (ticketOf f) g) (not (isParked g))
+abbrev pub park_fits : Phase → Request → Bool
+park_fits f g = cond (is_waiting f) (is_parked_at (ticket_of f) g) (not (is_parked g))
 
 -- The queue m follows the listings to the state s.
 pub record Follows (m : Queue) (s : Listing) : Type 0 where
   pub counter : s.state ≡ m.figures.counter
-  pub issued : s.suspendIdx ≡ m.figures.issued
-  pub behind : s.resumeIdx ≤ m.figures.resumed
-  pub passed : (t : ℕ) → s.resumeIdx ≤ t → t < m.figures.resumed → Passed m s t
-  pub cells : (t : ℕ) → isDone (places m t) ≡ false → isCellOf (places m t) (s.cells t) ≡ true
-  pub at : (p : ℕ) → Where (s.lines p) m s (phaseOf m p) (s.requests p)
-  pub parks : (p : ℕ) → parkFits (phaseOf m p) (s.requests p) ≡ true
+  pub issued : s.suspend_idx ≡ m.figures.issued
+  pub behind : s.resume_idx ≤ m.figures.resumed
+  pub passed : (t : ℕ) → s.resume_idx ≤ t → t < m.figures.resumed → Passed m s t
+  pub cells : (t : ℕ) → is_done (places m t) ≡ false → is_cell_of (places m t) (s.cells t) ≡ true
+  pub at : (p : ℕ) → Where (s.lines p) m s (phase_of m p) (s.requests p)
+  pub parks : (p : ℕ) → park_fits (phase_of m p) (s.requests p) ≡ true
 
 -- Only the opening's parties act, and none of kind 3 is cancelled.
 abbrev pub Allowed : Opening → Event → Type 0
 Allowed o (Acts p) = p < o.parties
-Allowed o (Cancels p) = (p < o.parties) × (eqb (kindIn o.kinds p) 3 ≡ false)
+Allowed o (Cancels p) = (p < o.parties) × (eqb (kind_in o.kinds p) 3 ≡ false)
 
 abbrev pub AllAllowed : Opening → List Event → Type 0
 AllAllowed o [] = Unit {0}
@@ -161,7 +161,7 @@ AllAllowed o (e ∷ es) = Allowed o e × AllAllowed o es
 unfoldable pub Within : Queue → Listing → List Event → Type 0
 Within m s [] = Unit {0}
 Within m s (e ∷ es) =
-    (leb MAX-BEGUN m.figures.begun ≡ false) × Within (queue.run m (calls_at e m s)) (happen e s) es
+    (leb MAX_BEGUN m.figures.begun ≡ false) × Within (queue.run m (calls_at e m s)) (happen e s) es
 
 -- On a hub without radios: the calls come to a queue that follows, and are answered by what the actions say that make
 -- them.

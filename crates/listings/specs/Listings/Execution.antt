@@ -36,9 +36,9 @@ ACTIONS =
     ∷ acting 0x33 1  -- 6: 55, 61
     ∷ []
 
-abbrev pub actionsIn : ℕ → List CodeActions → ℕ
-actionsIn c [] = 0
-actionsIn c (x ∷ xs) = cond (eqb c x.code) x.actions (actionsIn c xs)
+abbrev pub actions_in : ℕ → List CodeActions → ℕ
+actions_in c [] = 0
+actions_in c (x ∷ xs) = cond (eqb c x.code) x.actions (actions_in c xs)
 
 -- 20: acquire() or release() is entered, or cancel() called.
 abbrev pub entered : Op → ℕ → List Event
@@ -64,7 +64,7 @@ actions o p r y =
     cond (ltb c 0x20) []
     (cond (eqb c 0x20) (entered o p)
     (cond (eqb c 0x28) (drawing (y.number - r) p)
-    (cond (eqb c 0x2A) (waking p y.woken) (replicate (actionsIn c ACTIONS) (Acts p)))))
+    (cond (eqb c 0x2A) (waking p y.woken) (replicate (actions_in c ACTIONS) (Acts p)))))
 
 -- What they say: the answer itself, if it is one of the semaphore's; before a 28 a 28 and a 2C for each cell passed.
 unfoldable pub passing : ℕ → ℕ → List Printed
@@ -80,11 +80,11 @@ words r y =
 unfoldable pub execution : List Entry → Listing → List Event
 execution [] s = []
 execution (x ∷ xs) s =
-    let es = actions x.call.op x.call.party s.resumeIdx x.answer in
+    let es = actions x.call.op x.call.party s.resume_idx x.answer in
     es ++ execution xs (play es s)
 
 unfoldable pub transcript : List Entry → Listing → List Printed
 transcript [] s = []
 transcript (x ∷ xs) s =
-    let es = actions x.call.op x.call.party s.resumeIdx x.answer in
-    words s.resumeIdx x.answer ++ transcript xs (play es s)
+    let es = actions x.call.op x.call.party s.resume_idx x.answer in
+    words s.resume_idx x.answer ++ transcript xs (play es s)

@@ -5,7 +5,7 @@
 -- segments, which an infinite array does not have.
 use Rattle.std.specs.Prelude.{ℕ, ◌+◌, Bool, false, cond, List, [], ◌∷◌, eqb, ℤ, pos}
 use Rattle.std.proofs.Math.IntN.{pred_ℤ, suc_ℤ}
-use Rattle.hub.specs.Table.{aboveZero, belowZero}
+use Rattle.hub.specs.Table.{above_zero, below_zero}
 
 pub data Cell : Type 0 where
   Null : Cell
@@ -49,8 +49,8 @@ pub data Request : Type 0 where
 
 pub record Listing : Type 0 where
   pub state : ℤ
-  pub suspendIdx : ℕ
-  pub resumeIdx : ℕ
+  pub suspend_idx : ℕ
+  pub resume_idx : ℕ
   pub cells : ℕ → Cell
   pub lines : ℕ → Line  -- each thread's
   pub requests : ℕ → Request
@@ -61,7 +61,7 @@ override g i a j = cond (eqb j i) a (g j)
 
 abbrev pub listing : ℤ → ℕ → ℕ → (ℕ → Cell) → (ℕ → Line) → (ℕ → Request) → Listing
 listing c i r g l q =
-    record { state = c; suspendIdx = i; resumeIdx = r; cells = g; lines = l; requests = q }
+    record { state = c; suspend_idx = i; resume_idx = r; cells = g; lines = l; requests = q }
 
 -- The counters change; thread p comes to line x; cell i becomes a; the request of thread p becomes g.
 abbrev pub counters : ℤ → ℕ → ℕ → Listing → Listing
@@ -69,32 +69,32 @@ counters c i r s = listing c i r s.cells s.lines s.requests
 
 abbrev pub goto : ℕ → Line → Listing → Listing
 goto p x s =
-    listing s.state s.suspendIdx s.resumeIdx s.cells (override s.lines p x) s.requests
+    listing s.state s.suspend_idx s.resume_idx s.cells (override s.lines p x) s.requests
 
 abbrev pub mark : ℕ → Cell → Listing → Listing
 mark i a s =
-    listing s.state s.suspendIdx s.resumeIdx (override s.cells i a) s.lines s.requests
+    listing s.state s.suspend_idx s.resume_idx (override s.cells i a) s.lines s.requests
 
 abbrev pub request : ℕ → Request → Listing → Listing
 request p g s =
-    listing s.state s.suspendIdx s.resumeIdx s.cells s.lines (override s.requests p g)
+    listing s.state s.suspend_idx s.resume_idx s.cells s.lines (override s.requests p g)
 
-abbrev pub withState : ℤ → Listing → Listing
-withState c s = counters c s.suspendIdx s.resumeIdx s
+abbrev pub with_state : ℤ → Listing → Listing
+with_state c s = counters c s.suspend_idx s.resume_idx s
 
 -- The listings' tests of a cell.
-abbrev pub cellRank : Cell → ℕ
-cellRank =
+abbrev pub cell_rank : Cell → ℕ
+cell_rank =
     elim [ Null ↦ 0 | Thread q ↦ 1 | Value ↦ 2 | Taken ↦ 3 | Resumed ↦ 4 | Cancelled ↦ 5 | Refuse ↦ 6 ]
 
 abbrev pub is_null : Cell → Bool
-is_null c = eqb (cellRank c) 0
+is_null c = eqb (cell_rank c) 0
 
-abbrev pub isThread : Cell → Bool
-isThread c = eqb (cellRank c) 1
+abbrev pub is_thread : Cell → Bool
+is_thread c = eqb (cell_rank c) 1
 
-abbrev pub isThreadOf : ℕ → Cell → Bool
-isThreadOf p =
+abbrev pub is_thread_of : ℕ → Cell → Bool
+is_thread_of p =
     elim [
       | Null ↦ false
       | Thread q ↦ eqb q p
@@ -113,11 +113,11 @@ abbrev pub aborted : Request → Request
 aborted = elim [ Fresh ↦ Aborted | Parked j ↦ Aborted | Unparked ↦ Unparked | Aborted ↦ Aborted ]
 
 -- unpark(..) of the thread that was read from cells[i], 1: 3: does it end that wait?
-abbrev pub isParkedAt : ℕ → Request → Bool
-isParkedAt i = elim [ Fresh ↦ false | Parked j ↦ eqb j i | Unparked ↦ false | Aborted ↦ false ]
+abbrev pub is_parked_at : ℕ → Request → Bool
+is_parked_at i = elim [ Fresh ↦ false | Parked j ↦ eqb j i | Unparked ↦ false | Aborted ↦ false ]
 
 abbrev pub unparks : ℕ → ℕ → Listing → Bool
-unparks q i s = isParkedAt i (s.requests q)
+unparks q i s = is_parked_at i (s.requests q)
 
 -- 6: 5 to 27, the branch for what 6: 4 read. A cell with another mark has no branch: once more round 6: 3.
 abbrev pub branch : ℕ → Cell → Line
@@ -139,7 +139,7 @@ park Fresh p i s = s
 park (Parked j) p i s = s
 park Unparked p i s = goto p Inside s
 park Aborted p i s =
-    goto p (cond (belowZero s.state) (Handler45 i) (Handler55 i)) (withState (suc_ℤ s.state) s)
+    goto p (cond (below_zero s.state) (Handler45 i) (Handler55 i)) (with_state (suc_ℤ s.state) s)
 
 -- The next action of thread p.
 unfoldable pub act : Line → ℕ → Listing → Listing
@@ -147,10 +147,10 @@ act Outside p s = goto p Acquire9 (request p Fresh s)
 act Inside p s = goto p Release16 s
 -- 15: 9  s := FAA(&state, -1)   11  if s > 0: return   13  return cqs.suspend()
 act Acquire9 p s =
-    goto p (cond (aboveZero s.state) Inside Suspend6) (withState (pred_ℤ s.state) s)
+    goto p (cond (above_zero s.state) Inside Suspend6) (with_state (pred_ℤ s.state) s)
 -- 2: 6  i := FAA(&suspendIdx, +1)
 act Suspend6 p s =
-    goto p (Suspend9 s.suspendIdx) (counters s.state (s.suspendIdx + 1) s.resumeIdx s)
+    goto p (Suspend9 s.suspend_idx) (counters s.state (s.suspend_idx + 1) s.resume_idx s)
 -- 2: 9  if CAS(&cells[i], null, t):
 act (Suspend9 i) p s =
     cond (is_null (s.cells i))
@@ -162,10 +162,10 @@ act (Suspend12 i) p s = goto p (Taking12 i) s
 act (Taking12 i) p s = goto p Inside (mark i Taken s)
 -- 15: 16  s := FAA(&state, 1)   18  if s < 0: cqs.resume(Unit)
 act Release16 p s =
-    goto p (cond (belowZero s.state) Resume2 Outside) (withState (suc_ℤ s.state) s)
+    goto p (cond (below_zero s.state) Resume2 Outside) (with_state (suc_ℤ s.state) s)
 -- 6: 2  i := FAA(&resumeIdx, +1)   4  cur := cells[i]
 act Resume2 p s =
-    goto p (Resume4 s.resumeIdx) (counters s.state s.suspendIdx (s.resumeIdx + 1) s)
+    goto p (Resume4 s.resume_idx) (counters s.state s.suspend_idx (s.resume_idx + 1) s)
 act (Resume4 i) p s = goto p (branch i (s.cells i)) s
 -- 6: 7  if CAS(&cells[i], null, value):   8  return true
 act (Resume7 i) p s =
@@ -176,12 +176,12 @@ act (Resume10 i q) p s =
 act (Resume11 i) p s = goto p Outside (mark i Resumed s)
 -- 6: 19  if CAS(&cells[i], cur, value):   20  return true
 act (Resume19 i q) p s =
-    cond (isThreadOf q (s.cells i)) (goto p Outside (mark i Value s)) (goto p (Resume4 i) s)
+    cond (is_thread_of q (s.cells i)) (goto p Outside (mark i Value s)) (goto p (Resume4 i) s)
 -- 6: 26  return resume(value)   28  completeRefusedResume(value), which does nothing (15: 29 to 32)   29  return true
 act (Resume26 i) p s = goto p Resume2 s
 act (Resume28 i) p s = goto p Outside s
 -- 6: 45  old := GetAndSet(&s[i], CANCELLED)   47  if old is Thread, it is done   52  else resume(old)
-act (Handler45 i) p s = goto p (cond (isThread (s.cells i)) Outside Resume2) (mark i Cancelled s)
+act (Handler45 i) p s = goto p (cond (is_thread (s.cells i)) Outside Resume2) (mark i Cancelled s)
 -- 6: 55  old := GetAndSet(&s[i], REFUSE)   57  if old is Thread: return   61  else completeRefusedResume(old)
 act (Handler55 i) p s = goto p Outside (mark i Refuse s)
 

@@ -13,19 +13,19 @@ use Rattle.hub.specs.declared.record.Phase.TheVariants.{Resuming, ResumingAt, Fe
 use Rattle.hub.specs.declared.record.Phase.TheVariants.{AcquiringMarked, SuspendingMarked, TicketedMarked}
 use Rattle.hub.specs.declared.record.Place.{Place}
 use Rattle.hub.specs.declared.record.Place.TheVariants as place
-use Rattle.listings.specs.Listings.Machine.{Cell, Line, Listing, Request, cellRank, idle, is_null, isParkedAt}
-use Rattle.listings.specs.Listings.Machine.{isThreadOf, play}
+use Rattle.listings.specs.Listings.Machine.{Cell, Line, Listing, Request, cell_rank, idle, is_null, is_parked_at}
+use Rattle.listings.specs.Listings.Machine.{is_thread_of, play}
 use Rattle.listings.specs.Listings.Machine.{Outside, Inside, Acquire9, Suspend6, Suspend9, Suspend10, Release16}
 use Rattle.listings.specs.Listings.Machine.{Resume2, Resume4}
 use Rattle.listings.specs.Listings.Machine.{Handler45, Handler55}
 use Rattle.listings.specs.Listings.Execution.{execution, transcript}
 use Rattle.listings.specs.Listings.Words.{told}
 use Rattle.hub.specs.Opening.{opening}
-use Rattle.hub.specs.Phases.{isOneOf, isWaiting, ticketOf}
+use Rattle.hub.specs.Phases.{is_one_of, is_waiting, ticket_of}
 use Rattle.hub.specs.Record.{read_slot}
-use Rattle.hub.specs.Ring.{PLACES, readSeat}
+use Rattle.hub.specs.Ring.{PLACES, read_seat}
 use Rattle.hub.specs.Schedule.{entries, run}
-use Rattle.hub.specs.Table.{canCancel}
+use Rattle.hub.specs.Table.{can_cancel}
 
 -- Where a party's thread is. A radio is fetched and stored outside of the semaphore.
 abbrev pub line_of : Phase → Line
@@ -52,65 +52,65 @@ line_of =
 
 -- Its request: parked while the party waits, and only then; aborted by a give-up, marked or not; fresh on the way to
 -- a wait.
-abbrev pub isFresh : Request → Bool
-isFresh =
+abbrev pub is_fresh : Request → Bool
+is_fresh =
     elim [ Request.Fresh ↦ true | Request.Parked j ↦ false | Request.Unparked ↦ false | Request.Aborted ↦ false ]
 
-abbrev pub isParked : Request → Bool
-isParked =
+abbrev pub is_parked : Request → Bool
+is_parked =
     elim [ Request.Fresh ↦ false | Request.Parked j ↦ true | Request.Unparked ↦ false | Request.Aborted ↦ false ]
 
-abbrev pub isAborted : Request → Bool
-isAborted =
+abbrev pub is_aborted : Request → Bool
+is_aborted =
     elim [ Request.Fresh ↦ false | Request.Parked j ↦ false | Request.Unparked ↦ false | Request.Aborted ↦ true ]
 
-abbrev pub GAVE-UP : List Phase
-GAVE-UP = Aborting 0 ∷ AcquiringMarked ∷ SuspendingMarked ∷ TicketedMarked 0 ∷ []
+abbrev pub GAVE_UP : List Phase
+GAVE_UP = Aborting 0 ∷ AcquiringMarked ∷ SuspendingMarked ∷ TicketedMarked 0 ∷ []
 
-unfoldable pub requestFits : Phase → Request → Bool
-requestFits f g =
-    cond (isWaiting f) (isParkedAt (ticketOf f) g)
-    (cond (isOneOf GAVE-UP f) (isAborted g) (cond (canCancel f) (isFresh g) (not (isParked g))))
+unfoldable pub request_fits : Phase → Request → Bool
+request_fits f g =
+    cond (is_waiting f) (is_parked_at (ticket_of f) g)
+    (cond (is_one_of GAVE_UP f) (is_aborted g) (cond (can_cancel f) (is_fresh g) (not (is_parked g))))
 
 -- A place and its cell. A place that is done has a cell with any last mark.
 abbrev pub is_value : Cell → Bool
-is_value c = eqb (cellRank c) 2
+is_value c = eqb (cell_rank c) 2
 
-abbrev pub isLastMark : Cell → Bool
-isLastMark c = leb 3 (cellRank c)
+abbrev pub is_last_mark : Cell → Bool
+is_last_mark c = leb 3 (cell_rank c)
 
-abbrev pub isCancelledCell : Cell → Bool
-isCancelledCell c = eqb (cellRank c) 5
+abbrev pub is_cancelled_cell : Cell → Bool
+is_cancelled_cell c = eqb (cell_rank c) 5
 
-abbrev pub isRefuse : Cell → Bool
-isRefuse c = eqb (cellRank c) 6
+abbrev pub is_refuse : Cell → Bool
+is_refuse c = eqb (cell_rank c) 6
 
-abbrev pub isCellOf : Place → Cell → Bool
-isCellOf =
+abbrev pub is_cell_of : Place → Cell → Bool
+is_cell_of =
     elim [
       | place.Empty ↦ is_null
-      | place.Waiting q ↦ isThreadOf q
+      | place.Waiting q ↦ is_thread_of q
       | place.Permit ↦ is_value
-      | place.Cancelled ↦ isCancelledCell
-      | place.Refused ↦ isRefuse
-      | place.Done ↦ isLastMark
+      | place.Cancelled ↦ is_cancelled_cell
+      | place.Refused ↦ is_refuse
+      | place.Done ↦ is_last_mark
     ]
 
 -- The record h shows the state s. resumeIdx alone may differ: it lags behind the next ticket to resume, over
 -- cancelled cells.
 pub record ShowsListing (h : Hub) (s : Listing) : Type 0 where
   pub state : s.state ≡ h.control.figures.counter
-  pub suspendIdx : s.suspendIdx ≡ h.control.figures.issued
-  pub resumeIdx : s.resumeIdx ≤ h.control.figures.resumed
-  pub passed : (t : ℕ) → s.resumeIdx ≤ t → t < h.control.figures.resumed
-      → isCancelledCell (s.cells t) ≡ true
+  pub suspend_idx : s.suspend_idx ≡ h.control.figures.issued
+  pub resume_idx : s.resume_idx ≤ h.control.figures.resumed
+  pub passed : (t : ℕ) → s.resume_idx ≤ t → t < h.control.figures.resumed
+      → is_cancelled_cell (s.cells t) ≡ true
   -- cells before the 256 places, in them, and beyond
-  pub before : (t : ℕ) → t < h.control.oldest → isLastMark (s.cells t) ≡ true
+  pub before : (t : ℕ) → t < h.control.oldest → is_last_mark (s.cells t) ≡ true
   pub within : (t : ℕ) → h.control.oldest ≤ t → t < h.control.oldest + PLACES
-      → isCellOf (readSeat h.places t).place (s.cells t) ≡ true
+      → is_cell_of (read_seat h.places t).place (s.cells t) ≡ true
   pub beyond : (t : ℕ) → h.control.oldest + PLACES ≤ t → is_null (s.cells t) ≡ true
   pub lines : (p : ℕ) → s.lines p ≡ line_of (read_slot h.slots p).phase
-  pub requests : (p : ℕ) → requestFits (read_slot h.slots p).phase (s.requests p) ≡ true
+  pub requests : (p : ℕ) → request_fits (read_slot h.slots p).phase (s.requests p) ≡ true
 
 -- From an accepted opening, whatever the calls: the actions that the answers stand for come to a state that the
 -- record shows, and say the answers, in order.

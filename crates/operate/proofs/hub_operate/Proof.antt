@@ -8,7 +8,7 @@ use native.Mathlib.Omega.{arith}
 use Rattle.hub.specs.declared.record.Outcome.{Outcome}
 use Rattle.hub.specs.Answers.{Printed}
 use Rattle.line.specs.Requests.{requested}
-use Rattle.operate.specs.Ending.{operatedFramed, operatedFrom}
+use Rattle.operate.specs.Ending.{operated_framed, operated_from}
 use Rattle.operate.proofs.Laws.Endings.{Ends, code_of, done, ill-formed, no-opening, no_room, not_opened}
 use Rattle.operate.proofs.Laws.Endings.{of-opening, opened-rests}
 use Rattle.operate.proofs.hub_operate.Statement.{statement}
@@ -34,8 +34,8 @@ coded c = ap (λ (p : Printed). p.code) c.print-of.ensures
 -- The frame asks for the opening that was made.
 framed : (c : Coded) {r : ℕ} {l : List ℕ}
     → let a = (begun c).args in
-    Ends (operatedFrom (opened c) a.operations.now a.out.now) r l
-    → Ends (operatedFramed (requested a.opening.now) a.operations.now a.out.now) r l
+    Ends (operated_from (opened c) a.operations.now a.out.now) r l
+    → Ends (operated_framed (requested a.opening.now) a.operations.now a.out.now) r l
 framed c =
     let a = (begun c).args in
     of-opening (requested a.opening.now) _ (opened c) a.operations.now a.out.now

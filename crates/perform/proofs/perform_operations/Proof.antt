@@ -17,30 +17,30 @@ use Rattle.hub.specs.declared.record.PartySlot.{PartySlot}
 use Rattle.hub.specs.declared.record.Phase.{Phase}
 use Rattle.hub.specs.declared.record.PlaceSlot.{PlaceSlot}
 use Rattle.hub.specs.declared.record.Pool.{Pool}
-use Rattle.hub.specs.Calls.{withRing}
+use Rattle.hub.specs.Calls.{with_ring}
 use Rattle.hub.specs.Fits.{fits}
-use Rattle.hub.specs.Kinds.{kindIn}
-use Rattle.hub.specs.Record.{controlOf, emptySeat, of_fields, read_slot, withPhase, writeSlot}
-use Rattle.hub.specs.Ring.{PLACES, Ring, readSeat, writeSeat}
+use Rattle.hub.specs.Kinds.{kind_in}
+use Rattle.hub.specs.Record.{control_of, empty_seat, of_fields, read_slot, with_phase, write_slot}
+use Rattle.hub.specs.Ring.{PLACES, Ring, read_seat, write_seat}
 use Rattle.encoding.specs.Frame.{op_of}
 use Rattle.operations.specs.declared.Operated.{Operated}
-use Rattle.operations.specs.AtRest.{operatedAtRest}
+use Rattle.operations.specs.AtRest.{operated_at_rest}
 use Rattle.operations.specs.Operation.{operated}
-use Rattle.transition.specs.Tidied.{tidiedBy}
+use Rattle.transition.specs.Tidied.{tidied_by}
 use Rattle.transition.proofs.Laws.Called.{Counted, counted}
 use Rattle.transition.proofs.Laws.Radios.{few-stored, with-radios, without-radios}
 use Rattle.transition.proofs.Laws.Stored.{nobody, still}
-use Rattle.tidystep.proofs.Laws.Tidying.{Tidying, tidying-ends, tidying, stepAt, steps_on}
-use Rattle.transition.specs.Room.{fullFor}
+use Rattle.tidystep.proofs.Laws.Tidying.{Tidying, tidying-ends, tidying, step_at, steps_on}
+use Rattle.transition.specs.Room.{full_for}
 use Rattle.plan.specs.declared.Plan.{Plan}
 use Rattle.plan.specs.declared.Seen.{Seen}
-use Rattle.plan.specs.Plan.{operationOf, plan_of}
-use Rattle.perform.specs.Bytes.{answerBytes, isOperationCode}
+use Rattle.plan.specs.Plan.{operation_of, plan_of}
+use Rattle.perform.specs.Bytes.{answer_bytes, is_operation_code}
 use Rattle.perform.proofs.Laws.Answers.{Upto, answered, call_at, code_here, ended, start}
 use Rattle.perform.proofs.Laws.Answers.{whole-answer, whole-operation}
 use Rattle.perform.proofs.Laws.Codes.{an-operation}
-use Rattle.perform.proofs.Laws.Comes.{Comes, as-planned, no-such-party, plan_at, poolBy, storedBy}
-use Rattle.perform.proofs.Laws.Comes.{full, seenOf, itsTicket, woken-byte}
+use Rattle.perform.proofs.Laws.Comes.{Comes, as-planned, no-such-party, plan_at, pool_by, stored_by}
+use Rattle.perform.proofs.Laws.Comes.{full, seen_of, its_ticket, woken-byte}
 use Rattle.perform.proofs.Laws.Plans.{as-asked, few-turns}
 use Rattle.perform.proofs.Laws.Rested.{closed, next-in-line, rested-fits, room-at-rest}
 use Rattle.perform.proofs.perform_operations.Statement.{statement}
@@ -61,8 +61,8 @@ decreases-loop2 _ _ _ _ _ _ _ _ _ _ _ _ _ _ _ _ _ _ _ _ _ _ _ _ _ skips retires 
 
 abbrev invariant-loop : tie.invariant-loop
 invariant-loop operations out₀ opening f₀ o₀ places₀ slots₀ pool₀ _ _ _ out f o places slots pool i =
-    Upto (of_fields places₀ slots₀ (controlOf opening f₀ o₀ pool₀)) operations out₀
-    (of_fields places slots (controlOf opening f o pool)) out i
+    Upto (of_fields places₀ slots₀ (control_of opening f₀ o₀ pool₀)) operations out₀
+    (of_fields places slots (control_of opening f o pool)) out i
     × (length slots ≡ 32)
 
 abbrev decreases-loop : tie.decreases-loop
@@ -131,7 +131,7 @@ asking c = known (entered c)
 abbrev hub : Head → Hub
 hub c =
     of_fields c.loop.places c.loop.slots
-    (controlOf (begun c).args.hub.control.opening c.loop.figures c.loop.oldest c.loop.pool)
+    (control_of (begun c).args.hub.control.opening c.loop.figures c.loop.oldest c.loop.pool)
 
 abbrev bytes : Head → List ℕ
 bytes c = (begun c).args.operations.now
@@ -156,9 +156,9 @@ asks c = whole-operation _ _ _ _ _ _ c.before.loop.invariant.0 c.loop-test.true
 room : (c : At tie.In-loop) → 3 * c.before.loop.i + 3 ≤ length c.before.loop.out
 room c = whole-answer _ _ _ _ _ _ c.before.loop.invariant.0 c.loop-test.true
 
-valid : (c : Known) → isOperationCode (code c) ≡ true
+valid : (c : Known) → is_operation_code (code c) ≡ true
 valid c =
-    ap isOperationCode c.before.before.code_at.ensures
+    ap is_operation_code c.before.before.code_at.ensures
     ∙ code_here _ _ _ _ _ _ (head c).loop.invariant.0 (turning c).loop-test.true
 
 -- The record fits, so that its figures leave room.
@@ -179,7 +179,7 @@ full-slots : (s : At tie.Start) → length s.args.hub.slots ≡ 32
 full-slots s = search (rules, long-unmapped)
 
 -- The operation comes to its closed form.
-rests-on : (c : Known) → operated (hub (head c)) (call c) ≡ operatedAtRest (hub (head c)) (call c)
+rests-on : (c : Known) → operated (hub (head c)) (call c) ≡ operated_at_rest (hub (head c)) (call c)
 rests-on c = closed (hub (head c)) (head c).loop.invariant.0.rested (call c) (an-operation (code c) (valid c))
 
 -- What is decided is what it comes to.
@@ -191,14 +191,14 @@ index c = c.before.before.before.place-for.result
 
 index_is : (c : Planned)
     → let k = asking c in
-    index c ≡ itsTicket (hub (head k)) (party k) (code k) % PLACES
+    index c ≡ its_ticket (hub (head k)) (party k) (code k) % PLACES
 unfolding read_slot
 index_is c = c.before.before.before.place-for.ensures
 
 plan-is : (c : Planned)
     → let k = asking c in
     plan c ≡ plan_at (hub (head k)) (party k) (code k)
-unfolding read_slot readSeat kindIn
+unfolding read_slot read_seat kind_in
 plan-is c =
     let k = asking c in
     let h = head k in
@@ -208,14 +208,14 @@ plan-is c =
       kind = get_or (hub h).control.opening.kinds (party k) 0;
       named = (hub h).control.opening.named;
       slot = read_slot h.loop.slots (party k);
-      seat = get_or h.loop.places t emptySeat;
+      seat = get_or h.loop.places t empty_seat;
       figures = h.loop.figures;
     } in
     c.plan-for.ensures
     ∙ (λ i. plan_of (code k) (c.before.is-full-for.ensures i) (sight (index_is c i)))
-    ∙ ap (λ (b : Bool). plan_of (code k) (fullFor (operationOf (code k)) b) (seenOf (hub h) (party k) (code k)))
+    ∙ ap (λ (b : Bool). plan_of (code k) (full_for (operation_of (code k)) b) (seen_of (hub h) (party k) (code k)))
     (room-at-rest (hub h) h.loop.inv.0.rested h.loop.oldest h.loop.figures.issued)
-    ∙ as-asked (code k) (full (hub h) (party k)) (seenOf (hub h) (party k) (code k))
+    ∙ as-asked (code k) (full (hub h) (party k)) (seen_of (hub h) (party k) (code k))
 
 comes : (c : Planned)
     → let k = asking c in
@@ -233,7 +233,7 @@ turns-most : (c : Planned) → (plan c).turns ≤ 256
 turns-most c =
     let k = asking c in
     let h = hub (head k) in
-    omega (arith, ap (λ (p : Plan). p.turns) (plan-is c), few-turns (seenOf h (party k) (code k)) (code k) (full h (party k)))
+    omega (arith, ap (λ (p : Plan). p.turns) (plan-is c), few-turns (seen_of h (party k) (code k)) (code k) (full h (party k)))
 
 byte : (c : Planned) → (plan c).woken % 256 ≡ (plan c).woken
 byte c =
@@ -248,28 +248,28 @@ abbrev untidied : Settled → Hub
 untidied s =
     let c = within s in
     let h = head (asking c) in
-    of_fields (set h.loop.places (index c) (plan c).seat) (writeSlot (woken s).if2.slots (party (asking c)) (plan c).slot)
-    (controlOf (hub h).control.opening (plan c).figures h.loop.oldest s.if3.pool)
+    of_fields (set h.loop.places (index c) (plan c).seat) (write_slot (woken s).if2.slots (party (asking c)) (plan c).slot)
+    (control_of (hub h).control.opening (plan c).figures h.loop.oldest s.if3.pool)
 
-abbrev wokenSlots : Planned → List PartySlot
-wokenSlots c =
+abbrev woken_slots : Planned → List PartySlot
+woken_slots c =
     let l = (head (asking c)).loop.slots in
-    writeSlot l (plan c).woken (withPhase Phase.Holding (read_slot l (plan c).woken))
+    write_slot l (plan c).woken (with_phase Phase.Holding (read_slot l (plan c).woken))
 
-woken-slots : (s : Settled) → (woken s).if2.slots ≡ wokenSlots (within s)
-unfolding read_slot writeSlot
+woken-slots : (s : Settled) → (woken s).if2.slots ≡ woken_slots (within s)
+unfolding read_slot write_slot
 woken-slots s =
     let h = head (asking (within s)) in
     let q = (plan (within s)).woken in
-    ⊎_elim {C = ◌≡◌ (woken s).if2.slots (wokenSlots (within s))}
+    ⊎_elim {C = ◌≡◌ (woken s).if2.slots (woken_slots (within s))}
     (λ w. w.3 ∙ ap (set h.loop.slots q) w.2.ensures)
     (λ w. w.1
-    ∙ nobody h.loop.slots q (withPhase Phase.Holding (read_slot h.loop.slots q))
+    ∙ nobody h.loop.slots q (with_phase Phase.Holding (read_slot h.loop.slots q))
     (omega (arith, h.loop.inv.1, w.0.left)))
     (woken s).if2.came
 
 abbrev pool : Planned → Pool
-pool c = let k = asking c in poolBy (hub (head k)) (party k) (code k) (plan c)
+pool c = let k = asking c in pool_by (hub (head k)) (party k) (code k) (plan c)
 
 moved-pool : (s : Settled) → s.if3.pool ≡ pool (within s)
 moved-pool s =
@@ -279,14 +279,14 @@ moved-pool s =
 
 stored : (s : Settled)
     → let k = asking (within s) in
-    untidied s ≡ storedBy (hub (head k)) (party k) (code k) (plan (within s))
-unfolding writeSeat
+    untidied s ≡ stored_by (hub (head k)) (party k) (code k) (plan (within s))
+unfolding write_seat
 stored s =
     let c = within s in
     let h = head (asking c) in
     (λ i. of_fields (set h.loop.places (index_is c i) (plan c).seat)
-    (writeSlot (woken-slots s i) (party (asking c)) (plan c).slot)
-    (controlOf (hub h).control.opening (plan c).figures h.loop.oldest (moved-pool s i)))
+    (write_slot (woken-slots s i) (party (asking c)) (plan c).slot)
+    (control_of (hub h).control.opening (plan c).figures h.loop.oldest (moved-pool s i)))
 
 -- The answer that is written.
 abbrev said : Plan → List ℕ
@@ -294,13 +294,13 @@ said p = p.code ∷ p.woken % 256 ∷ p.steps ∷ []
 
 worded : (c : Planned)
     → let k = asking c in
-    said (plan c) ≡ answerBytes (operated (hub (head k)) (call k))
+    said (plan c) ≡ answer_bytes (operated (hub (head k)) (call k))
 worded c =
     let e = comes c in
     (λ i. sym e.code i ∷ (byte c ∙ sym e.woken) i ∷ sym e.steps i ∷ [])
 
 -- One more operation is performed: its answer is written, and u is the record that is left.
-one_more : (s : Settled) (u : Hub) → u ≡ tidiedBy (plan (within s)).turns (untidied s)
+one_more : (s : Settled) (u : Hub) → u ≡ tidied_by (plan (within s)).turns (untidied s)
     → let h = head (asking (within s)) in
     let b = (begun h).args in
     Upto (of_fields b.hub.places b.hub.slots b.hub.control)
@@ -310,7 +310,7 @@ one_more s u e =
     let k = asking c in
     answered _ _ _ _ _ _ (head k).loop.inv.0 (turning k).loop-test.taken (call k) (said (plan c)) _ u
     (call-is k) s.before.before.before.put-at2.ensures (worded c)
-    (e ∙ ap (tidiedBy (plan c).turns) (stored s) ∙ (comes c).hub)
+    (e ∙ ap (tidied_by (plan c).turns) (stored s) ∙ (comes c).hub)
 
 -- The slots stay as many.
 still-32 : (s : Settled) → length (untidied s).slots ≡ 32
@@ -318,11 +318,11 @@ still-32 s =
     let c = within s in
     let l = (head (asking c)).loop.slots in
     let q = (plan c).woken in
-    still l _ q (party (asking c)) (withPhase Phase.Holding (read_slot l q)) (plan c).slot (woken-slots s)
+    still l _ q (party (asking c)) (with_phase Phase.Holding (read_slot l q)) (plan c).slot (woken-slots s)
     ∙ (head (asking c)).loop.inv.1
 
 -- A party that there is not is refused at once.
-turned_down : (c : Known) → (hub (head c)).control.opening.parties ≤ party c
+turned_down_lem : (c : Known) → (hub (head c)).control.opening.parties ≤ party c
     → operated (hub (head c)) (call c)
     ≡ record {
       answer = Answer.Refused Refusal.NoSuchParty;
@@ -330,18 +330,18 @@ turned_down : (c : Known) → (hub (head c)).control.opening.parties ≤ party c
       steps = 0;
       hub = hub (head c);
     }
-turned_down c l =
+turned_down_lem c l =
     let h = head c in
     rests-on c ∙ no-such-party (hub h) (party c) h.loop.inv.1 (fit h) (code c) (le-ltb _ _ l)
 
 -- The turn of the tidying is that of its definition.
-abbrev ringAt : At tie.At-loop2 → Ring
-ringAt c = ring c.loop2.resumed c.loop2.oldest c.loop2.places
+abbrev ring_at : At tie.At-loop2 → Ring
+ring_at c = ring c.loop2.resumed c.loop2.oldest c.loop2.places
 
 turn_is : (c : At tie.After-tidy-step)
     → let l = (looping c).before in
-    c.tidy-step.result ≡ stepAt (ringAt l) l.loop2.skips l.loop2.retires
-unfolding readSeat
+    c.tidy-step.result ≡ step_at (ring_at l) l.loop2.skips l.loop2.retires
+unfolding read_seat
 turn_is c = c.tidy-step.ensures
 
 loop-holds : At tie.Need-loop-init
@@ -368,9 +368,9 @@ loop-again : At tie.Need-loop-preserved
 loop-again c =
     let t = c.before.before.before.before in
     let k = t.before in
-    let down = turned_down k t.if1.true in (
+    let down = turned_down_lem k t.if1.true in (
       answered _ _ _ _ _ _ (head k).loop.invariant.0 (turning k).loop-test.true (call k) _ _ _ (call-is k)
-          c.before.before.put-at.ensures (ap answerBytes (sym down)) (ap (λ (r : Operated). r.hub) (sym down)),
+          c.before.before.put-at.ensures (ap answer_bytes (sym down)) (ap (λ (r : Operated). r.hub) (sym down)),
       (head k).loop.invariant.1,
     )
 
@@ -486,7 +486,7 @@ loop2-less c =
     (steps_on _ _ _ _ _ l.before.loop2.inv.0 l.loop2-test.taken _ (turn_is d)).1
 
 loop2-again : At tie.Need-loop2-preserved
-unfolding writeSeat
+unfolding write_seat
 loop2-again c =
     let d = c.before.before in
     let l = looping d in
@@ -497,11 +497,11 @@ loop-less-2 : At tie.Need-loop-smaller-2
 loop-less-2 c = omega (arith, (turning (asking (within (settled c.before)))).loop-test.taken)
 
 loop-again-2 : At tie.Need-loop-preserved-2
-unfolding writeSlot
+unfolding write_slot
 loop-again-2 c =
     let l = c.before in
     let s = settled l in
-    (one_more s _ (ap (withRing (untidied s)) (tidying-ends _ _ _ _ _ l.loop2.invariant.0 c.loop2-test.false)), still-32 s)
+    (one_more s _ (ap (with_ring (untidied s)) (tidying-ends _ _ _ _ _ l.loop2.invariant.0 c.loop2-test.false)), still-32 s)
 
 same_length : At tie.Need-same-length
 same_length c = c.before.loop.invariant.0.length

@@ -2,7 +2,7 @@
 use Prim.Native.Nat.{◌+◌}
 use mathlib.Core.Path.{ap}
 use lib.IntN.{ℤ}
-use Rattle.hub.specs.Table.{withBegun, withCounter, withIssued}
+use Rattle.hub.specs.Table.{with_begun, with_counter, with_issued}
 use Rattle.effects.proofs.Laws.Counter.{less, less-fits}
 use borrow.Author.Rules.{rules}
 use Rattle.plan.proofs.after_acquire.Statement.{statement}
@@ -18,7 +18,7 @@ returns : tie.Need-returns
 returns c =
     let b = c.before.before.before in
     let f = b.args.figures in
-    ap (λ (z : ℤ). withCounter z (withIssued b.args.issued (withBegun (f.begun + 1) f)))
+    ap (λ (z : ℤ). with_counter z (with_issued b.args.issued (with_begun (f.begun + 1) f)))
     (less f.counter b.requires.0)
 
 pub after-acquire-spec : {M : Type 1} → statement M

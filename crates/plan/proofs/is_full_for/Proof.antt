@@ -8,23 +8,23 @@ use mathlib.Core.Logic.{◌≢◌}
 use lib.Dec.{eqb}
 use Rattle.hub.specs.declared.moves.Op.{Op}
 use Rattle.hub.proofs.Laws.Bools.{if-false, if-true}
-use Rattle.transition.specs.Room.{fullFor}
-use Rattle.plan.specs.Plan.{operationOf}
+use Rattle.transition.specs.Room.{full_for}
+use Rattle.plan.specs.Plan.{operation_of}
 use Rattle.plan.proofs.is_full_for.Statement.{statement}
 use Rattle.plan.proofs.is_full_for.Tie as tie
 
-by_code : (c : ℕ) (full : Bool) → cond (eqb c 0x10) full false ≡ fullFor (operationOf c) full
+by_code : (c : ℕ) (full : Bool) → cond (eqb c 0x10) full false ≡ full_for (operation_of c) full
 by_code c full = go (eqb c 0x10) (eqb c 0x12)
   where
-    go : (a b : Bool) → cond a full false ≡ fullFor (cond a Op.Acquire (cond b Op.Cancel Op.Release)) full
+    go : (a b : Bool) → cond a full false ≡ full_for (cond a Op.Acquire (cond b Op.Cancel Op.Release)) full
     go true b = refl
     go false true = refl
     go false false = refl
 
-ask : (c : ℕ) (full : Bool) → c ≡ 0x10 → full ≡ fullFor (operationOf c) full
+ask : (c : ℕ) (full : Bool) → c ≡ 0x10 → full ≡ full_for (operation_of c) full
 ask c full e = sym (if-true (eqb c 0x10) full false (eq-eqb c 0x10 e)) ∙ by_code c full
 
-others : (c : ℕ) (full : Bool) → c ≢ 0x10 → false ≡ fullFor (operationOf c) full
+others : (c : ℕ) (full : Bool) → c ≢ 0x10 → false ≡ full_for (operation_of c) full
 others c full e = sym (if-false (eqb c 0x10) full false (ne_eqb c 0x10 e)) ∙ by_code c full
 
 add-result : tie.Need-overflow-add-result

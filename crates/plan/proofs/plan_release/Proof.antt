@@ -2,14 +2,14 @@
 use borrow.Author.Tests.{not-true, not-false}
 use mathlib.Core.Path.{refl, sym, ap, ◌∙◌}
 use mathlib.Core.List.{[], ◌∷◌}
-use Rattle.hub.proofs.Laws.Phases.{allBut, phase-arm}
+use Rattle.hub.proofs.Laws.Phases.{all_but, phase-arm}
 use Rattle.hub.specs.declared.record.Figures.{Figures}
 use Rattle.hub.specs.declared.record.Phase.{Phase}
-use Rattle.hub.specs.Phases.{isHolding, isOneOf}
+use Rattle.hub.specs.Phases.{is_holding, is_one_of}
 use Rattle.hub.specs.Ring.{PLACES}
-use Rattle.hub.specs.Table.{belowZero}
+use Rattle.hub.specs.Table.{below_zero}
 use Rattle.effects.proofs.Laws.Counter.{sign}
-use Rattle.plan.specs.Plan.{planRelease, short}
+use Rattle.plan.specs.Plan.{plan_release, short}
 use borrow.Author.Rules.{rules}
 use Rattle.plan.proofs.plan_release.Statement.{statement}
 use Rattle.plan.proofs.plan_release.Tie as tie
@@ -21,11 +21,11 @@ refused-requires : tie.Need-refused-requires
 refused-requires c κs = search rules
 
 returns : tie.Need-returns
-unfolding isOneOf planRelease
+unfolding is_one_of plan_release
 returns c =
     let s = c.before.before.before.args.s in
-    let arm = phase-arm (allBut (1 ∷ [])) isHolding s.slot.phase refl c.before.match.keys2 in
-    c.refused.ensures ∙ (λ i. planRelease (arm i) (belowZero s.figures.counter) s)
+    let arm = phase-arm (all_but (1 ∷ [])) is_holding s.slot.phase refl c.before.match.keys2 in
+    c.refused.ensures ∙ (λ i. plan_release (arm i) (below_zero s.figures.counter) s)
 
 below-zero-requires : tie.Need-below-zero-requires
 below-zero-requires c κs = search rules
@@ -37,17 +37,17 @@ short-requires : tie.Need-short-requires
 short-requires c κs = search rules
 
 returns-2 : tie.Need-returns-2
-unfolding isOneOf planRelease
+unfolding is_one_of plan_release
 returns-2 c =
     let z = c.before.before.before in
     let b = z.before.before.before in
     let s = b.before.before.before.args.s in
-    let holds = sym (ap isHolding b.enum_told.given.1) in
+    let holds = sym (ap is_holding b.enum_told.given.1) in
     let fits = b.before.before.before.requires.0 in
-    let nobody = sym (sign belowZero _ fits z.below-zero.ensures ∙ not-true _ c.before.before.if1.true) in
+    let nobody = sym (sign below_zero _ fits z.below-zero.ensures ∙ not-true _ c.before.before.if1.true) in
     c.short.ensures
     ∙ ap (λ (f : Figures). short f Phase.Free s) c.before.after-return.ensures
-    ∙ (λ i. planRelease (holds i) (nobody i) s)
+    ∙ (λ i. plan_release (holds i) (nobody i) s)
 
 waiter-at-requires : tie.Need-waiter-at-requires
 waiter-at-requires c κs = search rules
@@ -65,16 +65,16 @@ with-place-requires : tie.Need-with-place-requires
 with-place-requires c κs = search rules
 
 returns-3 : tie.Need-returns-3
-unfolding isOneOf planRelease
+unfolding is_one_of plan_release
 returns-3 c =
     let g = c.before.before in
     let q = g.before in
     let z = q.before.before.before in
     let b = z.before.before.before in
     let s = b.before.before.before.args.s in
-    let holds = sym (ap isHolding b.enum_told.given.1) in
+    let holds = sym (ap is_holding b.enum_told.given.1) in
     let fits = b.before.before.before.requires.0 in
-    let waited = sym (sign belowZero _ fits z.below-zero.ensures ∙ not-false _ q.before.before.if1.false) in
+    let waited = sym (sign below_zero _ fits z.below-zero.ensures ∙ not-false _ q.before.before.if1.false) in
     (λ i. record {
       code = 0x20;
       woken = q.waiter-at.ensures i;
@@ -84,7 +84,7 @@ returns-3 c =
       slot = c.before.with-phase.ensures i;
       seat = c.with-place.ensures i;
     })
-    ∙ (λ i. planRelease (holds i) (waited i) s)
+    ∙ (λ i. plan_release (holds i) (waited i) s)
 
 pub plan-release-spec : {M : Type 1} → statement M
 plan-release-spec =

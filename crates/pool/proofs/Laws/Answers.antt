@@ -17,14 +17,14 @@ use Rattle.hub.specs.declared.answers.Answer.TheVariants.{MarkedRefused, Dropped
 use Rattle.hub.specs.declared.answers.Answer.TheVariants.{Stored, Radio, NoRadio}
 use Rattle.hub.specs.declared.answers.Refusal.{Refusal}
 use Rattle.hub.specs.declared.record.Pool.{Pool}
-use Rattle.hub.specs.Answers.{plain, printed, refusalCode}
-use Rattle.hub.specs.Radios.{handOf, moved, put_back}
+use Rattle.hub.specs.Answers.{plain, printed, refusal_code}
+use Rattle.hub.specs.Radios.{hand_of, moved, put_back}
 use Rattle.hub.proofs.Laws.Printed.{few-refusals}
 use Rattle.hub.proofs.Laws.Radios.{unmoved}
 
 -- The answers with one refusal, one woken party and one number.
-abbrev answersWith : Refusal → ℕ → ℕ → List Answer
-answersWith r q t =
+abbrev answers_with : Refusal → ℕ → ℕ → List Answer
+answers_with r q t =
     Refused r ∷ Opened ∷ Accepted ∷ Acquired ∷ MustWait ∷ DrewTicket t ∷ Parked t ∷ TookPermit t
     ∷ Returned ∷ MustResume ∷ StartedResume t ∷ LeftPermit t ∷ Woke q t ∷ Delegated t ∷ Skipped t
     ∷ ResumeRefused t ∷ MustCancel ∷ MustRefuse ∷ MarkedCancelled t ∷ PassedOn t ∷ MarkedRefused t
@@ -32,7 +32,7 @@ answersWith r q t =
 
 -- An answer is one of those with what it holds.
 holding : (a : Answer) → (r : Refusal) × (q : ℕ) × (t : ℕ)
-    × (get_or (answersWith r q t) (tag_of answer.the_type a) Opened ≡ a)
+    × (get_or (answers_with r q t) (tag_of answer.the_type a) Opened ≡ a)
 holding (Refused r) = (r, 0, 0, refl)
 holding Opened = (Refusal.Unfit, 0, 0, refl)
 holding Accepted = (Refusal.Unfit, 0, 0, refl)
@@ -64,12 +64,12 @@ holding NoRadio = (Refusal.Unfit, 0, 0, refl)
 -- Where f is y at each of the keys, it is y at an answer whose tag is one of them.
 arm : {A : Type 0} (ks : List ℕ) (f : Answer → A) {y : A} (a : Answer)
     → ((r : Refusal) (q t : ℕ)
-    → map (λ k. f (get_or (answersWith r q t) k Opened)) ks ≡ replicate (length ks) y)
+    → map (λ k. f (get_or (answers_with r q t) k Opened)) ks ≡ replicate (length ks) y)
     → OneOf ks (tag_of answer.the_type a) → y ≡ f a
 arm ks f {y} a e h = go ks (e (holding a).0 (holding a).1 (holding a).2) h
   where
     with : ℕ → Answer
-    with k = get_or (answersWith (holding a).0 (holding a).1 (holding a).2) k Opened
+    with k = get_or (answers_with (holding a).0 (holding a).1 (holding a).2) k Opened
 
     go : (ks : List ℕ) → map (λ k. f (with k)) ks ≡ replicate (length ks) y
         → OneOf ks (tag_of answer.the_type a) → y ≡ f a
@@ -81,7 +81,7 @@ arm ks f {y} a e h = go ks (e (holding a).0 (holding a).1 (holding a).2) h
 module _ (p : ℕ) (q : Pool) where
   -- The radio of a party goes back to the store.
   pub stored : (a : Answer) → OneOf (24 ∷ 15 ∷ []) (tag_of answer.the_type a)
-      → put_back (handOf q p) q ≡ moved (printed a) p q
+      → put_back (hand_of q p) q ≡ moved (printed a) p q
   unfolding moved
   stored a = arm (24 ∷ 15 ∷ []) (λ a. moved (printed a) p q) a (λ r w t. refl)
 
@@ -93,4 +93,4 @@ module _ (p : ℕ) (q : Pool) where
   unfolding moved
   still a =
       arm (0 ∷ 1 ∷ 2 ∷ 3 ∷ 4 ∷ 5 ∷ 6 ∷ 8 ∷ 9 ∷ 10 ∷ 14 ∷ 16 ∷ 17 ∷ 18 ∷ 20 ∷ 23 ∷ 25 ∷ 26 ∷ [])
-      (λ a. moved (printed a) p q) a (λ r w t. ap (λ (x : Pool). x ∷ replicate 17 q) (unmoved (plain (refusalCode r)) p q (few-refusals r)))
+      (λ a. moved (printed a) p q) a (λ r w t. ap (λ (x : Pool). x ∷ replicate 17 q) (unmoved (plain (refusal_code r)) p q (few-refusals r)))

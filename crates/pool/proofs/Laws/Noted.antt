@@ -10,8 +10,8 @@ use borrow.Author.Tests.{eq-eqb, ne_eqb}
 use lib.ListN.{length, get_or, set, take, drop, length-append, length-take, drop_of_length-le}
 use lib.Seq.{take_all, take_at, take-suc-set, drop-cons, length-take-le}
 use Rattle.hub.specs.declared.record.Place.{Place}
-use Rattle.hub.specs.Phases.{isPermit, isPlaceOf, placeRank}
-use Rattle.hub.specs.Radios.{STORE, ringFrom, shown}
+use Rattle.hub.specs.Phases.{is_permit, is_place_of, place_rank}
+use Rattle.hub.specs.Radios.{STORE, ring_from, shown}
 use Rattle.pool.specs.declared.check.Met.{Met}
 use Rattle.pool.specs.Met.{ENOUGH, Notes, noted}
 use Rattle.pool.proofs.Laws.Pools.{index_same}
@@ -101,14 +101,14 @@ shown-map has f (x ∷ l) (r ∷ rs) =
     ap (λ (k : List ℕ). cond (has (f x)) (r ∷ k) k) (shown-map has f l rs)
 
 -- A place's rank says whether a permit lies there.
-module _ (a : Place) (k : ℕ) (e : k ≡ placeRank a) where
-  pub permit-there : k ≡ 2 → isPermit a ≡ true
-  unfolding isPlaceOf
-  permit-there i = ap (λ (b : Bool). b || false) (eq-eqb (placeRank a) 2 (sym e ∙ i))
+module _ (a : Place) (k : ℕ) (e : k ≡ place_rank a) where
+  pub permit-there : k ≡ 2 → is_permit a ≡ true
+  unfolding is_place_of
+  permit-there i = ap (λ (b : Bool). b || false) (eq-eqb (place_rank a) 2 (sym e ∙ i))
 
-  pub no-permit : (k ≡ 2 → ⊥) → isPermit a ≡ false
-  unfolding isPlaceOf
-  no-permit i = ap (λ (b : Bool). b || false) (ne_eqb (placeRank a) 2 (λ j. i (e ∙ j)))
+  pub no-permit : (k ≡ 2 → ⊥) → is_permit a ≡ false
+  unfolding is_place_of
+  no-permit i = ap (λ (b : Bool). b || false) (ne_eqb (place_rank a) 2 (λ j. i (e ∙ j)))
 
 -- After p of the N elements.
 pub record Walk {A : Type 0} (has : A → Bool) (l : List A) (rs all : List ℕ) (N p : ℕ) (m : Met)
@@ -154,23 +154,23 @@ module _ {A : Type 0} (has : A → Bool) (l : List A) (rs all : List ℕ) (N p :
       none = drop_of_length-le l {i = p} (omega (arith, w.size))
 
 -- A ring at its begin; the first of those that it still has; and none.
-pub ring-whole : (l : List ℕ) (f n : ℕ) → ringFrom l (f + 0) (n - 0) ≡ ringFrom l f n
+pub ring-whole : (l : List ℕ) (f n : ℕ) → ring_from l (f + 0) (n - 0) ≡ ring_from l f n
 ring-whole l f n =
     let e : f + 0 ≡ f = omega arith in
     let s : n - 0 ≡ n = omega arith in
-    ap₂ (ringFrom l) e s
+    ap₂ (ring_from l) e s
 
 pub ring-one : (l : List ℕ) (f n i : ℕ) → i < n
-    → ringFrom l (f + i) (n - i)
-    ≡ get_or l ((f % STORE + i) % STORE) 0 ∷ ringFrom l (f + (i + 1)) (n - (i + 1))
-unfolding ringFrom
+    → ring_from l (f + i) (n - i)
+    ≡ get_or l ((f % STORE + i) % STORE) 0 ∷ ring_from l (f + (i + 1)) (n - (i + 1))
+unfolding ring_from
 ring-one l f n i h =
     let e : n - i ≡ suc (n - (i + 1)) = omega arith in
     let s : suc (f + i) ≡ f + (i + 1) = omega arith in
-    ap (ringFrom l (f + i)) e ∙ rw (s, index_same f i)
+    ap (ring_from l (f + i)) e ∙ rw (s, index_same f i)
 
-pub ring-none : (l : List ℕ) (f n i : ℕ) → n ≤ i → ringFrom l (f + i) (n - i) ≡ []
-unfolding ringFrom
+pub ring-none : (l : List ℕ) (f n i : ℕ) → n ≤ i → ring_from l (f + i) (n - i) ≡ []
+unfolding ring_from
 ring-none l f n i h =
     let e : n - i ≡ 0 = omega arith in
-    ap (ringFrom l (f + i)) e
+    ap (ring_from l (f + i)) e

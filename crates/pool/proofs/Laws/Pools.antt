@@ -5,10 +5,10 @@ use mathlib.Core.List.{List}
 use native.Mathlib.Omega.{arith}
 use lib.ListN.{get_or}
 use Rattle.hub.specs.declared.record.Pool.{Pool}
-use Rattle.hub.specs.Radios.{STORE, fetch, handTo}
+use Rattle.hub.specs.Radios.{STORE, fetch, hand_to}
 
-abbrev pub withHands : List ℕ → Pool → Pool
-withHands l q =
+abbrev pub with_hands : List ℕ → Pool → Pool
+with_hands l q =
     record { hands = l; laid = q.laid; store = q.store; first = q.first; stored = q.stored }
 
 -- An index of the ring, taken modulo 32 before the sum too.
@@ -16,7 +16,7 @@ pub index_same : (a b : ℕ) → (a % STORE + b) % STORE ≡ (a + b) % STORE
 index_same a b = omega arith
 
 -- The store's first radio is with a party, and the store begins one later.
-pub first_out : (q r : Pool) (p s : ℕ) → r ≡ handTo p (get_or q.store (q.first % STORE) 0) q
+pub first_out : (q r : Pool) (p s : ℕ) → r ≡ hand_to p (get_or q.store (q.first % STORE) 0) q
     → s ≡ q.stored - 1
     → record {
       hands = r.hands;

@@ -4,8 +4,8 @@ use Prim.Native.Nat.{ℕ, ◌-◌}
 use mathlib.Core.Path.{◌∙◌}
 use mathlib.Core.Bool.{cond}
 use lib.ListN.{get_or}
-use Rattle.hub.specs.Phases.{hasRadio}
-use Rattle.hub.specs.Record.{freeSlot}
+use Rattle.hub.specs.Phases.{has_radio}
+use Rattle.hub.specs.Record.{free_slot}
 use Rattle.cells.proofs.Laws.Each.{Filled, start, onward, full}
 use Rattle.radiobytes.proofs.Laws.{chosen}
 use Rattle.radiobytes.proofs.hands_shown.Statement.{statement}
@@ -13,7 +13,7 @@ use Rattle.radiobytes.proofs.hands_shown.Tie as tie
 
 abbrev invariant-loop : tie.invariant-loop
 invariant-loop slots hands shown₀ p₀ shown p =
-    Filled (λ (q : ℕ). cond (hasRadio (get_or slots q freeSlot).phase) (get_or hands q 0) 0) 32 shown p
+    Filled (λ (q : ℕ). cond (has_radio (get_or slots q free_slot).phase) (get_or hands q 0) 0) 32 shown p
 
 abbrev decreases-loop : tie.decreases-loop
 decreases-loop slots hands shown₀ p₀ shown p = 32 - p

@@ -6,21 +6,21 @@ use mathlib.Core.Bool.{cond}
 use lib.Dec.{eqb}
 use lib.ListN.{get_or}
 use Rattle.hub.specs.declared.record.Place.{Place}
-use Rattle.hub.specs.Phases.{isPermit, isPlaceOf, placeRank}
-use Rattle.hub.specs.Record.{emptySeat}
+use Rattle.hub.specs.Phases.{is_permit, is_place_of, place_rank}
+use Rattle.hub.specs.Record.{empty_seat}
 use Rattle.hub.proofs.Laws.Phases.{places-alike}
 use Rattle.cells.proofs.Laws.Each.{Filled, start, onward, full}
 use Rattle.radiobytes.proofs.Laws.{chosen}
 use Rattle.radiobytes.proofs.laid_shown.Statement.{statement}
 use Rattle.radiobytes.proofs.laid_shown.Tie as tie
 
-permit : (a : Place) → eqb (placeRank a) 2 ≡ isPermit a
-unfolding isPlaceOf
-permit = places-alike (λ a. eqb (placeRank a) 2) isPermit (λ q. refl)
+permit : (a : Place) → eqb (place_rank a) 2 ≡ is_permit a
+unfolding is_place_of
+permit = places-alike (λ a. eqb (place_rank a) 2) is_permit (λ q. refl)
 
 abbrev invariant-loop : tie.invariant-loop
 invariant-loop places laid shown₀ i₀ shown i =
-    Filled (λ (j : ℕ). cond (isPermit (get_or places j emptySeat).place) (get_or laid j 0) 0) 256 shown i
+    Filled (λ (j : ℕ). cond (is_permit (get_or places j empty_seat).place) (get_or laid j 0) 0) 256 shown i
 
 abbrev decreases-loop : tie.decreases-loop
 decreases-loop places laid shown₀ i₀ shown i = 256 - i

@@ -7,7 +7,7 @@ use native.Mathlib.Omega.{arith}
 use borrow.Author.Tests.{not-false, not-true}
 use lib.ListN.{length, replicate}
 use Rattle.cells.proofs.Laws.Cells.{nothing, next, all-written, six}
-use Rattle.radiobytes.specs.Written.{handsShown, inOrder, laidShown}
+use Rattle.radiobytes.specs.Written.{hands_shown, in_order, laid_shown}
 use Rattle.radiobytes.proofs.Laws.{chosen}
 use Rattle.radiobytes.proofs.radio_bytes.Statement.{statement}
 use Rattle.radiobytes.proofs.radio_bytes.Tie as tie
@@ -19,8 +19,8 @@ returns : tie.Need-returns
 returns c =
     let a = c.before.before.args in
     sym (chosen
-    ((1 ∷ []) ++ a.opening.radios ++ handsShown a.slots a.pool.hands ++ laidShown a.places a.pool.laid
-    ++ (0 ∷ a.pool.stored % 256 ∷ []) ++ inOrder a.pool.store a.pool.first a.pool.stored) (replicate 355 0)
+    ((1 ∷ []) ++ a.opening.radios ++ hands_shown a.slots a.pool.hands ++ laid_shown a.places a.pool.laid
+    ++ (0 ∷ a.pool.stored % 256 ∷ []) ++ in_order a.pool.store a.pool.first a.pool.stored) (replicate 355 0)
     (not-true a.opening.named c.if1.true))
 
 slice-aggregate-put-bytes-at : tie.Need-slice-aggregate-put-bytes-at
@@ -112,8 +112,8 @@ returns-2 c =
     let stored = at-put-few3.put-few3.ensures in
     let w6 = next 355 _ 323 32 _ _ _ _ w5 (omega arith) at-in-order.in_order.ensures stored.1 stored.0 in
     all-written 355 _ 355 _ w6 (omega arith)
-    ∙ six (1 ∷ []) a.opening.radios (handsShown a.slots q.hands) (laidShown a.places q.laid)
-    (0 ∷ q.stored % 256 ∷ []) (inOrder q.store q.first q.stored)
+    ∙ six (1 ∷ []) a.opening.radios (hands_shown a.slots q.hands) (laid_shown a.places q.laid)
+    (0 ∷ q.stored % 256 ∷ []) (in_order q.store q.first q.stored)
     ∙ sym (chosen _ (replicate 355 0) (not-false a.opening.named at-if1.if1.false))
 
 pub radio-bytes-spec : {M : Type 1} → statement M

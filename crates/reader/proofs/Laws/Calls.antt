@@ -10,10 +10,10 @@ use lib.Dec.{ltb}
 use lib.ListN.{length, get_or, take, set, length-set}
 use Rattle.hub.proofs.Laws.Bools.{if-true, if-false}
 use Rattle.line.specs.declared.request.Header.{Header}
-use Rattle.line.specs.Requests.{requestOf, headerOf}
+use Rattle.line.specs.Requests.{request_of, header_of}
 use Rattle.line.proofs.Laws.Lines.{NoFeed, call-feeds}
 use Rattle.reader.specs.declared.Reader.{Reader}
-use Rattle.reader.specs.Reading.{headerBytes}
+use Rattle.reader.specs.Reading.{header_bytes}
 use Rattle.reader.proofs.Laws.Pieces.{Upto, kept, onward, line-room, line-end}
 
 -- A reader's buffer with the four characters of a line.
@@ -49,7 +49,7 @@ module _ (r₀ : Reader) (piece out₀ l out : List ℕ) (n i : ℕ)
   abbrev y : ℕ
   y = get_or piece (i + 3) 0
 
-  module _ (h : Header) (e : h ≡ headerOf (requestOf (a ∷ b ∷ x ∷ y ∷ []))) (call : 16 ≤ h.code) where
+  module _ (h : Header) (e : h ≡ header_of (request_of (a ∷ b ∷ x ∷ y ∷ []))) (call : 16 ≤ h.code) where
     feeds : NoFeed a b x y
     feeds = call-feeds a b x y (subst (λ (g : Header). 16 ≤ g.code) e call)
 
@@ -90,7 +90,7 @@ module _ (r₀ : Reader) (piece out₀ l out : List ℕ) (n i : ℕ)
       pub call-room : 2 * n + 2 ≤ length out
       call-room = line-room r₀ piece out₀ _ out n (i + 4) all (omega arith) feed
 
-      pub call-end : (part : List ℕ) → part ≡ headerBytes h
+      pub call-end : (part : List ℕ) → part ≡ header_bytes h
           → Upto r₀ piece out₀ (record { line = four l a b x y; len = 0 })
           (put_mid (2 * n) (2 * n + 2 - 2 * n) out part) (n + 1) (i + 5)
       call-end part g =
@@ -98,7 +98,7 @@ module _ (r₀ : Reader) (piece out₀ l out : List ℕ) (n i : ℕ)
           (Upto r₀ piece out₀ (record { line = four l a b x y; len = 0 })
           (put_mid (2 * n) (2 * n + 2 - 2 * n) out part) (n + 1)) (next i)
           (line-end r₀ piece out₀ _ out n (i + 4) all (omega arith) feed h
-          (e ∙ ap (λ (m : List ℕ). headerOf (requestOf m))
+          (e ∙ ap (λ (m : List ℕ). header_of (request_of m))
           (sym (four-line l a b x y (omega (arith, u.size))))) part g)
         where
           next : (m : ℕ) → m + 4 + 1 ≡ m + 5
@@ -156,8 +156,8 @@ module _ (piece l out₁ : List ℕ) (n₁ from : ℕ) where
   module _ (out : List ℕ) (n i : ℕ) (r : Run piece l out₁ n₁ from out n i) (five : i + 5 ≤ length piece)
       (h : Header)
       (e : h
-      ≡ headerOf
-      (requestOf
+      ≡ header_of
+      (request_of
       (get_or piece i 0 ∷ get_or piece (i + 1) 0 ∷ get_or piece (i + 2) 0 ∷ get_or piece (i + 3) 0 ∷ [])))
       (call : 16 ≤ h.code) (feed : get_or piece (i + 4) 0 ≡ 0x0A) where
     pub run_room : (r₀ : Reader) (out₀ : List ℕ)
@@ -195,7 +195,7 @@ module _ (piece l out₁ : List ℕ) (n₁ from : ℕ) where
         back3 : (m : ℕ) → m + 3 ≡ m + 5 - 2
         back3 m = omega arith
 
-    pub one-more-call : (part : List ℕ) → part ≡ headerBytes h
+    pub one-more-call : (part : List ℕ) → part ≡ header_bytes h
         → Run piece l out₁ n₁ from (put_mid (2 * n) (2 * n + 2 - 2 * n) out part) (n + 1) (i + 5)
     one-more-call part g =
         record {

@@ -10,13 +10,13 @@ use lib.Dec.{eqb, ltb}
 use lib.ListN.{length, get_or, take, drop, set, length-set, take-append-drop, drop_of_length-le}
 use lib.Seq.{drop-drop, drop-cons}
 use Rattle.line.specs.declared.request.Header.{Header}
-use Rattle.line.specs.Requests.{Request, requestOf, headerOf}
+use Rattle.line.specs.Requests.{Request, request_of, header_of}
 use Rattle.encoding.proofs.Laws.Parts.{put-length, put-take, put-drop}
 use Rattle.hub.proofs.Laws.Bools.{if-true, if-false}
 use Rattle.reader.specs.declared.Read.{Read}
 use Rattle.reader.specs.declared.Reader.{Reader}
-use Rattle.reader.specs.Reading.{KEPT, lineIn, pushed, emptied, next, past, asked}
-use Rattle.reader.specs.Reading.{headerBytes, requestBytes, requestsWritten}
+use Rattle.reader.specs.Reading.{KEPT, line_in, pushed, emptied, next, past, asked}
+use Rattle.reader.specs.Reading.{header_bytes, request_bytes, requests_written}
 
 -- After i characters, from the reader r₀ and the buffer out₀; n lines have ended.
 pub record Upto (r₀ : Reader) (piece out₀ : List ℕ) (r : Reader) (out : List ℕ) (n i : ℕ)
@@ -29,8 +29,8 @@ pub record Upto (r₀ : Reader) (piece out₀ : List ℕ) (r : Reader) (out : Li
   pub long : length out ≡ length out₀
   pub reader : past r (drop i piece) ≡ past r₀ piece
   pub count : n + length (asked r (drop i piece)) ≡ length (asked r₀ piece)
-  pub same : take (2 * n) out ++ requestsWritten (asked r (drop i piece)) (drop (2 * n) out)
-      ≡ requestsWritten (asked r₀ piece) out₀
+  pub same : take (2 * n) out ++ requests_written (asked r (drop i piece)) (drop (2 * n) out)
+      ≡ requests_written (asked r₀ piece) out₀
 
 pub start : (r : Reader) (piece out : List ℕ) → r.len ≤ KEPT → length r.line ≡ KEPT
     → 2 * length (asked r piece) ≤ length out → Upto r piece out r out 0 0
@@ -58,12 +58,12 @@ unfolding asked
 asked-within r c cs e = if-false (eqb c 0x0A) _ _ e
 
 pub asked-end : (r : Reader) (c : ℕ) (cs : List ℕ) → eqb c 0x0A ≡ true
-    → asked r (c ∷ cs) ≡ requestOf (lineIn r) ∷ asked (next r c) cs
+    → asked r (c ∷ cs) ≡ request_of (line_in r) ∷ asked (next r c) cs
 unfolding asked
 asked-end r c cs e = if-true (eqb c 0x0A) _ _ e
 
 -- The line, as a part of the buffer from its first character on.
-pub whole : (r : Reader) → take (r.len - 0) r.line ≡ lineIn r
+pub whole : (r : Reader) → take (r.len - 0) r.line ≡ line_in r
 whole r = ap (λ (n : ℕ). take n r.line) (nought r.len)
   where
     nought : (n : ℕ) → n - 0 ≡ n
@@ -82,10 +82,10 @@ ended r c e = rw (eq-eqb c 0x0A e)
 
 -- A request takes two bytes off the buffer.
 one_more : (q : Request) (rs : List Request) (l : List ℕ)
-    → requestsWritten (q ∷ rs) l ≡ headerBytes (headerOf q) ++ requestsWritten rs (drop 2 l)
-unfolding requestBytes
+    → requests_written (q ∷ rs) l ≡ header_bytes (header_of q) ++ requests_written rs (drop 2 l)
+unfolding request_bytes
 one_more q rs l =
-    ap (λ (m : List ℕ). headerBytes (headerOf q) ++ (requestBytes rs ++ m))
+    ap (λ (m : List ℕ). header_bytes (header_of q) ++ (request_bytes rs ++ m))
     (ap (λ (n : ℕ). drop n l) (count (length rs)) ∙ sym (drop-drop (2 * length rs) 2 l))
   where
     count : (n : ℕ) → 2 * suc n ≡ 2 + 2 * n
@@ -122,7 +122,7 @@ module _ (r₀ : Reader) (piece out₀ : List ℕ) (r : Reader) (out : List ℕ)
             sym (ap (past r) here ∙ past_one r c cs ∙ ap (λ (p : Reader). past p cs) e) ∙ u.reader;
         count = ap (λ (l : List Request). n + length l) (sym a) ∙ u.count;
         same =
-            ap (λ (l : List Request). take (2 * n) out ++ requestsWritten l (drop (2 * n) out)) (sym a)
+            ap (λ (l : List Request). take (2 * n) out ++ requests_written l (drop (2 * n) out)) (sym a)
             ∙ u.same;
       }
 
@@ -137,11 +137,11 @@ module _ (r₀ : Reader) (piece out₀ : List ℕ) (r : Reader) (out : List ℕ)
       )
 
   -- The end of a line: what it asks is left in the buffer.
-  pub line-end : c ≡ 0x0A → (h : Header) → h ≡ headerOf (requestOf (lineIn r)) → (part : List ℕ)
-      → part ≡ headerBytes h
+  pub line-end : c ≡ 0x0A → (h : Header) → h ≡ header_of (request_of (line_in r)) → (part : List ℕ)
+      → part ≡ header_bytes h
       → Upto r₀ piece out₀ (emptied r) (put_mid (2 * n) (2 * n + 2 - 2 * n) out part) (n + 1) (i + 1)
   line-end f h e part g =
-      let q = requestOf (lineIn r) in
+      let q = request_of (line_in r) in
       let rs = asked (emptied r) cs in
       let a : asked r (drop i piece) ≡ q ∷ rs =
       ap (asked r) here ∙ asked-end r c cs (eq-eqb c 0x0A f)
@@ -164,9 +164,9 @@ module _ (r₀ : Reader) (piece out₀ : List ℕ) (r : Reader) (out : List ℕ)
             (two n, put-take out part (2 * n) 2 room size, put-drop out part (2 * n) 2 room size)
             (append_assoc (take (2 * n) out) part _
             ∙ ap (λ (l : List ℕ). take (2 * n) out ++ l)
-            (ap (λ (l : List ℕ). l ++ requestsWritten rs (drop 2 (drop (2 * n) out))) (g ∙ ap headerBytes e)
+            (ap (λ (l : List ℕ). l ++ requests_written rs (drop 2 (drop (2 * n) out))) (g ∙ ap header_bytes e)
             ∙ sym (one_more q rs (drop (2 * n) out)))
-            ∙ ap (λ (l : List Request). take (2 * n) out ++ requestsWritten l (drop (2 * n) out)) (sym a)
+            ∙ ap (λ (l : List Request). take (2 * n) out ++ requests_written l (drop (2 * n) out)) (sym a)
             ∙ u.same);
       }
     where
@@ -183,8 +183,8 @@ module _ (r₀ : Reader) (piece out₀ : List ℕ) (r : Reader) (out : List ℕ)
 
   pub end : (◌≡◌ {A = Read} (record { reader = r; count = n })
       (record { reader = past r₀ piece; count = length (asked r₀ piece) }))
-      × (out ≡ requestsWritten (asked r₀ piece) out₀)
-  unfolding past asked requestBytes
+      × (out ≡ requests_written (asked r₀ piece) out₀)
+  unfolding past asked request_bytes
   end = (
     (λ j. record {
       reader = (sym (ap (past r) nothing) ∙ u.reader) j;
@@ -193,7 +193,7 @@ module _ (r₀ : Reader) (piece out₀ : List ℕ) (r : Reader) (out : List ℕ)
     }),
     sym (take-append-drop (2 * n) out)
         ∙ sym
-        (ap (λ (l : List ℕ). take (2 * n) out ++ requestsWritten (asked r l) (drop (2 * n) out)) nothing)
+        (ap (λ (l : List ℕ). take (2 * n) out ++ requests_written (asked r l) (drop (2 * n) out)) nothing)
         ∙ u.same,
   )
     where

@@ -10,7 +10,7 @@ use borrow.Rule.Slice.PartMut.{put_mid}
 use mathlib.Core.Path.{◌≡◌, refl, ap, ◌∙◌}
 use mathlib.Core.List.{List, [], ◌∷◌}
 use Rattle.line.specs.declared.request.Header.{Header}
-use Rattle.line.specs.Requests.{requestOf, headerOf}
+use Rattle.line.specs.Requests.{request_of, header_of}
 use Rattle.reader.proofs.read_piece.Statement.{statement}
 use Rattle.reader.proofs.read_piece.Tie as tie
 
@@ -79,7 +79,7 @@ entry c =
     line-end _ _ _ _ _ _ _ l.loop.inv (turning c).loop-test.true e.if1.left
     r.read-header.result
     (r.read-header.ensures
-    ∙ ap (λ (x : List ℕ). headerOf (requestOf x)) (whole (record { line = l.loop.line; len = l.loop.len }))) _
+    ∙ ap (λ (x : List ℕ). header_of (request_of x)) (whole (record { line = l.loop.line; len = l.loop.len }))) _
     c.before.before.put-header.ensures
 
 -- Behind it, a call that the table reads.
@@ -93,8 +93,8 @@ asked_by : (c : Found)
     → let l = (began (looping c).before).args.piece.now in
     let i = (looping c).loop2.i in
     found-call c
-    ≡ headerOf
-    (requestOf (get_or l i 0 ∷ get_or l (i + 1) 0 ∷ get_or l (i + 2) 0 ∷ get_or l (i + 3) 0 ∷ []))
+    ≡ header_of
+    (request_of (get_or l i 0 ∷ get_or l (i + 1) 0 ∷ get_or l (i + 2) 0 ∷ get_or l (i + 3) 0 ∷ []))
 asked_by c = c.before.before.call_by.ensures
 
 is-call : (c : Found) → 16 ≤ (found-call c).code

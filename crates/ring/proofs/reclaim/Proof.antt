@@ -5,17 +5,17 @@ use native.Mathlib.Omega.{arith}
 use mathlib.Core.Logic.{⊎_elim}
 use mathlib.Core.Path.{◌≡◌, refl, sym, ap, ◌∙◌}
 use Prim.Native.Nat.{◌+◌, ◌-◌, ◌≤◌}
-use Rattle.hub.specs.Ring.{readSeat, writeSeat, skip, retire}
+use Rattle.hub.specs.Ring.{read_seat, write_seat, skip, retire}
 use Rattle.transition.proofs.Laws.Loops.{Skipping, skipping, can-skip, in_window, skipping-on}
 use Rattle.transition.proofs.Laws.Loops.{skipping-stop, skipping-end}
 use Rattle.transition.proofs.Laws.Loops.{Retiring, retiring, retiring-on, retiring-stop, retiring-end}
-use Rattle.ring.specs.Code.{ringIn}
+use Rattle.ring.specs.Code.{ring_in}
 use Rattle.ring.proofs.reclaim.Statement.{statement}
 use Rattle.ring.proofs.reclaim.Tie as tie
 
 abbrev invariant-loop : tie.invariant-loop
 invariant-loop turns ring₀ end _ ring n =
-    Skipping turns (ringIn ring₀) (ringIn ring) n × (end ≡ ring₀.oldest + 256)
+    Skipping turns (ring_in ring₀) (ring_in ring) n × (end ≡ ring₀.oldest + 256)
     × (ring₀.oldest ≤ 1000000) × (turns ≤ 256)
 
 abbrev decreases-loop : tie.decreases-loop
@@ -23,7 +23,7 @@ decreases-loop turns _ _ _ _ n = turns - n
 
 abbrev invariant-loop2 : tie.invariant-loop2
 invariant-loop2 turns ring₀ _ _ _ ring m =
-    Retiring turns (ringIn ring₀) (ringIn ring) m × (ring₀.oldest ≤ 1000000) × (turns ≤ 256)
+    Retiring turns (ring_in ring₀) (ring_in ring) m × (ring₀.oldest ≤ 1000000) × (turns ≤ 256)
 
 abbrev decreases-loop2 : tie.decreases-loop2
 decreases-loop2 turns _ _ _ _ _ m = turns - m
@@ -56,7 +56,7 @@ element-set-from-ring : tie.Need-element-set-from-ring invariant-loop decreases-
 element-set-from-ring c = search rules
 
 add-ring : tie.Need-overflow-add-ring invariant-loop decreases-loop invariant-loop2 decreases-loop2
-unfolding readSeat
+unfolding read_seat
 add-ring c =
     let s = c.before.before.before.before.before.loop.invariant in
     let e = can-skip _ _ _ _ s.0 _ _ s.1 c.before.before.can-skip.ensures in
@@ -74,7 +74,7 @@ loop-less : tie.Need-loop-smaller invariant-loop decreases-loop invariant-loop2 
 loop-less c = omega (arith, c.before.before.before.before.loop-test.true)
 
 loop-again : tie.Need-loop-preserved invariant-loop decreases-loop invariant-loop2 decreases-loop2
-unfolding readSeat writeSeat
+unfolding read_seat write_seat
 loop-again c =
     let s = c.before.before.before.before.before.loop.invariant in
     let e = can-skip _ _ _ _ s.0 _ _ s.1 c.before.before.can-skip.ensures in
@@ -85,8 +85,8 @@ loop-again c =
 
 -- The first loop ends with what the definition's leaves, since its turns are over or its test fails.
 skipped-all : (c : tie.Left-loop invariant-loop decreases-loop invariant-loop2 decreases-loop2)
-    → ringIn c.before.loop.ring ≡ skip c.before.before.args.turns (ringIn c.before.before.args.t1)
-unfolding readSeat
+    → ring_in c.before.loop.ring ≡ skip c.before.before.args.turns (ring_in c.before.before.args.t1)
+unfolding read_seat
 skipped-all c =
     let s = c.before.loop.invariant in
     ⊎_elim (λ w. skipping-end _ _ _ _ s.0 w.left)
@@ -137,7 +137,7 @@ loop2-less : tie.Need-loop2-smaller invariant-loop decreases-loop invariant-loop
 loop2-less c = omega (arith, c.before.before.before.before.loop2-test.true)
 
 loop2-again : tie.Need-loop2-preserved invariant-loop decreases-loop invariant-loop2 decreases-loop2
-unfolding readSeat writeSeat
+unfolding read_seat write_seat
 loop2-again c =
     let s = c.before.before.before.before.before.loop2.invariant in
     let on =
@@ -152,7 +152,7 @@ returns c =
     ∙ ap (retire l.before.before.before.args.turns) (skipped-all l.before)
 
 returns-2 : tie.Need-returns-2 invariant-loop decreases-loop invariant-loop2 decreases-loop2
-unfolding readSeat
+unfolding read_seat
 returns-2 c =
     let l = c.before.before.before.before in
     retiring-stop _ _ _ _ l.loop2.invariant.0

@@ -6,7 +6,7 @@ use mathlib.Core.List.{List, [], ◌∷◌}
 use native.Mathlib.Omega.{arith}
 use lib.ListN.{length, get_or, drop, drop_of_length-le}
 use lib.Seq.{drop-cons}
-use Rattle.run.specs.Bytes.{wellFormed}
+use Rattle.run.specs.Bytes.{well_formed}
 
 -- The i-th pair, in front of the pairs past it.
 pub pair : (l : List ℕ) (i : ℕ) → i < length l / 2
@@ -28,13 +28,13 @@ module _ (is_code : ℕ → Bool) where
   -- Each pair before the i-th has a code that passes.
   pub record Checked (l : List ℕ) (i : ℕ) : Type 0 where
     pub within : i ≤ length l / 2
-    pub same : wellFormed is_code (drop (2 * i) l) ≡ wellFormed is_code l
+    pub same : well_formed is_code (drop (2 * i) l) ≡ well_formed is_code l
 
-  pub odd : (l : List ℕ) → length l % 2 ≡ 1 → false ≡ wellFormed is_code l
-  unfolding wellFormed
+  pub odd : (l : List ℕ) → length l % 2 ≡ 1 → false ≡ well_formed is_code l
+  unfolding well_formed
   odd [] e = absurd (omega arith)
   odd (c ∷ []) e = refl
-  odd (c ∷ p ∷ l) e = go (is_code c) (wellFormed is_code l) (odd l (omega arith))
+  odd (c ∷ p ∷ l) e = go (is_code c) (well_formed is_code l) (odd l (omega arith))
     where
       go : (a b : Bool) → false ≡ b → false ≡ a && b
       go true b e = e
@@ -42,13 +42,13 @@ module _ (is_code : ℕ → Bool) where
 
   -- The i-th pair, and the pairs past it.
   pub one-formed : (l : List ℕ) (i : ℕ) → i < length l / 2
-      → wellFormed is_code (drop (2 * i) l)
-      ≡ is_code (get_or l (2 * i) 0) && wellFormed is_code (drop (2 * (i + 1)) l)
-  unfolding wellFormed
-  one-formed l i h = ap (wellFormed is_code) (pair l i h)
+      → well_formed is_code (drop (2 * i) l)
+      ≡ is_code (get_or l (2 * i) 0) && well_formed is_code (drop (2 * (i + 1)) l)
+  unfolding well_formed
+  one-formed l i h = ap (well_formed is_code) (pair l i h)
 
   module _ (l : List ℕ) (i : ℕ) (k : Checked l i) where
-    pub bad : i < length l / 2 → is_code (get_or l (2 * i) 0) ≡ false → false ≡ wellFormed is_code l
+    pub bad : i < length l / 2 → is_code (get_or l (2 * i) 0) ≡ false → false ≡ well_formed is_code l
     bad h e = sym (one-formed l i h ∙ rw e) ∙ k.same
 
     pub good : i < length l / 2 → is_code (get_or l (2 * i) 0) ≡ true → Checked l (i + 1)
@@ -58,6 +58,6 @@ module _ (is_code : ℕ → Bool) where
           same = sym (one-formed l i h ∙ rw e) ∙ k.same;
         }
 
-    pub all : (length l % 2 ≡ 1 → ⊥) → length l / 2 ≤ i → true ≡ wellFormed is_code l
-    unfolding wellFormed
-    all o h = sym (ap (wellFormed is_code) (drop_of_length-le l {i = 2 * i} (omega arith))) ∙ k.same
+    pub all : (length l % 2 ≡ 1 → ⊥) → length l / 2 ≤ i → true ≡ well_formed is_code l
+    unfolding well_formed
+    all o h = sym (ap (well_formed is_code) (drop_of_length-le l {i = 2 * i} (omega arith))) ∙ k.same

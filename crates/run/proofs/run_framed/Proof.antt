@@ -3,7 +3,7 @@ use borrow.Author.Rules.{rules}
 use borrow.Author.Tests.{not-true, not-false}
 use mathlib.Core.Path.{sym, ap, ◌∙◌}
 use Rattle.line.specs.Requests.{Request, requested}
-use Rattle.run.specs.Run.{framedRun}
+use Rattle.run.specs.Run.{framed_run}
 use Rattle.run.proofs.Laws.Endings.{no-opening}
 use Rattle.run.proofs.run_framed.Statement.{statement}
 use Rattle.run.proofs.run_framed.Tie as tie
@@ -31,8 +31,8 @@ returns-2 c =
     let r = c.before.before in
     let a = r.before.before.before.before.before.before.before.before.args in
     let e = r.before.before.opening-in.ensures in (
-      r.run-calls.ensures.0 ∙ ap (λ (q : Request). (framedRun q a.calls.now a.out.now).result) e,
-      r.run-calls.ensures.1 ∙ ap (λ (q : Request). (framedRun q a.calls.now a.out.now).out) e,
+      r.run-calls.ensures.0 ∙ ap (λ (q : Request). (framed_run q a.calls.now a.out.now).result) e,
+      r.run-calls.ensures.1 ∙ ap (λ (q : Request). (framed_run q a.calls.now a.out.now).out) e,
     )
 
 pub run-framed-spec : {M : Type 1} → statement M

@@ -10,14 +10,14 @@ use lib.ListN.{length, get_or, set, take, drop}
 use lib.Seq.{get_or-take}
 use Rattle.hub.specs.declared.answers.Refusal.{Refusal}
 use Rattle.hub.specs.Basics.{among}
-use Rattle.hub.specs.Kinds.{kindIn}
+use Rattle.hub.specs.Kinds.{kind_in}
 use Rattle.hub.proofs.Laws.Bools.{first, second}
 use Rattle.screen.specs.declared.record.Line.{Line}
 use Rattle.screen.specs.declared.record.Operation.{Operation}
-use Rattle.screen.specs.Fits.{holderCount, lineFits}
-use Rattle.screen.specs.Line.{holders, holdsIn, place_of, waiters, waitsIn, withHolding, withWaiters}
-use Rattle.screen.specs.Moves.{acceptedMove, acquire, cancel, checkedMove, hasPermit, hasWaiter, lineMove}
-use Rattle.screen.specs.Moves.{nextWaiter, ownMove, refusedMove, release, without}
+use Rattle.screen.specs.Fits.{holder_count, line_fits}
+use Rattle.screen.specs.Line.{holders, holds_in, place_of, waiters, waits_in, with_holding, with_waiters}
+use Rattle.screen.specs.Moves.{accepted_move, acquire, cancel, checked_move, has_permit, has_waiter, line_move}
+use Rattle.screen.specs.Moves.{next_waiter, own_move, refused_move, release, without}
 use Rattle.screen.proofs.Laws.Fit.{Fit, room, waits-cons}
 use Rattle.screen.proofs.Laws.Holders.{held-weight}
 use Rattle.screen.proofs.Laws.Lists.{among-here}
@@ -26,70 +26,70 @@ use Rattle.screen.proofs.Laws.Places.{place-among, place-left}
 
 module _ (l : Line) (p : ℕ) where
   -- 1 and 4.
-  pub unfit : (o : Operation) → lineFits l ≡ false → lineMove l o p ≡ refusedMove Refusal.Unfit l
-  unfolding lineMove checkedMove
+  pub unfit : (o : Operation) → line_fits l ≡ false → line_move l o p ≡ refused_move Refusal.Unfit l
+  unfolding line_move checked_move
   unfit o e = rw e
 
-  pub no-party : (o : Operation) → lineFits l ≡ true → l.parties ≤ p
-      → lineMove l o p ≡ refusedMove Refusal.NoSuchParty l
-  unfolding lineMove checkedMove
+  pub no-party : (o : Operation) → line_fits l ≡ true → l.parties ≤ p
+      → line_move l o p ≡ refused_move Refusal.NoSuchParty l
+  unfolding line_move checked_move
   no-party o e h = rw (e, le-ltb p l.parties h)
 
-  pub own : (o : Operation) → lineFits l ≡ true → p < l.parties → lineMove l o p ≡ ownMove l o p
-  unfolding lineMove checkedMove
+  pub own : (o : Operation) → line_fits l ≡ true → p < l.parties → line_move l o p ≡ own_move l o p
+  unfolding line_move checked_move
   own o e h = rw (e, lt-ltb p l.parties h)
 
   -- Ask.
-  pub holds-already : get_or l.holding p false ≡ true → ownMove l Operation.Acquire p ≡ refusedMove Refusal.NotFree l
-  unfolding ownMove acquire holdsIn
+  pub holds-already : get_or l.holding p false ≡ true → own_move l Operation.Acquire p ≡ refused_move Refusal.NotFree l
+  unfolding own_move acquire holds_in
   holds-already e = rw e
 
   pub waits-already : get_or l.holding p false ≡ false → among (waiters l) p ≡ true
-      → ownMove l Operation.Acquire p ≡ refusedMove Refusal.NotFree l
-  unfolding ownMove acquire holdsIn waitsIn
+      → own_move l Operation.Acquire p ≡ refused_move Refusal.NotFree l
+  unfolding own_move acquire holds_in waits_in
   waits-already e f = rw (e, f)
 
-  pub acquires : get_or l.holding p false ≡ false → among (waiters l) p ≡ false → holderCount l < l.permits
-      → ownMove l Operation.Acquire p ≡ acceptedMove (withHolding (set l.holding p true) l)
-  unfolding ownMove acquire holdsIn waitsIn hasPermit
-  acquires e f h = rw (e, f, lt-ltb (holderCount l) l.permits h)
+  pub acquires : get_or l.holding p false ≡ false → among (waiters l) p ≡ false → holder_count l < l.permits
+      → own_move l Operation.Acquire p ≡ accepted_move (with_holding (set l.holding p true) l)
+  unfolding own_move acquire holds_in waits_in has_permit
+  acquires e f h = rw (e, f, lt-ltb (holder_count l) l.permits h)
 
-  pub queues : get_or l.holding p false ≡ false → among (waiters l) p ≡ false → l.permits ≤ holderCount l
-      → ownMove l Operation.Acquire p ≡ acceptedMove (withWaiters (waiters l ++ (p ∷ [])) l)
-  unfolding ownMove acquire holdsIn waitsIn hasPermit
-  queues e f h = rw (e, f, le-ltb (holderCount l) l.permits h)
+  pub queues : get_or l.holding p false ≡ false → among (waiters l) p ≡ false → l.permits ≤ holder_count l
+      → own_move l Operation.Acquire p ≡ accepted_move (with_waiters (waiters l ++ (p ∷ [])) l)
+  unfolding own_move acquire holds_in waits_in has_permit
+  queues e f h = rw (e, f, le-ltb (holder_count l) l.permits h)
 
   -- Give up.
-  pub waits-not : among (waiters l) p ≡ false → ownMove l Operation.Cancel p ≡ refusedMove Refusal.NotWaiting l
-  unfolding ownMove cancel waitsIn
+  pub waits-not : among (waiters l) p ≡ false → own_move l Operation.Cancel p ≡ refused_move Refusal.NotWaiting l
+  unfolding own_move cancel waits_in
   waits-not e = rw e
 
-  pub may-not : among (waiters l) p ≡ true → kindIn l.kinds p ≡ 3
-      → ownMove l Operation.Cancel p ≡ refusedMove Refusal.NotCancellable l
-  unfolding ownMove cancel waitsIn
-  may-not e k = ap₂ (λ (w t : Bool). cancel w t l p) e (eq-eqb (kindIn l.kinds p) 3 k)
+  pub may-not : among (waiters l) p ≡ true → kind_in l.kinds p ≡ 3
+      → own_move l Operation.Cancel p ≡ refused_move Refusal.NotCancellable l
+  unfolding own_move cancel waits_in
+  may-not e k = ap₂ (λ (w t : Bool). cancel w t l p) e (eq-eqb (kind_in l.kinds p) 3 k)
 
-  pub cancels : among (waiters l) p ≡ true → (kindIn l.kinds p ≡ 3 → ⊥)
-      → ownMove l Operation.Cancel p ≡ acceptedMove (withWaiters (without p (waiters l)) l)
-  unfolding ownMove cancel waitsIn
-  cancels e k = ap₂ (λ (w t : Bool). cancel w t l p) e (ne_eqb (kindIn l.kinds p) 3 k)
+  pub cancels : among (waiters l) p ≡ true → (kind_in l.kinds p ≡ 3 → ⊥)
+      → own_move l Operation.Cancel p ≡ accepted_move (with_waiters (without p (waiters l)) l)
+  unfolding own_move cancel waits_in
+  cancels e k = ap₂ (λ (w t : Bool). cancel w t l p) e (ne_eqb (kind_in l.kinds p) 3 k)
 
   -- Give back.
-  pub holds_not : get_or l.holding p false ≡ false → ownMove l Operation.Release p ≡ refusedMove Refusal.NotHolding l
-  unfolding ownMove release holdsIn
+  pub holds_not : get_or l.holding p false ≡ false → own_move l Operation.Release p ≡ refused_move Refusal.NotHolding l
+  unfolding own_move release holds_in
   holds_not e = rw e
 
   pub returns : get_or l.holding p false ≡ true → l.waiting < 1
-      → ownMove l Operation.Release p ≡ acceptedMove (withHolding (set l.holding p false) l)
-  unfolding ownMove release holdsIn hasWaiter
+      → own_move l Operation.Release p ≡ accepted_move (with_holding (set l.holding p false) l)
+  unfolding own_move release holds_in has_waiter
   returns e h = rw (e, lt-leb 1 l.waiting h)
 
   pub hands-over : get_or l.holding p false ≡ true → 1 ≤ l.waiting
-      → ownMove l Operation.Release p
-      ≡ acceptedMove
-      (withWaiters (drop 1 (waiters l))
-      (withHolding (set (set l.holding p false) (nextWaiter l) true) l))
-  unfolding ownMove release holdsIn hasWaiter
+      → own_move l Operation.Release p
+      ≡ accepted_move
+      (with_waiters (drop 1 (waiters l))
+      (with_holding (set (set l.holding p false) (next_waiter l) true) l))
+  unfolding own_move release holds_in has_waiter
   hands-over e h = rw (e, le-leb 1 l.waiting h)
 
 -- Who has a place among those that wait, and who has none.
@@ -102,18 +102,18 @@ module _ (l : Line) (f : Fit l) (size : length l.queue ≡ 32) (p i : ℕ) (e : 
   no_place h =
       place-among (waiters l) p ∙ le-ltb (place_of p (waiters l)) (length (waiters l)) (omega (arith, e, waiters-length l f size))
 
-  pub leaves-place : withWaiters (take i (waiters l) ++ drop (suc i) (waiters l)) l
-      ≡ withWaiters (without p (waiters l)) l
+  pub leaves-place : with_waiters (take i (waiters l) ++ drop (suc i) (waiters l)) l
+      ≡ with_waiters (without p (waiters l)) l
   leaves-place =
-      ap (λ (w : List ℕ). withWaiters w l)
+      ap (λ (w : List ℕ). with_waiters w l)
       (ap (λ (j : ℕ). take j (waiters l) ++ drop (suc j) (waiters l)) e ∙ sym (place-left (waiters l) p))
 
 -- There is a byte for one more that waits: whoever asks is on the line nowhere, and somebody holds.
-pub has_room : (l : Line) (p : ℕ) → Fit l → length l.queue ≡ 32 → length l.holding ≡ 32
-    → p < l.parties → get_or l.holding p false ≡ false → among (waiters l) p ≡ false → l.permits ≤ holderCount l
+pub has_room_lem : (l : Line) (p : ℕ) → Fit l → length l.queue ≡ 32 → length l.holding ≡ 32
+    → p < l.parties → get_or l.holding p false ≡ false → among (waiters l) p ≡ false → l.permits ≤ holder_count l
     → l.waiting < 32
 unfolding holders
-has_room l p f size sizes h e a k =
+has_room_lem l p f size sizes h e a k =
     let n : l.parties ≤ 32 = leb-true _ _ (second (leb 1 l.parties) _ f.bounds.parties) in
     let m : 1 ≤ l.permits = leb-true _ _ (first _ (leb l.permits 32) f.bounds.permits) in
     let w = waits-cons l.holding l.parties (waiters l) p f.waits a h e in
@@ -129,13 +129,13 @@ pub party-small : (l : Line) (p : ℕ) → Fit l → p < l.parties → p < 32
 party-small l p f h =
     omega (arith, leb-true l.parties 32 (second (leb 1 l.parties) _ f.bounds.parties))
 
-pub next-first : (l : Line) → 1 ≤ l.waiting → nextWaiter l ≡ get_or l.queue 0 0
-unfolding nextWaiter waiters
+pub next-first : (l : Line) → 1 ≤ l.waiting → next_waiter l ≡ get_or l.queue 0 0
+unfolding next_waiter waiters
 next-first l h = get_or-take l.waiting l.queue 0 0 h
 
 pub first-waits : (l : Line) → Fit l → length l.queue ≡ 32 → 1 ≤ l.waiting
-    → among (waiters l) (nextWaiter l) ≡ true
-unfolding nextWaiter
+    → among (waiters l) (next_waiter l) ≡ true
+unfolding next_waiter
 first-waits l f size h = go (waiters l) (omega (arith, waiters-length l f size))
   where
     go : (w : List ℕ) → 1 ≤ length w → among w (get_or w 0 0) ≡ true
@@ -149,13 +149,13 @@ first_small l f size h =
 
 -- The line that a hand-over leaves, as the code makes it.
 pub handed-over : (l m : Line) (p : ℕ) → get_or l.holding p false ≡ true → 1 ≤ l.waiting
-    → m ≡ withWaiters (drop 1 (waiters l)) l
-    → acceptedMove (withHolding (set (set m.holding p false) (get_or l.queue 0 0) true) m)
-    ≡ ownMove l Operation.Release p
+    → m ≡ with_waiters (drop 1 (waiters l)) l
+    → accepted_move (with_holding (set (set m.holding p false) (get_or l.queue 0 0) true) m)
+    ≡ own_move l Operation.Release p
 handed-over l m p e h i =
-    ap (λ (n : Line). acceptedMove (withHolding (set (set n.holding p false) (get_or l.queue 0 0) true) n)) i
+    ap (λ (n : Line). accepted_move (with_holding (set (set n.holding p false) (get_or l.queue 0 0) true) n)) i
     ∙ ap
     (λ (q : ℕ).
-    acceptedMove (withWaiters (drop 1 (waiters l)) (withHolding (set (set l.holding p false) q true) l)))
+    accepted_move (with_waiters (drop 1 (waiters l)) (with_holding (set (set l.holding p false) q true) l)))
     (sym (next-first l h))
     ∙ sym (hands-over l p e h)

@@ -9,14 +9,14 @@ use borrow.Author.Tests.{leb-true, le-leb, ltb-true, lt-ltb, eqb-true, eq-eqb}
 use lib.Dec.{ltb}
 use lib.ListN.{length, get_or, set, drop, length-set}
 use lib.Seq.{get_or-drop, get_or-set_same, get_or-set_other}
-use Rattle.hub.specs.Basics.{allPass, among, bit, implies, upTo32, weight}
-use Rattle.hub.specs.Kinds.{hasDesk, kindsKnown}
+use Rattle.hub.specs.Basics.{all_pass, among, bit, implies, up_to32, weight}
+use Rattle.hub.specs.Kinds.{has_desk, kinds_known}
 use Rattle.hub.specs.Radios.{differ}
 use Rattle.hub.specs.Record.{PARTIES}
 use Rattle.hub.proofs.Laws.Bools.{clause, none, passed}
 use Rattle.hub.proofs.Laws.Lists.{weight-length, weight-set}
 use Rattle.screen.specs.declared.record.Line.{Line}
-use Rattle.screen.specs.Fits.{everybody, holderCount, lineClauses, lineFits}
+use Rattle.screen.specs.Fits.{everybody, holder_count, line_clauses, line_fits}
 use Rattle.screen.specs.Line.{holders, waiters}
 use Rattle.screen.proofs.Laws.Holders.{holders-differ, holds-there}
 use Rattle.screen.proofs.Laws.Lists.{all-zero, among-back, among_cases, among-drop, among-either, among-front}
@@ -130,10 +130,10 @@ room hs n w h s =
 
 -- K, n and the kinds, which a line has from its opening and no move changes, within their bounds.
 pub record Bounds (k n : ℕ) (ks : List ℕ) : Type 0 where
-  pub permits : upTo32 k ≡ true
-  pub parties : upTo32 n ≡ true
-  pub known : kindsKnown ks ≡ true
-  pub desk : hasDesk ks ≡ true
+  pub permits : up_to32 k ≡ true
+  pub parties : up_to32 n ≡ true
+  pub known : kinds_known ks ≡ true
+  pub desk : has_desk ks ≡ true
 
 -- The whole line.
 pub record Fit (l : Line) : Type 0 where
@@ -141,13 +141,13 @@ pub record Fit (l : Line) : Type 0 where
   pub short : l.waiting ≤ PARTIES
   pub below : (p : ℕ) → get_or l.holding p false ≡ true → p < l.parties
   pub waits : Waits l.holding l.parties (waiters l)
-  pub few : holderCount l ≤ l.permits
-  pub full : 1 ≤ l.waiting → holderCount l ≡ l.permits
+  pub few : holder_count l ≤ l.permits
+  pub full : 1 ≤ l.waiting → holder_count l ≡ l.permits
   pub rest : (i : ℕ) → l.waiting ≤ i → get_or l.queue i 0 ≡ 0
 
 module _ (l : Line) where
   -- Everybody on the line is told from the marks and from those that wait.
-  pub waits-of : differ (everybody l) ≡ true → allPass (λ p. ltb p l.parties) (everybody l) ≡ true
+  pub waits-of : differ (everybody l) ≡ true → all_pass (λ p. ltb p l.parties) (everybody l) ≡ true
       → Waits l.holding l.parties (waiters l)
   unfolding holders
   waits-of d a =
@@ -157,13 +157,13 @@ module _ (l : Line) where
         apart = λ x e. sym (holds-there l.holding x) ∙ differ-apart (holders l) (waiters l) d x e;
       }
 
-  pub below_of : allPass (λ p. ltb p l.parties) (holders l) ≡ true
+  pub below_of : all_pass (λ p. ltb p l.parties) (holders l) ≡ true
       → (p : ℕ) → get_or l.holding p false ≡ true → p < l.parties
   unfolding holders
   below_of a p e = ltb-true _ _ (pass-each _ (holders l) a p (holds-there l.holding p ∙ e))
 
   pub holders-below : ((p : ℕ) → get_or l.holding p false ≡ true → p < l.parties)
-      → allPass (λ p. ltb p l.parties) (holders l) ≡ true
+      → all_pass (λ p. ltb p l.parties) (holders l) ≡ true
   unfolding holders
   holders-below h =
       each-passes _ (holders l) (λ x e. lt-ltb _ _ (h x (sym (holds-there l.holding x) ∙ e)))
@@ -174,8 +174,8 @@ module _ (l : Line) where
       differ-both (holders l) (waiters l) (holders-differ l.holding 0) s.distinct
       (λ x e. holds-there l.holding x ∙ s.apart x e)
 
-  pub all-below : allPass (λ p. ltb p l.parties) (holders l) ≡ true
-      → Waits l.holding l.parties (waiters l) → allPass (λ p. ltb p l.parties) (everybody l) ≡ true
+  pub all-below : all_pass (λ p. ltb p l.parties) (holders l) ≡ true
+      → Waits l.holding l.parties (waiters l) → all_pass (λ p. ltb p l.parties) (everybody l) ≡ true
   all-below a s =
       each-passes _ (everybody l)
       (λ x e.
@@ -189,37 +189,37 @@ module _ (l : Line) where
   implying true b h = h refl
   implying false b h = refl
 
-  pub front_below : allPass (λ p. ltb p l.parties) (everybody l) ≡ true
-      → allPass (λ p. ltb p l.parties) (holders l) ≡ true
+  pub front_below : all_pass (λ p. ltb p l.parties) (everybody l) ≡ true
+      → all_pass (λ p. ltb p l.parties) (holders l) ≡ true
   front_below a =
       each-passes _ (holders l) (λ x e. pass-each _ (everybody l) a x (among-front (holders l) (waiters l) x e))
 
-  pub fit : lineFits l ≡ true → Fit l
-  unfolding lineFits
+  pub fit : line_fits l ≡ true → Fit l
+  unfolding line_fits
   fit e =
-      let a = clause 4 (lineClauses l) e in
+      let a = clause 4 (line_clauses l) e in
       record {
         bounds =
             record {
-              permits = clause 0 (lineClauses l) e;
-              parties = clause 1 (lineClauses l) e;
-              known = clause 8 (lineClauses l) e;
-              desk = clause 9 (lineClauses l) e;
+              permits = clause 0 (line_clauses l) e;
+              parties = clause 1 (line_clauses l) e;
+              known = clause 8 (line_clauses l) e;
+              desk = clause 9 (line_clauses l) e;
             };
-        short = leb-true _ _ (clause 2 (lineClauses l) e);
+        short = leb-true _ _ (clause 2 (line_clauses l) e);
         below = below_of (front_below a);
-        waits = waits-of (clause 3 (lineClauses l) e) a;
-        few = leb-true _ _ (clause 5 (lineClauses l) e);
-        full = λ h. eqb-true _ _ (implied _ _ (clause 6 (lineClauses l) e) (le-leb _ _ h));
+        waits = waits-of (clause 3 (line_clauses l) e) a;
+        few = leb-true _ _ (clause 5 (line_clauses l) e);
+        full = λ h. eqb-true _ _ (implied _ _ (clause 6 (line_clauses l) e) (le-leb _ _ h));
         rest = λ i h.
             let k : l.waiting + (i - l.waiting) ≡ i = omega arith in
             ap (λ (j : ℕ). get_or l.queue j 0) (sym k)
             ∙ sym (get_or-drop l.waiting l.queue (i - l.waiting) 0)
-            ∙ zeros _ (clause 7 (lineClauses l) e) (i - l.waiting);
+            ∙ zeros _ (clause 7 (line_clauses l) e) (i - l.waiting);
       }
 
-  pub fits : Fit l → lineFits l ≡ true
-  unfolding lineFits
+  pub fits : Fit l → line_fits l ≡ true
+  unfolding line_fits
   fits f =
       passed _ _ f.bounds.permits
       (passed _ _ f.bounds.parties

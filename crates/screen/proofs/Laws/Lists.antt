@@ -8,7 +8,7 @@ use native.Mathlib.Omega.{arith}
 use borrow.Author.Tests.{eq-eqb, ne_eqb, eqb-true, not-true}
 use lib.Dec.{eqb}
 use lib.ListN.{get_or, drop}
-use Rattle.hub.specs.Basics.{allPass, among}
+use Rattle.hub.specs.Basics.{all_pass, among}
 use Rattle.hub.specs.Radios.{differ}
 use Rattle.hub.proofs.Laws.Bools.{both, first, second}
 
@@ -66,27 +66,27 @@ among-either (y ∷ l) m x e f g =
     (λ i. among-either l m x i (λ j. f (among_later l x y j)) g)
 
 -- Every element passes.
-pub pass-each : (f : ℕ → Bool) (l : List ℕ) → allPass f l ≡ true → (x : ℕ) → among l x ≡ true → f x ≡ true
-unfolding allPass
+pub pass-each : (f : ℕ → Bool) (l : List ℕ) → all_pass f l ≡ true → (x : ℕ) → among l x ≡ true → f x ≡ true
+unfolding all_pass
 pass-each f [] e x i = absurd (never (sym i))
 pass-each f (y ∷ l) e x i =
     among_cases l x y i (λ j. ap f j ∙ first (f y) _ e) (pass-each f l (second (f y) _ e) x)
 
-pub each-passes : (f : ℕ → Bool) (l : List ℕ) → ((x : ℕ) → among l x ≡ true → f x ≡ true) → allPass f l ≡ true
-unfolding allPass
+pub each-passes : (f : ℕ → Bool) (l : List ℕ) → ((x : ℕ) → among l x ≡ true → f x ≡ true) → all_pass f l ≡ true
+unfolding all_pass
 each-passes f [] h = refl
 each-passes f (y ∷ l) h =
     both (f y) _ (h y (among-here l y y refl)) (each-passes f l (λ x i. h x (among_later l x y i)))
 
 -- All are 0.
-pub zeros : (l : List ℕ) → allPass (λ b. eqb b 0) l ≡ true → (i : ℕ) → get_or l i 0 ≡ 0
-unfolding allPass
+pub zeros : (l : List ℕ) → all_pass (λ b. eqb b 0) l ≡ true → (i : ℕ) → get_or l i 0 ≡ 0
+unfolding all_pass
 zeros [] e i = refl
 zeros (y ∷ l) e zero = eqb-true y 0 (first (eqb y 0) _ e)
 zeros (y ∷ l) e (suc i) = zeros l (second (eqb y 0) _ e) i
 
-pub all-zero : (l : List ℕ) → ((i : ℕ) → get_or l i 0 ≡ 0) → allPass (λ b. eqb b 0) l ≡ true
-unfolding allPass
+pub all-zero : (l : List ℕ) → ((i : ℕ) → get_or l i 0 ≡ 0) → all_pass (λ b. eqb b 0) l ≡ true
+unfolding all_pass
 all-zero [] h = refl
 all-zero (y ∷ l) h = both (eqb y 0) _ (eq-eqb y 0 (h 0)) (all-zero l (λ i. h (suc i)))
 

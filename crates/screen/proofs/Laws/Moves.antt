@@ -7,13 +7,13 @@ use lib.ListN.{length, set, take, drop, length-append, length-drop}
 use lib.Seq.{length-take-le}
 use Rattle.hub.specs.Radios.{padded}
 use Rattle.screen.specs.declared.record.Line.{Line}
-use Rattle.screen.specs.Line.{waiters, withWaiters}
+use Rattle.screen.specs.Line.{waiters, with_waiters}
 use Rattle.screen.proofs.Laws.Fit.{Fit}
 use Rattle.screen.proofs.Laws.Places.{Shifted, joined, left, taken-length}
 
 -- The line with other bytes in its queue.
-abbrev pub withQueue : List ℕ → ℕ → Line → Line
-withQueue q n l =
+abbrev pub with_queue : List ℕ → ℕ → Line → Line
+with_queue q n l =
     record {
       permits = l.permits;
       parties = l.parties;
@@ -24,7 +24,7 @@ withQueue q n l =
       waiting = n;
     }
 
-pub same_queue : (l : Line) (w q : List ℕ) (n : ℕ) → q ≡ padded w → n ≡ length w → withQueue q n l ≡ withWaiters w l
+pub same_queue : (l : Line) (w q : List ℕ) (n : ℕ) → q ≡ padded w → n ≡ length w → with_queue q n l ≡ with_waiters w l
 same_queue l w q n e f = rw (e, f)
 
 module _ (l : Line) (f : Fit l) (size : length l.queue ≡ 32) where
@@ -33,7 +33,7 @@ module _ (l : Line) (f : Fit l) (size : length l.queue ≡ 32) where
   waiters-length = taken-length l.queue l.waiting size f.short f.rest
 
   pub joins : (x : ℕ) → l.waiting < 32
-      → withQueue (set l.queue l.waiting x) (l.waiting + 1) l ≡ withWaiters (waiters l ++ (x ∷ [])) l
+      → with_queue (set l.queue l.waiting x) (l.waiting + 1) l ≡ with_waiters (waiters l ++ (x ∷ [])) l
   unfolding waiters
   joins x h =
       same_queue l _ _ _ (joined l.queue l.waiting size f.short f.rest x h)
@@ -41,7 +41,7 @@ module _ (l : Line) (f : Fit l) (size : length l.queue ≡ 32) where
 
   pub leaves : (at : ℕ) (v : List ℕ) (i last : ℕ) → Shifted l.queue l.waiting at v i → last ≤ i
       → suc last ≡ l.waiting
-      → withQueue (set v last 0) last l ≡ withWaiters (take at (waiters l) ++ drop (suc at) (waiters l)) l
+      → with_queue (set v last 0) last l ≡ with_waiters (take at (waiters l) ++ drop (suc at) (waiters l)) l
   unfolding waiters
   leaves at v i last s h e =
       same_queue l _ _ _ (left l.queue l.waiting size f.short f.rest at v i last s h e)

@@ -19,11 +19,11 @@ use Rattle.hub.proofs.Laws.Printed.{no-refusal}
 use Rattle.screen.specs.declared.record.Line.{Line}
 use Rattle.screen.specs.declared.record.Moved.{Moved}
 use Rattle.screen.specs.declared.record.Operation.{Operation}
-use Rattle.screen.specs.Fits.{holderCount}
-use Rattle.screen.specs.Line.{openedLine}
-use Rattle.screen.specs.Moves.{acquire, cancel, checkedMove, hasPermit, hasWaiter, isAccepted, lineMove}
-use Rattle.screen.specs.Moves.{lineOpening, noLine, ownMove, refusedMove, release}
-use Rattle.screen.specs.Steps.{TO-HAND-OVER, TO-WAIT, ownSteps, stepsToRest, toCounter}
+use Rattle.screen.specs.Fits.{holder_count}
+use Rattle.screen.specs.Line.{opened_line}
+use Rattle.screen.specs.Moves.{acquire, cancel, checked_move, has_permit, has_waiter, is_accepted, line_move}
+use Rattle.screen.specs.Moves.{line_opening, no_line, own_move, refused_move, release}
+use Rattle.screen.specs.Steps.{TO_HAND_OVER, TO_WAIT, own_steps, steps_to_rest, to_counter}
 
 pub with-printed : {m d : Moved} → m ≡ d → (m ≡ d) × (printed m.answer ≡ printed d.answer)
 with-printed e = (e, ap (λ (m : Moved). printed m.answer) e)
@@ -51,20 +51,20 @@ release-told false b l p = turned Refusal.NotHolding
 release-told true true l p = taken
 release-told true false l p = taken
 
-own-told : (l : Line) (o : Operation) (p : ℕ) → Told (ownMove l o p).answer
-unfolding ownMove
+own-told : (l : Line) (o : Operation) (p : ℕ) → Told (own_move l o p).answer
+unfolding own_move
 own-told l Operation.Acquire p = acquire-told _ _ l p
 own-told l Operation.Cancel p = cancel-told _ _ l p
 own-told l Operation.Release p = release-told _ _ l p
 
-checked-told : (a b : Bool) (l : Line) (m : Moved) → Told m.answer → Told (checkedMove a b l m).answer
-unfolding checkedMove
+checked-told : (a b : Bool) (l : Line) (m : Moved) → Told m.answer → Told (checked_move a b l m).answer
+unfolding checked_move
 checked-told false b l m t = turned Refusal.Unfit
 checked-told true false l m t = turned Refusal.NoSuchParty
 checked-told true true l m t = t
 
-pub told : (l : Line) (o : Operation) (p : ℕ) → Told (lineMove l o p).answer
-unfolding lineMove
+pub told : (l : Line) (o : Operation) (p : ℕ) → Told (line_move l o p).answer
+unfolding line_move
 told l o p = checked-told _ _ l _ (own-told l o p)
 
 -- The tags of all answers but 20: here they are refusals.
@@ -73,52 +73,52 @@ OTHERS =
     0 ∷ 1 ∷ 3 ∷ 4 ∷ 5 ∷ 6 ∷ 7 ∷ 8 ∷ 9 ∷ 10 ∷ 11 ∷ 12 ∷ 13 ∷ 14 ∷ 15 ∷ 16 ∷ 17 ∷ 18 ∷ 19 ∷ 20 ∷ 21 ∷ 22 ∷ 23 ∷ 24
     ∷ 25 ∷ 26 ∷ []
 
-pub not_taken : {y : Answer} → Told y → OneOf OTHERS (tag_of answer.the_type y) → isAccepted y ≡ false
+pub not_taken : {y : Answer} → Told y → OneOf OTHERS (tag_of answer.the_type y) → is_accepted y ≡ false
 not_taken taken t = absurd (miss OTHERS 2 tt t)
 not_taken (turned r) t = no-refusal r 0x20 (omega arith)
 
 module _ (l : Line) (o : Operation) (p : ℕ) where
-  pub no_steps : isAccepted (lineMove l o p).answer ≡ false → stepsToRest l o p ≡ 0
-  unfolding stepsToRest
+  pub no_steps : is_accepted (line_move l o p).answer ≡ false → steps_to_rest l o p ≡ 0
+  unfolding steps_to_rest
   no_steps e = rw e
 
-  pub some-steps : (lineMove l o p).answer ≡ Answer.Accepted → stepsToRest l o p ≡ ownSteps l o
-  unfolding stepsToRest
+  pub some-steps : (line_move l o p).answer ≡ Answer.Accepted → steps_to_rest l o p ≡ own_steps l o
+  unfolding steps_to_rest
   some-steps e = rw e
 
 -- The steps of each operation.
 module _ (l : Line) where
-  pub at-counter : holderCount l < l.permits → ownSteps l Operation.Acquire ≡ toCounter l.named
-  unfolding ownSteps hasPermit
-  at-counter h = rw (lt-ltb (holderCount l) l.permits h)
+  pub at-counter : holder_count l < l.permits → own_steps l Operation.Acquire ≡ to_counter l.named
+  unfolding own_steps has_permit
+  at-counter h = rw (lt-ltb (holder_count l) l.permits h)
 
-  pub must-wait : l.permits ≤ holderCount l → ownSteps l Operation.Acquire ≡ TO-WAIT
-  unfolding ownSteps hasPermit
-  must-wait h = rw (le-ltb (holderCount l) l.permits h)
+  pub must-wait : l.permits ≤ holder_count l → own_steps l Operation.Acquire ≡ TO_WAIT
+  unfolding own_steps has_permit
+  must-wait h = rw (le-ltb (holder_count l) l.permits h)
 
-  pub hands-over : 1 ≤ l.waiting → ownSteps l Operation.Release ≡ TO-HAND-OVER
-  unfolding ownSteps hasWaiter
+  pub hands-over : 1 ≤ l.waiting → own_steps l Operation.Release ≡ TO_HAND_OVER
+  unfolding own_steps has_waiter
   hands-over h = rw (le-leb 1 l.waiting h)
 
-  pub to-counter : l.waiting < 1 → ownSteps l Operation.Release ≡ toCounter l.named
-  unfolding ownSteps hasWaiter
+  pub to-counter : l.waiting < 1 → own_steps l Operation.Release ≡ to_counter l.named
+  unfolding own_steps has_waiter
   to-counter h = rw (lt-leb 1 l.waiting h)
 
 -- An opening, as it ends at the hub: refused, or all its tests are passed.
 module _ (o : Opening) where
-  abbrev lineBy : Bool → Outcome → Moved
-  lineBy b x = record { answer = x.answer; line = cond b (openedLine o) noLine }
+  abbrev line_by : Bool → Outcome → Moved
+  line_by b x = record { answer = x.answer; line = cond b (opened_line o) no_line }
 
   refused-by : (b : Bool) (x : Outcome) (r : Refusal) → Ends o b x → x.answer ≡ Answer.Refused r
-      → lineBy b x ≡ refusedMove r noLine
-  refused-by false x r (Ends.refused q) e = ap (λ (y : Answer). record { answer = y; line = noLine }) e
+      → line_by b x ≡ refused_move r no_line
+  refused-by false x r (Ends.refused q) e = ap (λ (y : Answer). record { answer = y; line = no_line }) e
   refused-by true x r Ends.opened e = let z : ◌≡◌ {A = ℕ} 0 1 = cc in let w : ⊥ = omega arith in absurd w
 
-  pub not_opened : (r : Refusal) → (opening o).answer ≡ Answer.Refused r → lineOpening o ≡ refusedMove r noLine
-  unfolding lineOpening
-  not_opened r e = refused-by _ _ r (ends o (tests o)) e
+  pub not_opened_lem : (r : Refusal) → (opening o).answer ≡ Answer.Refused r → line_opening o ≡ refused_move r no_line
+  unfolding line_opening
+  not_opened_lem r e = refused-by _ _ r (ends o (tests o)) e
 
   pub opens : NotRefused (opening o).answer
-      → lineOpening o ≡ record { answer = Answer.Opened; line = openedLine o }
-  unfolding lineOpening
-  opens t = let z = not-refused o _ _ (ends o (tests o)) t in (λ i. lineBy (z.0 i) (z.1 i))
+      → line_opening o ≡ record { answer = Answer.Opened; line = opened_line o }
+  unfolding line_opening
+  opens t = let z = not-refused o _ _ (ends o (tests o)) t in (λ i. line_by (z.0 i) (z.1 i))

@@ -9,12 +9,12 @@ use borrow.Author.Tests.{le-ltb, ne_eqb, eq-eqb}
 use lib.Dec.{eqb, ltb}
 use lib.ListN.{length, get_or, set, take, drop, drop_of_length-le}
 use lib.Seq.{drop-cons, get_or-take, length-take-le}
-use Rattle.hub.specs.Basics.{allPass}
+use Rattle.hub.specs.Basics.{all_pass}
 use Rattle.hub.specs.Radios.{differ}
 use Rattle.hub.proofs.Laws.Bools.{both, first, second}
 use Rattle.screen.specs.declared.record.Line.{Line}
 use Rattle.screen.specs.Fits.{everybody}
-use Rattle.screen.specs.Line.{holders, holdersFrom, waiters}
+use Rattle.screen.specs.Line.{holders, holders_from, waiters}
 use Rattle.screen.proofs.Laws.Fit.{Waits, all-below, all-differ, marked-held, marked-waits, marks}
 use Rattle.screen.proofs.Laws.Fit.{unmarked, waits-cons, waits-drop, waits-none, waits-of}
 use Rattle.screen.proofs.Laws.Holders.{below-skipped, next-free, next-holds}
@@ -25,7 +25,7 @@ pub record Counted (hs : List Bool) (count p : ℕ) : Type 0 where
   pub size : length hs ≡ 32
   pub within : p ≤ 32
   pub small : count ≤ p
-  pub sum : count + length (holdersFrom p (drop p hs)) ≡ length (holdersFrom 0 hs)
+  pub sum : count + length (holders_from p (drop p hs)) ≡ length (holders_from 0 hs)
 
 module _ (hs : List Bool) (count p : ℕ) (c : Counted hs count p) (h : p < 32) where
   pub counted-not : get_or hs p false ≡ false → Counted hs count (p + 1)
@@ -46,16 +46,16 @@ module _ (hs : List Bool) (count p : ℕ) (c : Counted hs count p) (h : p < 32) 
         sum = omega (arith, c.sum, ap length (next-holds hs p (omega (arith, c.size)) e));
       }
 
-pub counted-all : (hs : List Bool) (count p : ℕ) → Counted hs count p → 32 ≤ p → count ≡ length (holdersFrom 0 hs)
-unfolding holdersFrom
+pub counted-all : (hs : List Bool) (count p : ℕ) → Counted hs count p → 32 ≤ p → count ≡ length (holders_from 0 hs)
+unfolding holders_from
 counted-all hs count p c h =
-    omega (arith, c.sum, ap (λ (l : List Bool). length (holdersFrom p l)) (drop_of_length-le hs {i = p} (omega (arith, c.size))))
+    omega (arith, c.sum, ap (λ (l : List Bool). length (holders_from p l)) (drop_of_length-le hs {i = p} (omega (arith, c.size))))
 
 -- None of the holders before p is n or above.
 pub record Below (n : ℕ) (hs : List Bool) (p : ℕ) : Type 0 where
   pub size : length hs ≡ 32
   pub from : n ≤ p
-  pub rest : allPass (λ q. ltb q n) (holdersFrom p (drop p hs)) ≡ allPass (λ q. ltb q n) (holdersFrom 0 hs)
+  pub rest : all_pass (λ q. ltb q n) (holders_from p (drop p hs)) ≡ all_pass (λ q. ltb q n) (holders_from 0 hs)
 
 pub below-start : (n : ℕ) (hs : List Bool) → length hs ≡ 32 → Below n hs n
 below-start n hs s =
@@ -64,15 +64,15 @@ below-start n hs s =
       size = s;
       from = omega arith;
       rest =
-          sym (ap (λ (p : ℕ). allPass (λ q. ltb q n) (holdersFrom p (drop n hs))) e)
+          sym (ap (λ (p : ℕ). all_pass (λ q. ltb q n) (holders_from p (drop n hs))) e)
           ∙ sym (below-skipped n n 0 hs (omega arith));
     }
 
 module _ (n : ℕ) (hs : List Bool) (p : ℕ) (b : Below n hs p) (h : p < 32) where
-  pub below-found : get_or hs p false ≡ true → false ≡ allPass (λ q. ltb q n) (holdersFrom 0 hs)
-  unfolding allPass
+  pub below-found : get_or hs p false ≡ true → false ≡ all_pass (λ q. ltb q n) (holders_from 0 hs)
+  unfolding all_pass
   below-found e =
-      sym (ap (allPass (λ q. ltb q n)) (next-holds hs p (omega (arith, b.size)) e)
+      sym (ap (all_pass (λ q. ltb q n)) (next-holds hs p (omega (arith, b.size)) e)
       ∙ rw (le-ltb p n b.from)) ∙ b.rest
 
   pub below_next : get_or hs p false ≡ false → Below n hs (p + 1)
@@ -80,13 +80,13 @@ module _ (n : ℕ) (hs : List Bool) (p : ℕ) (b : Below n hs p) (h : p < 32) wh
       record {
         size = b.size;
         from = omega (arith, b.from);
-        rest = sym (ap (allPass (λ q. ltb q n)) (next-free hs p (omega (arith, b.size)) e)) ∙ b.rest;
+        rest = sym (ap (all_pass (λ q. ltb q n)) (next-free hs p (omega (arith, b.size)) e)) ∙ b.rest;
       }
 
-pub below_all : (n : ℕ) (hs : List Bool) (p : ℕ) → Below n hs p → 32 ≤ p → true ≡ allPass (λ q. ltb q n) (holdersFrom 0 hs)
-unfolding holdersFrom allPass
+pub below_all : (n : ℕ) (hs : List Bool) (p : ℕ) → Below n hs p → 32 ≤ p → true ≡ all_pass (λ q. ltb q n) (holders_from 0 hs)
+unfolding holders_from all_pass
 below_all n hs p b h =
-    sym (ap (λ (l : List Bool). allPass (λ q. ltb q n) (holdersFrom p l))
+    sym (ap (λ (l : List Bool). all_pass (λ q. ltb q n) (holders_from p l))
     (drop_of_length-le hs {i = p} (omega (arith, b.size)))) ∙ b.rest
 
 -- Of the m that wait, those from the i-th on are below n, different, not holding, and marked.
@@ -173,35 +173,35 @@ walked_all hs n q m met (suc i) k h = absurd (omega arith)
 -- What the walk says of everybody on the line.
 module _ (l : Line) where
   pub misfit : (Waits l.holding l.parties (waiters l) → ⊥)
-      → false ≡ differ (everybody l) && allPass (λ p. ltb p l.parties) (everybody l)
+      → false ≡ differ (everybody l) && all_pass (λ p. ltb p l.parties) (everybody l)
   misfit h = sym (not_so _ (λ e. h (waits-of l (first (differ (everybody l)) _ e) (second (differ (everybody l)) _ e))))
 
-  pub all-met : allPass (λ p. ltb p l.parties) (holders l) ≡ true → Waits l.holding l.parties (waiters l)
-      → true ≡ differ (everybody l) && allPass (λ p. ltb p l.parties) (everybody l)
+  pub all-met : all_pass (λ p. ltb p l.parties) (holders l) ≡ true → Waits l.holding l.parties (waiters l)
+      → true ≡ differ (everybody l) && all_pass (λ p. ltb p l.parties) (everybody l)
   all-met a s = sym (both _ _ (all-differ l s) (all-below l a s))
 
 -- The bytes behind those that wait.
 pub record Zeros (w : ℕ) (q : List ℕ) (i : ℕ) : Type 0 where
   pub size : length q ≡ 32
-  pub rest : allPass (λ b. eqb b 0) (drop i q) ≡ allPass (λ b. eqb b 0) (drop w q)
+  pub rest : all_pass (λ b. eqb b 0) (drop i q) ≡ all_pass (λ b. eqb b 0) (drop w q)
 
 module _ (w : ℕ) (q : List ℕ) (i : ℕ) (z : Zeros w q i) where
   byte : i < 32 → drop i q ≡ get_or q i 0 ∷ drop (i + 1) q
   byte h = rw (add-one, drop-cons q i 0 (omega (arith, z.size)))
 
-  pub zero-not : i < 32 → (get_or q i 0 ≡ 0 → ⊥) → false ≡ allPass (λ b. eqb b 0) (drop w q)
-  unfolding allPass
-  zero-not h e = sym (ap (allPass (λ b. eqb b 0)) (byte h) ∙ rw (ne_eqb _ _ e)) ∙ z.rest
+  pub zero-not : i < 32 → (get_or q i 0 ≡ 0 → ⊥) → false ≡ all_pass (λ b. eqb b 0) (drop w q)
+  unfolding all_pass
+  zero-not h e = sym (ap (all_pass (λ b. eqb b 0)) (byte h) ∙ rw (ne_eqb _ _ e)) ∙ z.rest
 
   pub zero-next : i < 32 → get_or q i 0 ≡ 0 → Zeros w q (i + 1)
-  unfolding allPass
+  unfolding all_pass
   zero-next h e =
       record {
         size = z.size;
-        rest = sym (ap (allPass (λ b. eqb b 0)) (byte h) ∙ rw (eq-eqb _ _ e)) ∙ z.rest;
+        rest = sym (ap (all_pass (λ b. eqb b 0)) (byte h) ∙ rw (eq-eqb _ _ e)) ∙ z.rest;
       }
 
-  pub zero-all : 32 ≤ i → true ≡ allPass (λ b. eqb b 0) (drop w q)
-  unfolding allPass
+  pub zero-all : 32 ≤ i → true ≡ all_pass (λ b. eqb b 0) (drop w q)
+  unfolding all_pass
   zero-all h =
-      sym (ap (allPass (λ b. eqb b 0)) (drop_of_length-le q {i = i} (omega (arith, z.size)))) ∙ z.rest
+      sym (ap (all_pass (λ b. eqb b 0)) (drop_of_length-le q {i = i} (omega (arith, z.size)))) ∙ z.rest

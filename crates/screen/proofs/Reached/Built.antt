@@ -10,16 +10,16 @@ use Rattle.hub.specs.declared.answers.Answer.{Answer}
 use Rattle.hub.specs.declared.opening.Opening.{Opening}
 use Rattle.hub.specs.declared.record.Outcome.{Outcome}
 use Rattle.hub.specs.Basics.{among, bit, weight}
-use Rattle.hub.specs.Opening.{opening, radiosDiffer}
+use Rattle.hub.specs.Opening.{opening, radios_differ}
 use Rattle.hub.specs.Radios.{STORE, differ, padded}
 use Rattle.hub.proofs.Laws.Lists.{weight-append, weight-replicate}
 use Rattle.hub.proofs.Laws.Opening.{by-kinds, kinds-pass, named-differ, unnamed-differ}
 use Rattle.hub.proofs.Laws.Radios.{radios-of}
 use Rattle.screen.specs.declared.record.Line.{Line}
 use Rattle.screen.specs.declared.record.Operation.{Operation}
-use Rattle.screen.specs.Line.{holdersFrom, openedLine, waiters}
-use Rattle.screen.specs.Moves.{lineMove}
-use Rattle.screen.specs.Reached.{DeskRequest, LineReached, lineAfter}
+use Rattle.screen.specs.Line.{holders_from, opened_line, waiters}
+use Rattle.screen.specs.Moves.{line_move}
+use Rattle.screen.specs.Reached.{DeskRequest, LineReached, line_after}
 use Rattle.screen.proofs.Laws.Answers.{acquires, own, queues}
 use Rattle.screen.proofs.Laws.Fit.{Bounds, Waits, fits, waits-none}
 use Rattle.screen.proofs.Laws.Lists.{among-back, among-front, among-here, differ-apart, differ-cons, differ-head}
@@ -31,16 +31,16 @@ use Rattle.screen.proofs.Reached.Sound.{waiters-of}
 abbrev asks : List ℕ → List DeskRequest
 asks ps = map (λ p. record { operation = Operation.Acquire; party = p }) ps
 
-after-append : (l : Line) (a b : List DeskRequest) → lineAfter l (a ++ b) ≡ lineAfter (lineAfter l a) b
-unfolding lineAfter
+after-append : (l : Line) (a b : List DeskRequest) → line_after l (a ++ b) ≡ line_after (line_after l a) b
+unfolding line_after
 after-append l [] b = refl
 after-append l (r ∷ a) b = after-append _ a b
 
 after_one : (l : Line) (r : DeskRequest) (rs : List DeskRequest) (m : Line)
-    → (lineMove l r.operation r.party).line ≡ m
-    → lineAfter l (r ∷ rs) ≡ lineAfter m rs
-unfolding lineAfter
-after_one l r rs m e = ap (λ (x : Line). lineAfter x rs) e
+    → (line_move l r.operation r.party).line ≡ m
+    → line_after l (r ∷ rs) ≡ line_after m rs
+unfolding line_after
+after_one l r rs m e = ap (λ (x : Line). line_after x rs) e
 
 -- The front of lists that differ, and of those that wait.
 differ-front : (l m : List ℕ) → differ (l ++ m) ≡ true → differ l ≡ true
@@ -69,14 +69,14 @@ module _ (l : Line) (hs : List Bool) (w : List ℕ) (p : ℕ) (g : Good l hs w) 
   nowhere = ap (λ (v : List ℕ). among v p) (waiters-of l hs w g.short) ∙ a
 
   ask_holds : weight bit hs < l.permits
-      → (lineMove (line_of l hs w) Operation.Acquire p).line ≡ line_of l (set hs p true) w
+      → (line_move (line_of l hs w) Operation.Acquire p).line ≡ line_of l (set hs p true) w
   ask_holds k =
       ap (λ m. m.line)
       (own (line_of l hs w) p Operation.Acquire (fits _ sound.fit) h
       ∙ acquires (line_of l hs w) p e nowhere (omega (arith, holder-count-is (line_of l hs w))))
 
   ask-waits : l.permits ≤ weight bit hs
-      → (lineMove (line_of l hs w) Operation.Acquire p).line ≡ line_of l hs (w ++ (p ∷ []))
+      → (line_move (line_of l hs w) Operation.Acquire p).line ≡ line_of l hs (w ++ (p ∷ []))
   ask-waits k =
       ap (λ m. m.line)
       (own (line_of l hs w) p Operation.Acquire (fits _ sound.fit) h
@@ -119,27 +119,27 @@ module _ (l : Line) (hs : List Bool) (g : Good l hs []) where
         full = λ i. absurd (omega arith);
       }
 
-  all_hold : (front rest : List Bool) → front ++ rest ≡ hs
-      → lineAfter (line_of l (front ++ replicate (length rest) false) []) (asks (holdersFrom (length front) rest))
+  all_hold_lem : (front rest : List Bool) → front ++ rest ≡ hs
+      → line_after (line_of l (front ++ replicate (length rest) false) []) (asks (holders_from (length front) rest))
       ≡ line_of l hs []
-  unfolding holdersFrom lineAfter weight
-  all_hold front [] e = ap (λ (x : List Bool). line_of l x []) e
-  all_hold front (false ∷ rest) e =
+  unfolding holders_from line_after weight
+  all_hold_lem front [] e = ap (λ (x : List Bool). line_of l x []) e
+  all_hold_lem front (false ∷ rest) e =
       let n : length (front ++ (false ∷ [])) ≡ suc (length front) = omega (arith, length-append front (false ∷ [])) in
-      ap (λ (x : List Bool). lineAfter (line_of l x []) (asks (holdersFrom (suc (length front)) rest)))
+      ap (λ (x : List Bool). line_after (line_of l x []) (asks (holders_from (suc (length front)) rest)))
       (sym (append_assoc front (false ∷ []) (replicate (length rest) false)))
       ∙ ap
       (λ (k : ℕ).
-      lineAfter (line_of l ((front ++ (false ∷ [])) ++ replicate (length rest) false) []) (asks (holdersFrom k rest)))
+      line_after (line_of l ((front ++ (false ∷ [])) ++ replicate (length rest) false) []) (asks (holders_from k rest)))
       (sym n)
-      ∙ all_hold (front ++ (false ∷ [])) rest (append_assoc front (false ∷ []) rest ∙ e)
-  all_hold front (true ∷ rest) e =
+      ∙ all_hold_lem (front ++ (false ∷ [])) rest (append_assoc front (false ∷ []) rest ∙ e)
+  all_hold_lem front (true ∷ rest) e =
       let n : length (front ++ (true ∷ [])) ≡ suc (length front) = omega (arith, length-append front (true ∷ [])) in
       let f = good-front front (true ∷ rest) e in
       let b : length front < l.parties =
       g.below (length front)
       (ap (λ (x : List Bool). get_or x (length front) false) (sym e) ∙ get_or-append_seam front true rest false) in
-      after_one _ _ (asks (holdersFrom (suc (length front)) rest)) _
+      after_one _ _ (asks (holders_from (suc (length front)) rest)) _
       (ask_holds l _ [] (length front) f b
       (get_or-append_seam front false (replicate (length rest) false) false)
       refl
@@ -156,9 +156,9 @@ module _ (l : Line) (hs : List Bool) (g : Good l hs []) where
       ∙ sym (append_assoc front (true ∷ []) (replicate (length rest) false))))
       ∙ ap
       (λ (k : ℕ).
-      lineAfter (line_of l ((front ++ (true ∷ [])) ++ replicate (length rest) false) []) (asks (holdersFrom k rest)))
+      line_after (line_of l ((front ++ (true ∷ [])) ++ replicate (length rest) false) []) (asks (holders_from k rest)))
       (sym n)
-      ∙ all_hold (front ++ (true ∷ [])) rest (append_assoc front (true ∷ []) rest ∙ e)
+      ∙ all_hold_lem (front ++ (true ∷ [])) rest (append_assoc front (true ∷ []) rest ∙ e)
 
 -- Then those that wait.
 module _ (l : Line) (hs : List Bool) (ws : List ℕ) (g : Good l hs ws) where
@@ -175,8 +175,8 @@ module _ (l : Line) (hs : List Bool) (ws : List ℕ) (g : Good l hs ws) where
       }
 
   all-wait : (front rest : List ℕ) → front ++ rest ≡ ws
-      → lineAfter (line_of l hs front) (asks rest) ≡ line_of l hs ws
-  unfolding lineAfter
+      → line_after (line_of l hs front) (asks rest) ≡ line_of l hs ws
+  unfolding line_after
   all-wait front [] e = ap (λ (x : List ℕ). line_of l hs x) (sym (nil front) ∙ e)
     where
       nil : (x : List ℕ) → x ++ [] ≡ x
@@ -204,55 +204,55 @@ good-nobody l hs w g =
     }
 
 -- The opening. No line shows its radios: here they are 0, 1, 2 and so on.
-countFrom : ℕ → ℕ → List ℕ
-countFrom r zero = []
-countFrom r (suc n) = r ∷ countFrom (suc r) n
+count_from : ℕ → ℕ → List ℕ
+count_from r zero = []
+count_from r (suc n) = r ∷ count_from (suc r) n
 
 module _ (l : Line) where
-  abbrev openingOf : Opening
-  openingOf =
+  abbrev opening_of : Opening
+  opening_of =
       record {
         permits = l.permits;
         parties = l.parties;
         named = l.named;
-        radios = countFrom 0 STORE;
+        radios = count_from 0 STORE;
         kinds = l.kinds;
         counted = true;
       }
 
-  opened-is : openedLine openingOf ≡ line_of l (replicate 32 false) []
-  unfolding openedLine padded
+  opened-is : opened_line opening_of ≡ line_of l (replicate 32 false) []
+  unfolding opened_line padded
   opened-is = refl
 
-  radios-differ : (b : Bool) → l.named ≡ b → radiosDiffer openingOf ≡ true
-  unfolding countFrom differ
-  radios-differ false e = unnamed-differ openingOf e
+  radios-differ : (b : Bool) → l.named ≡ b → radios_differ opening_of ≡ true
+  unfolding count_from differ
+  radios-differ false e = unnamed-differ opening_of e
   radios-differ true e =
-      let rs = countFrom 0 STORE in
-      named-differ openingOf e ∙ ap differ (radios-of openingOf refl)
+      let rs = count_from 0 STORE in
+      named-differ opening_of e ∙ ap differ (radios-of opening_of refl)
       ∙ differ-front (take l.permits rs) (drop l.permits rs) (ap differ (take-append-drop l.permits rs))
 
-  opening-accepted : Bounds l.permits l.parties l.kinds → (opening openingOf).answer ≡ Answer.Opened
+  opening-accepted : Bounds l.permits l.parties l.kinds → (opening opening_of).answer ≡ Answer.Opened
   opening-accepted b =
       ap (λ (x : Outcome). x.answer)
-      (by-kinds openingOf b.permits b.parties (radios-differ l.named refl)
-      ∙ kinds-pass openingOf refl b.known b.desk)
+      (by-kinds opening_of b.permits b.parties (radios-differ l.named refl)
+      ∙ kinds-pass opening_of refl b.known b.desk)
 
 pub sound-reached : (l : Line) → length l.kinds ≡ 32 → Sound l → LineReached l
-unfolding countFrom
+unfolding count_from
 sound-reached l k s =
     let g = good l s in
-    let h = all_hold l l.holding (good-nobody l _ _ g) [] l.holding refl in
+    let h = all_hold_lem l l.holding (good-nobody l _ _ g) [] l.holding refl in
     record {
-      start = openingOf l;
+      start = opening_of l;
       arrays = record { radios = refl; kinds = k };
       accepted = opening-accepted l s.fit.bounds;
-      requests = asks (holdersFrom 0 l.holding) ++ asks (waiters l);
+      requests = asks (holders_from 0 l.holding) ++ asks (waiters l);
       leads =
-          ap (λ (m : Line). lineAfter m (asks (holdersFrom 0 l.holding) ++ asks (waiters l)))
+          ap (λ (m : Line). line_after m (asks (holders_from 0 l.holding) ++ asks (waiters l)))
           (opened-is l ∙ ap (λ (n : ℕ). line_of l (replicate n false) []) (sym s.holding))
-          ∙ after-append _ (asks (holdersFrom 0 l.holding)) (asks (waiters l))
-          ∙ ap (λ (m : Line). lineAfter m (asks (waiters l))) h
+          ∙ after-append _ (asks (holders_from 0 l.holding)) (asks (waiters l))
+          ∙ ap (λ (m : Line). line_after m (asks (waiters l))) h
           ∙ all-wait l l.holding (waiters l) g [] (waiters l) refl
           ∙ sym (same_line l s l.holding);
     }

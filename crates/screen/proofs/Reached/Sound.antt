@@ -15,8 +15,8 @@ use Rattle.hub.proofs.Laws.Bools.{second}
 use Rattle.hub.proofs.Laws.Lists.{weight-set}
 use Rattle.hub.proofs.Laws.Radios.{padded-length}
 use Rattle.screen.specs.declared.record.Line.{Line}
-use Rattle.screen.specs.Fits.{holderCount}
-use Rattle.screen.specs.Line.{holders, waiters, withHolding, withWaiters}
+use Rattle.screen.specs.Fits.{holder_count}
+use Rattle.screen.specs.Line.{holders, waiters, with_holding, with_waiters}
 use Rattle.screen.specs.Moves.{without}
 use Rattle.screen.proofs.Laws.Fit.{Bounds, Fit, Waits}
 use Rattle.screen.proofs.Laws.Holders.{held-weight}
@@ -31,13 +31,13 @@ pub record Sound (l : Line) : Type 0 where
   pub holding : length l.holding ≡ 32
   pub queue : length l.queue ≡ 32
 
-pub holder-count-is : (l : Line) → holderCount l ≡ weight bit l.holding
+pub holder-count-is : (l : Line) → holder_count l ≡ weight bit l.holding
 unfolding holders
 holder-count-is l = held-weight l.holding 0
 
 -- The line of l's opening where these hold and those wait.
 abbrev pub line_of : Line → List Bool → List ℕ → Line
-line_of l hs w = withWaiters w (withHolding hs l)
+line_of l hs w = with_waiters w (with_holding hs l)
 
 pub waiters-of : (l : Line) (hs : List Bool) (w : List ℕ) → length w ≤ 32 → waiters (line_of l hs w) ≡ w
 unfolding waiters padded
@@ -96,7 +96,7 @@ module _ (l : Line) (s : Sound l) where
   unfolding waiters
   queue-is = untouched l.queue l.waiting s.queue s.fit.short s.fit.rest
 
-  pub same_line : (hs : List Bool) → withHolding hs l ≡ line_of l hs (waiters l)
+  pub same_line : (hs : List Bool) → with_holding hs l ≡ line_of l hs (waiters l)
   same_line hs = rw (← queue-is, waiting-is)
 
 -- One more holds, or one less.

@@ -6,14 +6,14 @@ use mathlib.Core.Path.{◌≡◌, sym, ap, ◌∙◌}
 use mathlib.Core.Bool.{true}
 use Prim.Native.Nat.{ℕ, ◌≤◌}
 use lib.Dec.{eqb, leb}
-use Rattle.hub.specs.Basics.{implies, upTo32}
+use Rattle.hub.specs.Basics.{implies, up_to32}
 use Rattle.hub.proofs.Laws.Bools.{second}
 use Rattle.screen.proofs.Laws.Check.{fails, fails-holders, fails-queue, passes}
 use Rattle.screen.proofs.Laws.Lists.{gt-by}
 use Rattle.screenfit.proofs.line_fits.Statement.{statement}
 use Rattle.screenfit.proofs.line_fits.Tie as tie
 
-n-small : (n : ℕ) → upTo32 n ≡ true → n ≤ 32
+n-small : (n : ℕ) → up_to32 n ≡ true → n ≤ 32
 n-small n e = leb-true _ _ (second (leb 1 n) _ e)
 
 up-to-32-requires : tie.Need-up-to-32-requires

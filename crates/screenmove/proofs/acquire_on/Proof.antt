@@ -3,9 +3,9 @@ use borrow.Author.Rules.{rules}
 use native.Mathlib.Omega.{arith}
 use mathlib.Core.Path.{◌≡◌, sym, ap, ◌∙◌}
 use lib.ListN.{length}
-use Rattle.screen.specs.Moves.{acceptedMove}
+use Rattle.screen.specs.Moves.{accepted_move}
 use Rattle.screen.proofs.Laws.Fit.{fit}
-use Rattle.screen.proofs.Laws.Answers.{acquires, has-place, has_room, holds-already}
+use Rattle.screen.proofs.Laws.Answers.{acquires, has-place, has_room_lem, holds-already}
 use Rattle.screen.proofs.Laws.Answers.{no_place, party-small, queues, waits-already}
 use Rattle.screenmove.proofs.acquire_on.Statement.{statement}
 use Rattle.screenmove.proofs.acquire_on.Tie as tie
@@ -78,7 +78,7 @@ join-requires c κs =
     let s = c.before.before.before.before.before.before.before.before in
     let f = fit s.args.line s.requires.0 in (
       s.requires.0,
-      has_room s.args.line s.args.party f (waiting-size s) (holding-size s) s.requires.1
+      has_room_lem s.args.line s.args.party f (waiting-size s) (holding-size s) s.requires.1
           c.before.before.before.before.before.before.if1.false
           (no_place _ f (waiting-size s) _ _ c.before.before.before.before.before.place_of.ensures
           c.before.before.before.if2.false)
@@ -93,7 +93,7 @@ returns-4 c =
     let s = c.before.before.before.before.before.before.before.before.before.before in
     let f = fit s.args.line s.requires.0 in
     c.accepted-move2.ensures
-    ∙ ap acceptedMove c.before.join.ensures
+    ∙ ap accepted_move c.before.join.ensures
     ∙ sym (queues s.args.line s.args.party
     c.before.before.before.before.before.before.before.before.if1.false
     (no_place _ f (waiting-size s) _ _

@@ -3,7 +3,7 @@ use borrow.Author.Rules.{rules}
 use borrow.Author.Tests.{not-false, not-true}
 use mathlib.Core.Path.{sym, ap, ◌∙◌}
 use Rattle.screen.specs.declared.record.Operation.{Operation}
-use Rattle.screen.specs.Moves.{lineMove}
+use Rattle.screen.specs.Moves.{line_move}
 use Rattle.screen.proofs.Laws.Answers.{no-party, own, unfit}
 use Rattle.screen.proofs.Laws.Steps.{with-printed}
 use Rattle.screenmove.proofs.call.Statement.{statement}
@@ -64,7 +64,7 @@ returns-3 c =
     let s = p4 in
     with-printed (c.acquire-on.ensures
     ∙ sym (own _ _ _ (sym p3.line-fits.ensures ∙ not-false _ p2.if1.false) p1.if2.false)
-    ∙ ap (λ (o : Operation). lineMove s.args.line o s.args.party) (sym c.before.enum_told.given.1))
+    ∙ ap (λ (o : Operation). line_move s.args.line o s.args.party) (sym c.before.enum_told.given.1))
 
 returns-4 : tie.Need-returns-4
 returns-4 c =
@@ -75,7 +75,7 @@ returns-4 c =
     let s = p4 in
     with-printed (c.cancel-on.ensures
     ∙ sym (own _ _ _ (sym p3.line-fits.ensures ∙ not-false _ p2.if1.false) p1.if2.false)
-    ∙ ap (λ (o : Operation). lineMove s.args.line o s.args.party) (sym c.before.enum-told2.given.1))
+    ∙ ap (λ (o : Operation). line_move s.args.line o s.args.party) (sym c.before.enum-told2.given.1))
 
 returns-5 : tie.Need-returns-5
 returns-5 c =
@@ -86,7 +86,7 @@ returns-5 c =
     let s = p4 in
     with-printed (c.release-on.ensures
     ∙ sym (own _ _ _ (sym p3.line-fits.ensures ∙ not-false _ p2.if1.false) p1.if2.false)
-    ∙ ap (λ (o : Operation). lineMove s.args.line o s.args.party) (sym c.before.enum-told3.given.1))
+    ∙ ap (λ (o : Operation). line_move s.args.line o s.args.party) (sym c.before.enum-told3.given.1))
 
 pub call-spec : {M : Type 1} → statement M
 call-spec =

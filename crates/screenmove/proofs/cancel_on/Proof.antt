@@ -2,7 +2,7 @@
 use borrow.Author.Rules.{rules}
 use mathlib.Core.Path.{◌≡◌, sym, ap, ◌∙◌}
 use lib.ListN.{length}
-use Rattle.screen.specs.Moves.{acceptedMove}
+use Rattle.screen.specs.Moves.{accepted_move}
 use Rattle.screen.proofs.Laws.Fit.{fit}
 use Rattle.screen.proofs.Laws.Answers.{cancels, has-place, leaves-place, may-not, no_place, waits-not}
 use Rattle.screenmove.proofs.cancel_on.Statement.{statement}
@@ -60,7 +60,7 @@ returns-3 c =
     let s = p.before in
     let f = fit s.args.line s.requires in
     c.accepted-move.ensures
-    ∙ ap acceptedMove (c.before.leave.ensures ∙ leaves-place _ f (size s) _ _ p.place_of.ensures)
+    ∙ ap accepted_move (c.before.leave.ensures ∙ leaves-place _ f (size s) _ _ p.place_of.ensures)
     ∙ sym (cancels _ _ (has-place _ f (size s) _ _ p.place_of.ensures w.if1.false)
     (λ i. c.before.before.if2.false (k.kind-in.ensures ∙ i)))
 

@@ -5,9 +5,9 @@ use Rattle.hub.specs.declared.answers.Answer.{Answer}
 use Rattle.hub.proofs.Laws.Opening.{NotRefused}
 use Rattle.screen.specs.declared.record.Line.{Line}
 use Rattle.screen.specs.declared.record.Moved.{Moved}
-use Rattle.screen.specs.Line.{openedLine}
-use Rattle.screen.specs.Moves.{refusedMove}
-use Rattle.screen.proofs.Laws.Steps.{not_opened, opens, with-printed}
+use Rattle.screen.specs.Line.{opened_line}
+use Rattle.screen.specs.Moves.{refused_move}
+use Rattle.screen.proofs.Laws.Steps.{not_opened_lem, opens, with-printed}
 use Rattle.screenmove.proofs.open_line.Statement.{statement}
 use Rattle.screenmove.proofs.open_line.Tie as tie
 
@@ -34,8 +34,8 @@ returns c =
     let z = c.before.before in
     let a = z.before.before.before.before in
     with-printed (c.refused-move.ensures
-    ∙ ap (refusedMove _) (c.before.«open».ensures ∙ ap openedLine z.sized.ensures)
-    ∙ sym (not_opened a.before.args.o _
+    ∙ ap (refused_move _) (c.before.«open».ensures ∙ ap opened_line z.sized.ensures)
+    ∙ sym (not_opened_lem a.before.args.o _
     (sym a.opening-answer.ensures ∙ z.before.before.answer.given.1)))
 
 open-requires-2 : tie.Need-open-requires-2

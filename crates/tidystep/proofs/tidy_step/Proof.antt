@@ -7,11 +7,11 @@ use native.Mathlib.Omega.{arith}
 use Prim.Native.Nat.{◌+◌, ◌<◌}
 use lib.Dec.{ltb}
 use Rattle.hub.specs.declared.record.PlaceSlot.{PlaceSlot}
-use Rattle.hub.specs.Phases.{isCancelled}
+use Rattle.hub.specs.Phases.{is_cancelled}
 use Rattle.hub.specs.Ring.{PLACES}
 use Rattle.hub.proofs.Laws.Bools.{first, second, if-true, if-false}
 use Rattle.tidystep.specs.declared.TidyStep.{TidyStep}
-use Rattle.tidystep.specs.Step.{maySkip, retireTurn, skipTurn, tidyStep}
+use Rattle.tidystep.specs.Step.{may_skip, retire_turn, skip_turn, tidy_step}
 use Rattle.tidystep.proofs.tidy_step.Statement.{statement}
 use Rattle.tidystep.proofs.tidy_step.Tie as tie
 
@@ -29,25 +29,25 @@ with-seat d seat =
 
 -- It may skip, or not.
 skips : (c : tie.Then1)
-    → let a = c.before.before.args in maySkip a.skips a.ahead a.resumed a.oldest ≡ true
+    → let a = c.before.before.args in may_skip a.skips a.ahead a.resumed a.oldest ≡ true
 skips c = sym c.before.may-skip.ensures ∙ c.if1.true
 
 stays : (c : tie.Else1)
-    → let a = c.before.before.args in maySkip a.skips a.ahead a.resumed a.oldest ≡ false
+    → let a = c.before.before.args in may_skip a.skips a.ahead a.resumed a.oldest ≡ false
 stays c = sym c.before.may-skip.ensures ∙ c.if1.false
 
 some : (c : tie.Then1) → 0 < c.before.before.args.skips
 some c =
     let a = c.before.before.args in
     ltb-true 0 a.skips
-    (first (ltb 0 a.skips) (ltb a.resumed (a.oldest + PLACES) && isCancelled a.ahead.place) (skips c))
+    (first (ltb 0 a.skips) (ltb a.resumed (a.oldest + PLACES) && is_cancelled a.ahead.place) (skips c))
 
 has-place : (c : tie.Then1)
     → let a = c.before.before.args in
     a.resumed < a.oldest + PLACES
 has-place c =
     let a = c.before.before.args in
-    let cancelled = isCancelled a.ahead.place in
+    let cancelled = is_cancelled a.ahead.place in
     let window = ltb a.resumed (a.oldest + PLACES) in
     ltb-true a.resumed (a.oldest + PLACES)
     (first window cancelled (second (ltb 0 a.skips) (window && cancelled) (skips c)))
@@ -65,11 +65,11 @@ with-place-requires : tie.Need-with-place-requires
 with-place-requires c κs = search rules
 
 returns : tie.Need-returns
-unfolding tidyStep
+unfolding tidy_step
 returns c =
     let t = c.before in
     let a = t.before.before.args in
-    ap (with-seat (skipTurn a.ahead a.resumed a.oldest a.skips a.retires)) c.with-place.ensures
+    ap (with-seat (skip_turn a.ahead a.resumed a.oldest a.skips a.retires)) c.with-place.ensures
     ∙ sym (if-true _ _ _ (skips t))
 
 can-retire-requires : tie.Need-can-retire-requires
@@ -85,16 +85,16 @@ empty-seat-requires : tie.Need-empty-seat-requires
 empty-seat-requires c κs = search rules
 
 returns-2 : tie.Need-returns-2
-unfolding tidyStep
+unfolding tidy_step
 returns-2 c =
     let t = c.before in
     let a = t.before.before.before.before.args in
-    ap (with-seat (retireTurn a.resumed a.oldest a.retires)) c.empty-seat.ensures
+    ap (with-seat (retire_turn a.resumed a.oldest a.retires)) c.empty-seat.ensures
     ∙ sym (if-true _ _ _ (sym t.before.can-retire.ensures ∙ t.if2.true))
     ∙ sym (if-false _ _ _ (stays t.before.before))
 
 returns-3 : tie.Need-returns-3
-unfolding tidyStep
+unfolding tidy_step
 returns-3 c =
     sym (if-false _ _ _ (sym c.before.can-retire.ensures ∙ c.if2.false))
     ∙ sym (if-false _ _ _ (stays c.before.before))

@@ -2,7 +2,7 @@
 use borrow.Author.Rules.{rules}
 use mathlib.Core.Path.{sym, ap, ◌∙◌}
 use Prim.Native.Nat.{ℕ}
-use Rattle.torest.proofs.Laws.{firstOf, operated-refused, operated-walked, with-printed}
+use Rattle.torest.proofs.Laws.{first_of, operated-refused, operated-walked, with-printed}
 use Rattle.torest.proofs.operate.Statement.{statement}
 use Rattle.torest.proofs.operate.Tie as tie
 
@@ -41,7 +41,7 @@ returns-2 c =
     (operated-walked o.before.args.hub _ o.call.result o.call.ensures.0 _ w.walk.result
     (sym d.Turns-down.ensures ∙ w.before.if1.false)
     (c.first_of.ensures
-    ∙ ap (λ (v : ℕ). firstOf v w.walk.result.woken) c.before.woken-by2.ensures)
+    ∙ ap (λ (v : ℕ). first_of v w.walk.result.woken) c.before.woken-by2.ensures)
     w.walk.ensures)
 
 pub operate-spec : {M : Type 1} → statement M

@@ -3,7 +3,7 @@ use borrow.Author.Rules.{rules}
 use native.Mathlib.Omega.{arith}
 use mathlib.Core.Path.{sym, ap, ◌∙◌}
 use Prim.Native.Nat.{ℕ, ◌-◌}
-use Rattle.torest.proofs.Laws.{Walking, begin, go_on, at_rest, all_made, firstOf}
+use Rattle.torest.proofs.Laws.{Walking, begin, go_on, at_rest_lem, all_made, first_of}
 use Rattle.torest.proofs.walk.Statement.{statement}
 use Rattle.torest.proofs.walk.Tie as tie
 
@@ -44,7 +44,7 @@ loop-again c =
     go_on _ _ l.woken l.steps l.hub l.invariant b.before.before.step.result _
     r.before.loop-test.true (sym r.rests.ensures ∙ b.before.before.before.if1.false)
     b.before.before.step.ensures.0
-    (b.first_of.ensures ∙ ap (λ (v : ℕ). firstOf l.woken v) b.before.woken-by.ensures)
+    (b.first_of.ensures ∙ ap (λ (v : ℕ). first_of l.woken v) b.before.woken-by.ensures)
 
 returns : tie.Need-returns invariant-loop decreases-loop
 returns c =
@@ -54,7 +54,7 @@ returns c =
 returns-2 : tie.Need-returns-2 invariant-loop decreases-loop
 returns-2 c =
     let l = c.before.before.before.loop in
-    at_rest _ _ l.woken l.steps l.hub l.invariant (sym c.before.rests.ensures ∙ c.if1.true)
+    at_rest_lem _ _ l.woken l.steps l.hub l.invariant (sym c.before.rests.ensures ∙ c.if1.true)
 
 pub walk-spec : {M : Type 1} → statement M
 walk-spec =

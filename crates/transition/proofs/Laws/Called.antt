@@ -16,22 +16,22 @@ use Rattle.hub.specs.declared.record.PlaceSlot.{PlaceSlot}
 use Rattle.hub.specs.declared.record.Pool.{Pool}
 use Rattle.hub.specs.Answers.{printed}
 use Rattle.hub.specs.Basics.{all_from}
-use Rattle.hub.specs.Calls.{answer_of, apply, called, checked, isFull}
-use Rattle.hub.specs.Fits.{fits, figuresClauses, figuresFit, counterFits, partyFits, placeFits, radiosFit}
-use Rattle.hub.specs.Fits.{kindsFit, stateFits}
-use Rattle.hub.specs.Look.{look, seenBy}
+use Rattle.hub.specs.Calls.{answer_of, apply, called, checked, is_full}
+use Rattle.hub.specs.Fits.{fits, figures_clauses, figures_fit, counter_fits, party_fits, place_fits, radios_fit}
+use Rattle.hub.specs.Fits.{kinds_fit, state_fits}
+use Rattle.hub.specs.Look.{look, seen_by}
 use Rattle.hub.specs.Moves.{Move, Refuse}
-use Rattle.hub.specs.Radios.{poolAfter}
-use Rattle.hub.specs.Phases.{ticketOf}
-use Rattle.hub.specs.Record.{MAX-BEGUN, PARTIES, read_slot, withPool}
-use Rattle.hub.specs.Ring.{PLACES, readSeat}
+use Rattle.hub.specs.Radios.{pool_after}
+use Rattle.hub.specs.Phases.{ticket_of}
+use Rattle.hub.specs.Record.{MAX_BEGUN, PARTIES, read_slot, with_pool}
+use Rattle.hub.specs.Ring.{PLACES, read_seat}
 use Rattle.hub.specs.Table.{decide}
 use Rattle.hub.proofs.Laws.Bools.{clause, first, never, second}
 use Rattle.hub.proofs.Laws.Phases.{ticketed}
 use Rattle.effects.specs.declared.effect.Effect.{Effect}
 use Rattle.effects.specs.Effect.{effect_of}
 use Rattle.effects.specs.Small.{Small}
-use Rattle.transition.specs.Tidied.{tidiedBy}
+use Rattle.transition.specs.Tidied.{tidied_by}
 use Rattle.transition.proofs.Laws.Radios.{refused-pool}
 use Rattle.transition.proofs.Laws.Sight.{Reads, looked, sight_of}
 use Rattle.transition.proofs.Laws.Stored.{applied, stored, told}
@@ -41,26 +41,26 @@ abbrev pub asks : Op → ℕ → Call
 asks o p = record { op = o; party = p }
 
 -- The radios once party p is answered y.
-abbrev pub radiosAfter : Hub → ℕ → Answer → Pool
-radiosAfter h p y = poolAfter h.control.opening.named (printed y) p h.control.pool
+abbrev pub radios_after : Hub → ℕ → Answer → Pool
+radios_after h p y = pool_after h.control.opening.named (printed y) p h.control.pool
 
 -- What a move answers and leaves.
 abbrev outcome : Hub → ℕ → Move → Outcome
 outcome h p m =
     record {
       answer = answer_of m;
-      hub = withPool (radiosAfter h p (answer_of m)) (apply h (look h p) m);
+      hub = with_pool (radios_after h p (answer_of m)) (apply h (look h p) m);
     }
 
 abbrev full : Hub → Bool
-full h = isFull h.control.oldest h.control.figures.issued h.slots
+full h = is_full h.control.oldest h.control.figures.issued h.slots
 
 -- A refusal leaves the record as it was.
 refusal : (h : Hub) (p : ℕ) (r : Refusal)
     → record { answer = Answer.Refused r; hub = h } ≡ outcome h p (Refuse r)
 unfolding apply
 refusal h p r =
-    ap (λ (q : Pool). record { answer = Answer.Refused r; hub = withPool q h })
+    ap (λ (q : Pool). record { answer = Answer.Refused r; hub = with_pool q h })
     (sym (refused-pool h.control.opening.named r p h.control.pool))
 
 -- Refused by 1, and by 4.
@@ -92,23 +92,23 @@ admitted h p o e f =
 pub record Counted (h : Hub) : Type 0 where
   pub permits : (1 ≤ h.control.opening.permits) × (h.control.opening.permits ≤ 32)
   pub parties : h.control.opening.parties ≤ 32
-  pub counter : counterFits h.control.figures.counter ≡ true
-  pub issued : h.control.figures.issued ≤ MAX-BEGUN
-  pub resumed : h.control.figures.resumed ≤ MAX-BEGUN
-  pub oldest : h.control.oldest ≤ MAX-BEGUN
+  pub counter : counter_fits h.control.figures.counter ≡ true
+  pub issued : h.control.figures.issued ≤ MAX_BEGUN
+  pub resumed : h.control.figures.resumed ≤ MAX_BEGUN
+  pub oldest : h.control.oldest ≤ MAX_BEGUN
 
 pub counted : (h : Hub) → fits h ≡ true → Counted h
-unfolding fits stateFits figuresFit
+unfolding fits state_fits figures_fit
 counted h e =
-    let parties = all_from (partyFits h) 0 PARTIES in
-    let places = all_from (placeFits h) h.control.oldest PLACES in
-    let f = figuresFit h.control.opening h.control.figures h.control.oldest in
-    let state = first (stateFits h) (kindsFit h.control.opening) e in
-    let all = first f parties (first (f && parties) places (first (f && parties && places) (radiosFit h) state)) in
-    let cs = figuresClauses h.control.opening h.control.figures h.control.oldest in
+    let parties = all_from (party_fits h) 0 PARTIES in
+    let places = all_from (place_fits h) h.control.oldest PLACES in
+    let f = figures_fit h.control.opening h.control.figures h.control.oldest in
+    let state = first (state_fits h) (kinds_fit h.control.opening) e in
+    let all = first f parties (first (f && parties) places (first (f && parties && places) (radios_fit h) state)) in
+    let cs = figures_clauses h.control.opening h.control.figures h.control.oldest in
     let k = clause 0 cs all in
     let n = clause 1 cs all in
-    let i = leb-true h.control.figures.issued MAX-BEGUN (clause 4 cs all) in
+    let i = leb-true h.control.figures.issued MAX_BEGUN (clause 4 cs all) in
     let o = leb-true h.control.oldest h.control.figures.issued (clause 6 cs all) in
     record {
       permits = (
@@ -118,7 +118,7 @@ counted h e =
       parties = leb-true h.control.opening.parties 32 (second (leb 1 h.control.opening.parties) _ n);
       counter = clause 2 cs all;
       issued = i;
-      resumed = leb-true h.control.figures.resumed MAX-BEGUN (clause 5 cs all);
+      resumed = leb-true h.control.figures.resumed MAX_BEGUN (clause 5 cs all);
       oldest = omega arith;
     }
 
@@ -138,13 +138,13 @@ module _ (h : Hub) (p : ℕ) (seat : PlaceSlot) (q : ℕ) (waiter : PartySlot)
     same : (b : Bool) → ticketed (read_slot h.slots p).phase ≡ b
         → (decide o (full h) (sight_of h p seat waiter) ≡ move)
         × ((touches move ≡ true) → ticketed (read_slot h.slots p).phase ≡ true)
-    unfolding seenBy
+    unfolding seen_by
     same true has = (ap (decide o (full h)) (looked h p seat q waiter r has), λ t. has)
     same false has =
         let u = unseen seat waiter (look h p) o (full h) has in
         (u.0, λ t. never (sym t ∙ u.1))
 
-    effect : e ≡ effect_of move (sight_of h p (readSeat h.places (ticketOf (read_slot h.slots p).phase)) waiter)
+    effect : e ≡ effect_of move (sight_of h p (read_seat h.places (ticket_of (read_slot h.slots p).phase)) waiter)
     effect =
         is
         ∙ ap₂ (λ (m : Move) (a : PlaceSlot). effect_of m (sight_of h p a waiter)) (same _ refl).0 r.place
@@ -153,18 +153,18 @@ module _ (h : Hub) (p : ℕ) (seat : PlaceSlot) (q : ℕ) (waiter : PartySlot)
     said = ap (λ (e : Effect). e.answer) effect ∙ told move _
 
     -- The radios are moved by the answer, before the tidying or after it.
-    pub left : (x : Pool) → x ≡ radiosAfter h p e.answer
-        → tidiedBy e.turns (withPool x (stored h p e))
-        ≡ withPool (radiosAfter h p (answer_of move)) (apply h (look h p) move)
+    pub left : (x : Pool) → x ≡ radios_after h p e.answer
+        → tidied_by e.turns (with_pool x (stored h p e))
+        ≡ with_pool (radios_after h p (answer_of move)) (apply h (look h p) move)
     left x ex =
-        ap₂ withPool (ex ∙ ap (radiosAfter h p) said)
-        (ap (λ (e : Effect). tidiedBy e.turns (stored h p e)) effect
+        ap₂ with_pool (ex ∙ ap (radios_after h p) said)
+        (ap (λ (e : Effect). tidied_by e.turns (stored h p e)) effect
         ∙ applied h p r.size waiter move (same _ refl).1)
 
     -- What the call answers and leaves, where the record fits and has the party.
     pub outcome-is : fits h ≡ true → ltb p h.control.opening.parties ≡ true → (x : Pool)
-        → x ≡ radiosAfter h p e.answer → (g : Hub)
-        → g ≡ tidiedBy e.turns (withPool x (stored h p e))
+        → x ≡ radios_after h p e.answer → (g : Hub)
+        → g ≡ tidied_by e.turns (with_pool x (stored h p e))
         → record { answer = e.answer; hub = g } ≡ called h (asks o p)
     outcome-is f n x ex g eg =
         ap₂ (λ (a : Answer) (g : Hub). record { answer = a; hub = g }) said (eg ∙ left x ex)

@@ -8,15 +8,15 @@ use borrow.Author.Tests.{ltb-true}
 use lib.Dec.{ltb}
 use Rattle.hub.specs.declared.record.Place.{Place}
 use Rattle.hub.specs.declared.record.PlaceSlot.{PlaceSlot}
-use Rattle.hub.specs.Phases.{isCancelled, isDone}
-use Rattle.hub.specs.Record.{emptySeat, withPlace}
-use Rattle.hub.specs.Ring.{PLACES, Ring, read_place, readSeat, writeSeat, canSkip, skipped, skip}
-use Rattle.hub.specs.Ring.{canRetire, retired, retire}
+use Rattle.hub.specs.Phases.{is_cancelled, is_done}
+use Rattle.hub.specs.Record.{empty_seat, with_place}
+use Rattle.hub.specs.Ring.{PLACES, Ring, read_place, read_seat, write_seat, can_skip, skipped, skip}
+use Rattle.hub.specs.Ring.{can_retire, retired, retire}
 use Rattle.hub.proofs.Laws.Bools.{first}
-use Rattle.transition.specs.Tidied.{reclaimedBy}
+use Rattle.transition.specs.Tidied.{reclaimed_by}
 use Rattle.hub.proofs.Laws.Ring.{skip-yes, skip-no, retire-yes, retire-no}
 
-pub reclaimed-none : (r : Ring) → reclaimedBy 0 r ≡ r
+pub reclaimed-none : (r : Ring) → reclaimed_by 0 r ≡ r
 unfolding skip retire
 reclaimed-none r = refl
 
@@ -72,35 +72,35 @@ retire-none r = refl
 -- The first loop. It leaves the oldest ticket.
 pub record Skipping (k : ℕ) (r₀ r : Ring) (n : ℕ) : Type 0 where
   pub low : r.oldest ≡ r₀.oldest
-  pub turns : Turning skip canSkip skipped skip-none skip-yes skip-no k r₀ r n
+  pub turns : Turning skip can_skip skipped skip-none skip-yes skip-no k r₀ r n
 
 pub skipping : (k : ℕ) (r : Ring) → Skipping k r r 0
 skipping k r =
-    record { low = refl; turns = begun skip canSkip skipped skip-none skip-yes skip-no k r }
+    record { low = refl; turns = begun skip can_skip skipped skip-none skip-yes skip-no k r }
 
 module _ (k : ℕ) (r₀ r : Ring) (n : ℕ) (s : Skipping k r₀ r n) where
   -- The code's test is the definition's.
   pub can-skip : (o : ℕ) (b : Bool) → o ≡ r₀.oldest + PLACES
-      → b ≡ (ltb r.resumed o && isCancelled (read_place r.places r.resumed))
-      → canSkip r ≡ b
+      → b ≡ (ltb r.resumed o && is_cancelled (read_place r.places r.resumed))
+      → can_skip r ≡ b
   can-skip o b l e =
       sym (e
-      ∙ ap (λ (o : ℕ). ltb r.resumed o && isCancelled (read_place r.places r.resumed))
+      ∙ ap (λ (o : ℕ). ltb r.resumed o && is_cancelled (read_place r.places r.resumed))
       (l ∙ ap (λ (o : ℕ). o + PLACES) (sym s.low)))
 
-  pub in_window : canSkip r ≡ true → r.resumed < r₀.oldest + PLACES
+  pub in_window : can_skip r ≡ true → r.resumed < r₀.oldest + PLACES
   in_window e =
       let l = first (ltb r.resumed (r.oldest + PLACES)) _ e in
       omega (arith, s.low, ltb-true r.resumed (r.oldest + PLACES) l)
 
   -- A turn, in which x is written.
-  pub skipping-on : (x : PlaceSlot) → x ≡ withPlace Place.Done (readSeat r.places r.resumed)
-      → n < k → canSkip r ≡ true
+  pub skipping-on : (x : PlaceSlot) → x ≡ with_place Place.Done (read_seat r.places r.resumed)
+      → n < k → can_skip r ≡ true
       → Skipping k r₀
       (record {
         resumed = r.resumed + 1;
         oldest = r.oldest;
-        places = writeSeat r.places r.resumed x;
+        places = write_seat r.places r.resumed x;
       }) (n + 1)
   skipping-on x d l e =
       subst
@@ -109,39 +109,39 @@ module _ (k : ℕ) (r₀ r : Ring) (n : ℕ) (s : Skipping k r₀ r n) where
       (record {
         resumed = r.resumed + 1;
         oldest = r.oldest;
-        places = writeSeat r.places r.resumed y;
+        places = write_seat r.places r.resumed y;
       }) (n + 1))
       (sym d)
       (record {
         low = s.low;
-        turns = on skip canSkip skipped skip-none skip-yes skip-no k r₀ r n s.turns l e;
+        turns = on skip can_skip skipped skip-none skip-yes skip-no k r₀ r n s.turns l e;
       })
 
-  pub skipping-stop : canSkip r ≡ false → r ≡ skip k r₀
-  skipping-stop = stop skip canSkip skipped skip-none skip-yes skip-no k r₀ r n s.turns
+  pub skipping-stop : can_skip r ≡ false → r ≡ skip k r₀
+  skipping-stop = stop skip can_skip skipped skip-none skip-yes skip-no k r₀ r n s.turns
 
   pub skipping-end : k ≤ n → r ≡ skip k r₀
-  skipping-end = end skip canSkip skipped skip-none skip-yes skip-no k r₀ r n s.turns
+  skipping-end = end skip can_skip skipped skip-none skip-yes skip-no k r₀ r n s.turns
 
 -- The second loop. It lifts the oldest ticket by one each turn.
 pub record Retiring (k : ℕ) (r₀ r : Ring) (n : ℕ) : Type 0 where
   pub low : r.oldest ≡ r₀.oldest + n
-  pub turns : Turning retire canRetire retired retire-none retire-yes retire-no k r₀ r n
+  pub turns : Turning retire can_retire retired retire-none retire-yes retire-no k r₀ r n
 
 pub retiring : (k : ℕ) (r : Ring) → Retiring k r r 0
 retiring k r =
     record {
       low = omega arith;
-      turns = begun retire canRetire retired retire-none retire-yes retire-no k r;
+      turns = begun retire can_retire retired retire-none retire-yes retire-no k r;
     }
 
 module _ (k : ℕ) (r₀ r : Ring) (n : ℕ) (s : Retiring k r₀ r n) where
-  pub retiring-on : (x : PlaceSlot) → x ≡ emptySeat → n < k → canRetire r ≡ true
+  pub retiring-on : (x : PlaceSlot) → x ≡ empty_seat → n < k → can_retire r ≡ true
       → Retiring k r₀
       (record {
         resumed = r.resumed;
         oldest = r.oldest + 1;
-        places = writeSeat r.places r.oldest x;
+        places = write_seat r.places r.oldest x;
       }) (n + 1)
   retiring-on x d l e =
       subst
@@ -150,39 +150,39 @@ module _ (k : ℕ) (r₀ r : Ring) (n : ℕ) (s : Retiring k r₀ r n) where
       (record {
         resumed = r.resumed;
         oldest = r.oldest + 1;
-        places = writeSeat r.places r.oldest y;
+        places = write_seat r.places r.oldest y;
       }) (n + 1))
       (sym d)
       (record {
         low = omega (arith, s.low);
         turns =
-            on retire canRetire retired retire-none retire-yes retire-no k r₀ r n s.turns l e;
+            on retire can_retire retired retire-none retire-yes retire-no k r₀ r n s.turns l e;
       })
 
-  pub retiring-stop : canRetire r ≡ false → r ≡ retire k r₀
-  retiring-stop = stop retire canRetire retired retire-none retire-yes retire-no k r₀ r n s.turns
+  pub retiring-stop : can_retire r ≡ false → r ≡ retire k r₀
+  retiring-stop = stop retire can_retire retired retire-none retire-yes retire-no k r₀ r n s.turns
 
   pub retiring-end : k ≤ n → r ≡ retire k r₀
-  retiring-end = end retire canRetire retired retire-none retire-yes retire-no k r₀ r n s.turns
+  retiring-end = end retire can_retire retired retire-none retire-yes retire-no k r₀ r n s.turns
 
 -- Where neither loop has anything to do.
 pub tidy : (k : ℕ) (r : Ring)
-    → isCancelled (read_place r.places r.resumed) || isDone (read_place r.places r.oldest)
+    → is_cancelled (read_place r.places r.resumed) || is_done (read_place r.places r.oldest)
     ≡ false
-    → r ≡ reclaimedBy k r
+    → r ≡ reclaimed_by k r
 tidy k r = go _ refl _ refl
   where
-    other : isCancelled (read_place r.places r.resumed) ≡ false → canSkip r ≡ false
+    other : is_cancelled (read_place r.places r.resumed) ≡ false → can_skip r ≡ false
     other e = within (ltb r.resumed (r.oldest + PLACES))
       where
-        within : (b : Bool) → b && isCancelled (read_place r.places r.resumed) ≡ false
+        within : (b : Bool) → b && is_cancelled (read_place r.places r.resumed) ≡ false
         within true = e
         within false = refl
 
-    go : (a : Bool) → isCancelled (read_place r.places r.resumed) ≡ a
-        → (b : Bool) → canRetire r ≡ b → a || b ≡ false → r ≡ reclaimedBy k r
+    go : (a : Bool) → is_cancelled (read_place r.places r.resumed) ≡ a
+        → (b : Bool) → can_retire r ≡ b → a || b ≡ false → r ≡ reclaimed_by k r
     go false e false f z =
-        off retire canRetire retired retire-none retire-yes retire-no r k f
-        ∙ ap (retire k) (off skip canSkip skipped skip-none skip-yes skip-no r k (other e))
+        off retire can_retire retired retire-none retire-yes retire-no r k f
+        ∙ ap (retire k) (off skip can_skip skipped skip-none skip-yes skip-no r k (other e))
     go false e true f z = absurd (true≢false z)
     go true e b f z = absurd (true≢false z)

@@ -6,13 +6,13 @@ use Rattle.hub.specs.declared.moves.Sight.{Sight}
 use Rattle.hub.specs.declared.record.PartySlot.{PartySlot}
 use Rattle.hub.specs.declared.record.Phase.{Phase}
 use Rattle.hub.specs.declared.record.PlaceSlot.{PlaceSlot}
-use Rattle.hub.specs.Look.{withView}
+use Rattle.hub.specs.Look.{with_view}
 use Rattle.hub.specs.Moves.{Move, Refuse, Tell, Act, Put, Wake}
-use Rattle.hub.specs.Phases.{isWaiting}
-use Rattle.hub.specs.Table.{RowTests, acquire, cancel, decide, release, stepIn, tellRadio, rowTestsOf}
+use Rattle.hub.specs.Phases.{is_waiting}
+use Rattle.hub.specs.Table.{RowTests, acquire, cancel, decide, release, step_in, tell_radio, row_tests_of}
 use Rattle.hub.proofs.Laws.Enums.{Each}
 use Rattle.hub.proofs.Laws.Phases.{ticketed}
-use Rattle.hub.proofs.Laws.Rows.{otherRows, others-alike, open_row, openRow, rows_alike}
+use Rattle.hub.proofs.Laws.Rows.{other_rows, others-alike, open_row_lem, open_row, rows_alike}
 
 -- Does a move change a place?
 abbrev pub touches : Move → Bool
@@ -25,7 +25,7 @@ touches (Wake q x a c) = true
 -- The sight with another place and another waiter.
 module _ (a : PlaceSlot) (w : PartySlot) where
   abbrev pub shown : Sight → Sight
-  shown s = withView a w s
+  shown s = with_view a w s
 
   -- A row that does not look there.
   abbrev Blind : (Sight → Move) → Sight → Type 0
@@ -43,28 +43,28 @@ module _ (a : PlaceSlot) (w : PartySlot) where
     blind e = (ap (λ z. z.0) e, ap (λ z. z.1) e)
 
     -- What the tests say there.
-    abbrev testsThere : RowTests → RowTests
-    testsThere v =
+    abbrev tests_there : RowTests → RowTests
+    tests_there v =
         record {
           above = v.above;
           below = v.below;
           stocked = v.stocked;
           place = a.place;
-          waits = isWaiting w.phase;
+          waits = is_waiting w.phase;
         }
 
-    stepping : (f : Phase) → ticketed f ≡ false → Blind (stepIn f) s
-    unfolding openRow
+    stepping : (f : Phase) → ticketed f ≡ false → Blind (step_in f) s
+    unfolding open_row
     stepping f e =
         let z =
         rows_alike {A = Move × Bool}
-        (λ f v. cond (ticketed f) (here (openRow f v)) (openRow f (testsThere v) (shown s), touches (openRow f v s)))
-        (λ f v. here (openRow f v)) (λ t q. refl) f (rowTestsOf s) in
+        (λ f v. cond (ticketed f) (here (open_row f v)) (open_row f (tests_there v) (shown s), touches (open_row f v s)))
+        (λ f v. here (open_row f v)) (λ t q. refl) f (row_tests_of s) in
         let y = blind (rw e at z) in
-        (open_row f (rowTestsOf (shown s)) (shown s) ∙ y.0 ∙ sym (open_row f (rowTestsOf s) s), ap touches (open_row f (rowTestsOf s) s) ∙ y.1)
+        (open_row_lem f (row_tests_of (shown s)) (shown s) ∙ y.0 ∙ sym (open_row_lem f (row_tests_of s) s), ap touches (open_row_lem f (row_tests_of s) s) ∙ y.1)
 
-    others : (x : Phase) (b c d : Bool) → Each (λ r. there r ≡ here r) (otherRows x b c d)
-    unfolding acquire cancel release tellRadio
+    others : (x : Phase) (b c d : Bool) → Each (λ r. there r ≡ here r) (other_rows x b c d)
+    unfolding acquire cancel release tell_radio
     others = others-alike there here (λ x. refl)
 
     pub unseen : (o : Op) (full : Bool) → ticketed s.slot.phase ≡ false → Blind (decide o full) s

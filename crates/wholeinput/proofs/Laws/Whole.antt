@@ -9,13 +9,13 @@ use borrow.Rule.Slice.PartMut.{put_mid}
 use lib.ListN.{length, take, drop, length-append, length-drop, take-append-drop}
 use lib.ListN.{drop_of_length-le}
 use lib.Seq.{drop-drop, take_at, drop_at, take_all, length-take-le}
-use Rattle.line.specs.Program.{after, closing, lines_of, outputOf}
+use Rattle.line.specs.Program.{after, closing, lines_of, output_of}
 use Rattle.frame.specs.declared.session.Fed.{Fed}
 use Rattle.frame.specs.declared.session.Session.{Session}
-use Rattle.beforeopen.specs.Opening.{askedOpen}
+use Rattle.beforeopen.specs.Opening.{asked_open}
 use Rattle.reader.specs.Reading.{asked}
 use Rattle.frame.specs.Session.{at_start, fed, told, rest, finished, Sound}
-use Rattle.wholeinput.specs.Whole.{hasRoom, size, filled}
+use Rattle.wholeinput.specs.Whole.{has_room, size, filled}
 use Rattle.hub.proofs.Laws.Bools.{if-true, if-false}
 use Rattle.frame.proofs.Laws.Feeding.{start-sound, fed-sound, asked-count, told-size}
 use Rattle.frame.proofs.Laws.Feeding.{tail-put, tail-size}
@@ -46,9 +46,9 @@ pub record Printing (input out₀ : List ℕ) (s : Session) (out : List ℕ) (n 
   pub long : length out ≡ length out₀
   pub room : 15 * n + length (wholly s (drop from input)) ≤ length out
   pub same : take (15 * n) out ++ over (wholly s (drop from input)) (drop (15 * n) out)
-      ≡ over (outputOf input) out₀
+      ≡ over (output_of input) out₀
 
-pub nothing-printed : (input out : List ℕ) → length (outputOf input) ≤ length out
+pub nothing-printed : (input out : List ℕ) → length (output_of input) ≤ length out
     → Printing input out at_start out 0 0
 nothing-printed input out l =
     record {
@@ -90,7 +90,7 @@ module _ (input out₀ : List ℕ) (s : Session) (out : List ℕ) (n from : ℕ)
             length-take-le (to - from) (drop from input) (simp length-drop (omega arith)),
           )
 
-      pub asked-fits : 2 * length (askedOpen s.hub s.reader piece) ≤ m
+      pub asked-fits : 2 * length (asked_open s.hub s.reader piece) ≤ m
       asked-fits = omega (arith, piece-fits, asked-few piece s.reader, asked-count s piece)
 
     cut : wholly s (drop from input) ≡ told s piece ++ wholly (fed s piece) (drop to input)
@@ -187,7 +187,7 @@ module _ (input out₀ : List ℕ) (s : Session) (out : List ℕ) (n from : ℕ)
 
     pub all-printed : (part : List ℕ)
         → part ≡ finished s ++ drop (15 * suc (length (rest s.reader))) lent
-        → (put_mid (15 * n) (length out₀ - 15 * n) out part ≡ over (outputOf input) out₀)
+        → (put_mid (15 * n) (length out₀ - 15 * n) out part ≡ over (output_of input) out₀)
     all-printed part e =
         tail-put out part (15 * n) (length out₀) before-end u.long part-size
         ∙ ap (λ (l : List ℕ). take (15 * n) out ++ l)
@@ -209,26 +209,26 @@ module _ (input out₀ : List ℕ) (s : Session) (out : List ℕ) (n from : ℕ)
 
 -- Room or none, as the lines are counted.
 module _ (input out : List ℕ) (n : ℕ) (e : n ≡ length (lines_of input)) where
-  no_room : length out / 15 ≤ n → hasRoom input out ≡ false
-  no_room l = lt-leb (length (outputOf input)) (length out) (omega (arith, e, output-size input))
+  no_room : length out / 15 ≤ n → has_room input out ≡ false
+  no_room l = lt-leb (length (output_of input)) (length out) (omega (arith, e, output-size input))
 
   pub none_written : length out / 15 ≤ n → (0 ≡ size input out) × (out ≡ filled input out)
   none_written l = (
-    sym (if-false (hasRoom input out) _ _ (no_room l)),
-    sym (if-false (hasRoom input out) _ _ (no_room l)),
+    sym (if-false (has_room input out) _ _ (no_room l)),
+    sym (if-false (has_room input out) _ _ (no_room l)),
   )
 
   module _ (l : n < length out / 15) where
-    pub enough : length (outputOf input) ≤ length out
+    pub enough : length (output_of input) ≤ length out
     enough = omega (arith, e, output-size input)
 
-    room : hasRoom input out ≡ true
-    room = le-leb (length (outputOf input)) (length out) enough
+    room : has_room input out ≡ true
+    room = le-leb (length (output_of input)) (length out) enough
 
-    pub all-written : (out' : List ℕ) → out' ≡ over (outputOf input) out
+    pub all-written : (out' : List ℕ) → out' ≡ over (output_of input) out
         → (15 * (n + 1) ≡ size input out) × (out' ≡ filled input out)
     all-written out' f = (
       ap (λ (m : ℕ). 15 * (m + 1)) e ∙ sym (output-size input)
-          ∙ sym (if-true (hasRoom input out) _ _ room),
-      f ∙ sym (if-true (hasRoom input out) _ _ room),
+          ∙ sym (if-true (has_room input out) _ _ room),
+      f ∙ sym (if-true (has_room input out) _ _ room),
     )

@@ -3,10 +3,10 @@ use borrow.Author.Rules.{rules}
 use mathlib.Core.Path.{ap, ◌∙◌}
 use Rattle.hub.specs.declared.record.Outcome.{Outcome}
 use Rattle.hub.specs.Answers.{Printed, printed}
-use Rattle.encoding.specs.Form.{asText}
+use Rattle.encoding.specs.Form.{as_text}
 use Rattle.encoding.specs.Frame.{frame_of}
 use Rattle.encoding.specs.Hex.{text_of}
-use Rattle.line.specs.Program.{beforeOpen, replyIn}
+use Rattle.line.specs.Program.{before_open, reply_in}
 use Rattle.line.specs.Requests.{Request}
 use Rattle.beforeopen.proofs.opening.open_as.Statement.{statement}
 use Rattle.beforeopen.proofs.opening.open_as.Tie as tie
@@ -27,16 +27,16 @@ same_length : tie.Need-same-length
 same_length c = search rules
 
 returns : tie.Need-returns
-unfolding beforeOpen
+unfolding before_open
 returns c =
     let w = c.before.before.before in
     let o = w.before.before.before in
     let e = o.before.read-opening.ensures in (
-      ap (λ (x : Outcome). x.hub) o.open-hub.ensures.0 ∙ ap (λ (q : Request). (beforeOpen q).hub) e,
+      ap (λ (x : Outcome). x.hub) o.open-hub.ensures.0 ∙ ap (λ (q : Request). (before_open q).hub) e,
       w.put-line.ensures
           ∙ ap (λ (x : Printed). text_of (frame_of 0xFF x))
           (w.before.print-of.ensures ∙ ap (λ (x : Outcome). printed x.answer) o.open-hub.ensures.0)
-          ∙ ap (λ (q : Request). replyIn asText (beforeOpen q).reply) e,
+          ∙ ap (λ (q : Request). reply_in as_text (before_open q).reply) e,
     )
 
 pub open-as-spec : {M : Type 1} → statement M

@@ -7,10 +7,10 @@ use mathlib.Core.List.{List}
 use native.Mathlib.Omega.{arith}
 use lib.ListN.{length}
 use Rattle.encoding.proofs.Laws.Parts.{put-length}
-use Rattle.encoding.specs.Form.{asText}
-use Rattle.line.specs.Program.{unopened, isOpen, beforeOpen, replyIn}
-use Rattle.line.specs.Requests.{Request, requestOf, isOpening}
-use Rattle.reader.specs.Reading.{lineIn}
+use Rattle.encoding.specs.Form.{as_text}
+use Rattle.line.specs.Program.{unopened, is_open, before_open, reply_in}
+use Rattle.line.specs.Requests.{Request, request_of, is_opening}
+use Rattle.reader.specs.Reading.{line_in}
 use Rattle.beforeopen.proofs.Laws.Opening.{session-shut, refused-line, opening-header}
 use Rattle.beforeopen.proofs.Laws.Opening.{already-open, Upto, start, ended, at_most_one}
 use Rattle.beforeopen.proofs.Laws.Opening.{within-line, room-for-one, code_is, party-is}
@@ -54,7 +54,7 @@ none c =
 
 -- At the end of a line: what it asks, as its header says, and room for the reply.
 abbrev asks : Ending → Request
-asks c = requestOf (lineIn (head (reading c)).loop.current)
+asks c = request_of (line_in (head (reading c)).loop.current)
 
 line-room : (c : Ending)
     → let l = head (reading c) in 15 * l.loop.lines + 15 ≤ length l.loop.out
@@ -159,7 +159,7 @@ loop-again-2 c =
     (code_is l.inv more _ f.0 f.1 e.if2.false)
     (party-is l.inv more _ f.0 f.1 e.if2.false) t.if3.true in
     onward l.inv more _ f.0 f.1 e.if2.false
-    (w.refuse.ensures ∙ ap (replyIn asText) z.0) z.1
+    (w.refuse.ensures ∙ ap (reply_in as_text) z.0) z.1
 
 sub-open-as : tie.Need-overflow-sub-open-as invariant-loop decreases-loop
 sub-open-as c = search rules
@@ -189,7 +189,7 @@ open-as-requires c κs =
     let code =
     code_is l.inv r.before.before.before.before.loop-test.taken _ f.0 f.1
     e.if2.false in (
-      ap (λ (x : List ℕ). isOpening (requestOf x)) (whole l.current)
+      ap (λ (x : List ℕ). is_opening (request_of x)) (whole l.current)
           ∙ opening-header (asks e) (sym code ∙ t.if3.false),
       search rules,
     )
@@ -213,12 +213,12 @@ returns-2 c =
     let f = r.read-piece.ensures in
     let hub =
     o.open-as.ensures.0
-    ∙ ap (λ (x : List ℕ). (beforeOpen (requestOf x)).hub) (whole l.current) in
+    ∙ ap (λ (x : List ℕ). (before_open (request_of x)).hub) (whole l.current) in
     opened l.inv r.before.before.before.before.loop-test.taken _ f.0 f.1
     e.if2.false
     (o.open-as.ensures.1
-    ∙ ap (λ (x : List ℕ). replyIn asText (beforeOpen (requestOf x)).reply) (whole l.current))
-    (ap isOpen (sym hub) ∙ sym c.before.is-open2.ensures ∙ c.if4.true) _ (none (head r)) _ hub
+    ∙ ap (λ (x : List ℕ). reply_in as_text (before_open (request_of x)).reply) (whole l.current))
+    (ap is_open (sym hub) ∙ sym c.before.is-open2.ensures ∙ c.if4.true) _ (none (head r)) _ hub
 
 loop-less-3 : tie.Need-loop-smaller-3 invariant-loop decreases-loop
 loop-less-3 c =
@@ -235,12 +235,12 @@ loop-again-3 c =
     let f = r.read-piece.ensures in
     let hub =
     o.open-as.ensures.0
-    ∙ ap (λ (x : List ℕ). (beforeOpen (requestOf x)).hub) (whole l.current) in
+    ∙ ap (λ (x : List ℕ). (before_open (request_of x)).hub) (whole l.current) in
     onward l.inv r.before.before.before.before.loop-test.taken _ f.0 f.1
     e.if2.false
     (o.open-as.ensures.1
-    ∙ ap (λ (x : List ℕ). replyIn asText (beforeOpen (requestOf x)).reply) (whole l.current))
-    (ap isOpen (sym hub) ∙ sym c.before.is-open2.ensures ∙ c.if4.false)
+    ∙ ap (λ (x : List ℕ). reply_in as_text (before_open (request_of x)).reply) (whole l.current))
+    (ap is_open (sym hub) ∙ sym c.before.is-open2.ensures ∙ c.if4.false)
 
 same-length-2 : tie.Need-same-length-2 invariant-loop decreases-loop
 same-length-2 c = search rules

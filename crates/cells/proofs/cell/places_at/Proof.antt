@@ -1,13 +1,13 @@
 -- `places_at` meets its contract: the places so far are read.
 use borrow.Author.Rules.{rules}
 use Prim.Native.Nat.{ℕ, ◌+◌, ◌*◌, ◌-◌}
-use Rattle.cells.specs.Places.{seatAt}
+use Rattle.cells.specs.Places.{seat_at}
 use Rattle.cells.proofs.Laws.Each.{Filled, start, onward, full}
 use Rattle.cells.proofs.cell.places_at.Statement.{statement}
 use Rattle.cells.proofs.cell.places_at.Tie as tie
 
 abbrev invariant-loop : tie.invariant-loop
-invariant-loop bytes at places₀ i₀ places i = Filled (λ (j : ℕ). seatAt bytes (at + 5 * j)) 256 places i
+invariant-loop bytes at places₀ i₀ places i = Filled (λ (j : ℕ). seat_at bytes (at + 5 * j)) 256 places i
 
 abbrev decreases-loop : tie.decreases-loop
 decreases-loop bytes at places₀ i₀ places i = 256 - i

@@ -6,17 +6,17 @@ use mathlib.Core.List.{◌∷◌}
 use lib.ListN.{length}
 use Rattle.hub.specs.declared.record.PlaceSlot.{PlaceSlot}
 use native.Mathlib.Omega.{arith}
-use Rattle.hub.specs.Phases.{placeRank}
-use Rattle.hub.specs.Record.{emptySeat}
-use Rattle.cells.specs.Bytes.{fourOf}
-use Rattle.cells.specs.Places.{waiterOf}
+use Rattle.hub.specs.Phases.{place_rank}
+use Rattle.hub.specs.Record.{empty_seat}
+use Rattle.cells.specs.Bytes.{four_of}
+use Rattle.cells.specs.Places.{waiter_of}
 use Rattle.cells.proofs.Laws.Cells.{Celled, no_cell, cell-more, all-cells}
 use Rattle.cells.proofs.cell.put_places.Statement.{statement}
 use Rattle.cells.proofs.cell.put_places.Tie as tie
 
 abbrev invariant-loop : tie.invariant-loop
 invariant-loop out₀ places i₀ out i =
-    Celled (λ (s : PlaceSlot). placeRank s.place ∷ fourOf (waiterOf s.place)) places 256 out i
+    Celled (λ (s : PlaceSlot). place_rank s.place ∷ four_of (waiter_of s.place)) places 256 out i
 
 abbrev decreases-loop : tie.decreases-loop
 decreases-loop out₀ places i₀ out i = 256 - i
@@ -66,9 +66,9 @@ loop-again c =
     let put = c.before.before.put-cell in
     let rank = c.before.before.before.before.place-rank.ensures in
     let waiter = c.before.before.before.waiter-of.ensures in
-    cell-more _ _ _ _ _ emptySeat put.new.0 l.loop.invariant
+    cell-more _ _ _ _ _ empty_seat put.new.0 l.loop.invariant
     c.before.before.before.before.before.before.before.loop-test.true
-    (put.ensures ∙ (λ j. rank j ∷ fourOf (waiter j))) (ap length put.ensures)
+    (put.ensures ∙ (λ j. rank j ∷ four_of (waiter j))) (ap length put.ensures)
 
 same_length : tie.Need-same-length invariant-loop decreases-loop
 same_length c = omega (arith, c.before.loop.invariant.long, c.before.before.before.requires)

@@ -3,8 +3,8 @@ use borrow.Author.Rules.{rules}
 use mathlib.Core.Path.{ap, ◌∙◌}
 use lib.ListN.{get_or}
 use Rattle.hub.specs.declared.record.Place.{Place}
-use Rattle.hub.specs.Record.{emptySeat, withPlace}
-use Rattle.cells.specs.Places.{placeNamed}
+use Rattle.hub.specs.Record.{empty_seat, with_place}
+use Rattle.cells.specs.Places.{place_named}
 use Rattle.cells.proofs.cell.seat_at.Statement.{statement}
 use Rattle.cells.proofs.cell.seat_at.Tie as tie
 
@@ -30,9 +30,9 @@ returns : tie.Need-returns
 returns c =
     let s = c.before.before.before.before.before.before in
     c.with-place.ensures
-    ∙ ap (λ (a : Place). withPlace a emptySeat)
+    ∙ ap (λ (a : Place). with_place a empty_seat)
     (c.before.before.place-named.ensures
-    ∙ ap (placeNamed (get_or s.args.bytes.now s.args.at 0)) c.before.before.before.number_at.ensures)
+    ∙ ap (place_named (get_or s.args.bytes.now s.args.at 0)) c.before.before.before.number_at.ensures)
 
 pub seat-at-spec : {M : Type 1} → statement M
 seat-at-spec =

@@ -3,7 +3,7 @@ use borrow.Author.Rules.{rules}
 use mathlib.Core.Path.{refl}
 use mathlib.Core.List.{[], ◌∷◌}
 use Rattle.hub.proofs.Laws.Phases.{place-arm}
-use Rattle.cells.specs.Places.{waiterOf}
+use Rattle.cells.specs.Places.{waiter_of}
 use Rattle.cells.proofs.cell.waiter_of.Statement.{statement}
 use Rattle.cells.proofs.cell.waiter_of.Tie as tie
 
@@ -17,7 +17,7 @@ returns : tie.Need-returns
 returns c = search rules
 
 returns-2 : tie.Need-returns-2
-returns-2 c = place-arm (0 ∷ 2 ∷ 3 ∷ 4 ∷ 5 ∷ []) waiterOf c.before.args.place refl c.match.keys2
+returns-2 c = place-arm (0 ∷ 2 ∷ 3 ∷ 4 ∷ 5 ∷ []) waiter_of c.before.args.place refl c.match.keys2
 
 pub waiter-of-spec : {M : Type 1} → statement M
 waiter-of-spec = tie.close (tie.spec enum-known-place wide-requires returns returns-2)

@@ -10,8 +10,8 @@ use lib.Dec.{eqb}
 use Rattle.hub.specs.declared.record.Phase.{Phase}
 use Rattle.hub.specs.Phases.{rank}
 use Rattle.hub.proofs.Laws.Bools.{if-false, if-true}
-use Rattle.hub.proofs.Laws.Phases.{allBut, phase-arm}
-use Rattle.cells.specs.Phases.{withMark}
+use Rattle.hub.proofs.Laws.Phases.{all_but, phase-arm}
+use Rattle.cells.specs.Phases.{with_mark}
 use Rattle.cells.proofs.phase.marked.Statement.{statement}
 use Rattle.cells.proofs.phase.marked.Tie as tie
 
@@ -38,21 +38,21 @@ enum-known-phase c = search rules
 returns-2 : tie.Need-returns-2
 returns-2 c =
     let b = c.before.before in
-    where-odd _ b.if1.false (phase-arm (3 ∷ []) withMark b.before.args.phase refl c.before.match.keys1)
+    where-odd _ b.if1.false (phase-arm (3 ∷ []) with_mark b.before.args.phase refl c.before.match.keys1)
 
 returns-3 : tie.Need-returns-3
 returns-3 c =
     let b = c.before.before in
-    where-odd _ b.if1.false (phase-arm (4 ∷ []) withMark b.before.args.phase refl c.before.match.keys2)
+    where-odd _ b.if1.false (phase-arm (4 ∷ []) with_mark b.before.args.phase refl c.before.match.keys2)
 
 returns-4 : tie.Need-returns-4
-returns-4 c = where-odd _ c.before.before.before.if1.false (ap withMark (sym c.before.phase.given.1))
+returns-4 c = where-odd _ c.before.before.before.if1.false (ap with_mark (sym c.before.phase.given.1))
 
 returns-5 : tie.Need-returns-5
 returns-5 c =
     let b = c.before in
     let f = b.before.args.phase in
-    let none = allBut (3 ∷ 4 ∷ 5 ∷ []) in
+    let none = all_but (3 ∷ 4 ∷ 5 ∷ []) in
     where-odd f b.if1.false
     (left_alone (eqb (rank f) 3) (eqb (rank f) 4) (eqb (rank f) 5) _ _ _ f
     (sym (phase-arm none (λ x. eqb (rank x) 3) f refl c.match.keys4))

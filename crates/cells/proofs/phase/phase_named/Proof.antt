@@ -4,7 +4,7 @@ use Prim.Native.Nat.{ℕ, suc, ◌≤◌}
 use mathlib.Core.Path.{◌≡◌, sym}
 use native.Mathlib.Omega.{arith}
 use lib.ListN.{get_or-eq_default}
-use Rattle.cells.specs.Phases.{namedPhases}
+use Rattle.cells.specs.Phases.{named_phases}
 use Rattle.cells.proofs.phase.phase_named.Statement.{statement}
 use Rattle.cells.proofs.phase.phase_named.Tie as tie
 
@@ -81,7 +81,7 @@ returns-15 c =
     let u11 = up 11 n u10 r11.1 in
     let u12 = up 12 n u11 r12.1 in
     let u13 = up 13 n u12 r13.1 in
-    sym (get_or-eq_default (namedPhases c.before.args.t) _ u13)
+    sym (get_or-eq_default (named_phases c.before.args.t) _ u13)
   where
     up : (k m : ℕ) → k ≤ m → (m ≡ k → ⊥) → suc k ≤ m
     up k m h e = omega arith

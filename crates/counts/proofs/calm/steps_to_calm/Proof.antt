@@ -2,7 +2,7 @@
 -- whatever the record says.
 use borrow.Author.Rules.{rules}
 use native.Mathlib.Omega.{arith}
-use Rattle.hub.specs.Calm.{stepsToCalm}
+use Rattle.hub.specs.Calm.{steps_to_calm}
 use Rattle.counts.proofs.calm.steps_to_calm.Statement.{statement}
 use Rattle.counts.proofs.calm.steps_to_calm.Tie as tie
 
@@ -28,7 +28,7 @@ mul-result : tie.Need-overflow-mul-result
 mul-result c = search rules
 
 returns : tie.Need-returns
-unfolding stepsToCalm
+unfolding steps_to_calm
 returns c =
     omega (arith, c.if1.true, c.before.before.before.before.count-drawing.ensures.0)
 
@@ -42,7 +42,7 @@ add-result : tie.Need-overflow-add-result
 add-result c = search rules
 
 returns-2 : tie.Need-returns-2
-unfolding stepsToCalm
+unfolding steps_to_calm
 returns-2 c =
     omega (arith, c.if1.false, c.before.before.before.before.count-drawing.ensures.0)
 

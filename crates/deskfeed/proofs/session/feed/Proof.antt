@@ -6,8 +6,8 @@ use mathlib.Core.List.{List}
 use Prim.Native.Nat.{ℕ, ◌-◌}
 use lib.ListN.{length}
 use Rattle.reader.proofs.Laws.Pieces.{whole}
-use Rattle.line.specs.Requests.{requestOf}
-use Rattle.deskreply.specs.Replies.{askedBy, replyTo}
+use Rattle.line.specs.Requests.{request_of}
+use Rattle.deskreply.specs.Replies.{asked_by, reply_to}
 use Rattle.deskfeed.proofs.Laws.Feeding.{Upto, char-kept, char-lost, finished, line-end, line-room}
 use Rattle.deskfeed.proofs.Laws.Feeding.{reply-printable, start}
 use Rattle.deskfeed.proofs.session.feed.Statement.{statement}
@@ -86,7 +86,7 @@ loop-again-3 c =
     let p4 = p3.before.before in
     let p5 = p4.before in
     line-end p5.loop.invariant p4.loop-test.true p3.if1.false _
-    (p2.reply-to.ensures ∙ ap (λ (x : List ℕ). replyTo p5.loop.line (askedBy (requestOf x))) (whole
+    (p2.reply-to.ensures ∙ ap (λ (x : List ℕ). reply_to p5.loop.line (asked_by (request_of x))) (whole
     (record { line = p5.loop.text; len = p5.loop.len }))) _ _
     p1.put-line-text.ensures.0.0 p1.put-line-text.ensures.0.1 p1.put-line-text.ensures.1
 

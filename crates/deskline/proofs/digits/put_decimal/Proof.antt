@@ -3,7 +3,7 @@ use borrow.Author.Rules.{rules}
 use native.Mathlib.Omega.{arith}
 use mathlib.Core.Path.{sym, ◌∙◌}
 use mathlib.Core.List.{[], ◌∷◌}
-use Rattle.deskline.proofs.Laws.Numbers.{one-digit, three-digits, two_digits}
+use Rattle.deskline.proofs.Laws.Numbers.{one-digit, three-digits, two_digits_lem}
 use Rattle.deskline.proofs.Laws.PutAt.{first, gives, next, text-is}
 use Rattle.deskline.proofs.digits.put_decimal.Statement.{statement}
 use Rattle.deskline.proofs.digits.put_decimal.Tie as tie
@@ -44,7 +44,7 @@ returns-2 : tie.Need-returns-2
 returns-2 c =
     gives
     (text-is ((λ i. c.before.before.before.before.before.before.before.before.decimal-char2.ensures i ∷ c.before.before.before.decimal-char3.ensures i ∷ [])
-    ∙ sym (two_digits _
+    ∙ sym (two_digits_lem _
     c.before.before.before.before.before.before.before.before.before.before.before.if1.false
     c.before.before.before.before.before.before.before.before.before.before.if2.true))
     (next (first (_ ∷ []) c.before.before.before.before.before.before.before.put-char2.ensures.0

@@ -2,8 +2,8 @@
 use borrow.Author.Rules.{rules}
 use native.Mathlib.Omega.{arith}
 use mathlib.Core.List.{[], ◌∷◌}
-use Rattle.encoding.specs.Hex.{hexOf}
-use Rattle.deskline.specs.Text.{SPACE, headText, stepsText}
+use Rattle.encoding.specs.Hex.{hex_of}
+use Rattle.deskline.specs.Text.{SPACE, head_text, steps_text}
 use Rattle.deskline.proofs.Laws.Numbers.{head-laid, steps-short}
 use Rattle.deskline.proofs.Laws.PutAt.{first, gives, next, text-is}
 use Rattle.deskline.proofs.text.put_head.Statement.{statement}
@@ -28,23 +28,23 @@ same_length : tie.Need-same-length
 same_length c = search rules
 
 returns : tie.Need-returns
-unfolding headText
+unfolding head_text
 returns c =
     let a = c.before.before.before.before.before.before.before.before.before.before.before.before.before.before.before.before.before.before.before.before.before.args in
     let x = steps-short a.code a.steps in (
       gives
-          (text-is (head-laid (hexOf (a.code ∷ [])) (hexOf (a.party ∷ [])) (stepsText a.code a.steps))
-          (next (next (next (next (first (hexOf (a.code ∷ []))
+          (text-is (head-laid (hex_of (a.code ∷ [])) (hex_of (a.party ∷ [])) (steps_text a.code a.steps))
+          (next (next (next (next (first (hex_of (a.code ∷ []))
           c.before.before.before.before.before.before.before.before.before.before.before.before.before.before.before.before.before.before.put-hex.ensures.0 c.before.before.before.before.before.before.before.before.before.before.before.before.before.before.before.before.before.before.put-hex.ensures.1 (omega arith))
           (SPACE ∷ [])
           c.before.before.before.before.before.before.before.before.before.before.before.before.before.before.put-char.ensures.0 c.before.before.before.before.before.before.before.before.before.before.before.before.before.before.put-char.ensures.1 (omega arith))
-          (hexOf (a.party ∷ []))
+          (hex_of (a.party ∷ []))
           c.before.before.before.before.before.before.before.before.before.before.put-hex2.ensures.0
           c.before.before.before.before.before.before.before.before.before.before.put-hex2.ensures.1
           (omega arith))
           (SPACE ∷ []) c.before.before.before.before.before.before.put-char2.ensures.0
           c.before.before.before.before.before.before.put-char2.ensures.1 (omega arith))
-          (stepsText a.code a.steps) c.before.before.put-steps.ensures.0
+          (steps_text a.code a.steps) c.before.before.put-steps.ensures.0
           c.before.before.put-steps.ensures.1 (omega arith))),
       omega arith,
     )

@@ -4,7 +4,7 @@ use borrow.Author.Tests.{not-false, not-true}
 use native.Mathlib.Omega.{arith}
 use Prim.Native.Nat.{◌-◌}
 use lib.ListN.{drop}
-use Rattle.screen.specs.Line.{holders, holdersFrom}
+use Rattle.screen.specs.Line.{holders, holders_from}
 use Rattle.screen.proofs.Laws.Holders.{next-free, next-holds}
 use Rattle.deskline.proofs.Laws.Numbers.{Listed, listed-all, listed-none}
 use Rattle.deskline.proofs.Laws.Numbers.{listed-one, listed-skip, none_left, number-room}
@@ -12,7 +12,7 @@ use Rattle.deskline.proofs.text.put_holders.Statement.{statement}
 use Rattle.deskline.proofs.text.put_holders.Tie as tie
 
 abbrev invariant-loop : tie.invariant-loop
-invariant-loop out₀ at holding end₀ p₀ out end p = Listed at out₀ (holdersFrom 0 holding) (holdersFrom p
+invariant-loop out₀ at holding end₀ p₀ out end p = Listed at out₀ (holders_from 0 holding) (holders_from p
     (drop p holding)) p end out
 
 abbrev decreases-loop : tie.decreases-loop

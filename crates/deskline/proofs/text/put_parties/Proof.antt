@@ -3,7 +3,7 @@ use borrow.Author.Rules.{rules}
 use native.Mathlib.Omega.{arith}
 use mathlib.Core.List.{[], ◌∷◌}
 use Rattle.screen.specs.Line.{holders, waiters}
-use Rattle.deskline.specs.Text.{HELD, SPACE, WAITING, numbers, partiesText}
+use Rattle.deskline.specs.Text.{HELD, SPACE, WAITING, numbers, parties_text}
 use Rattle.deskline.proofs.Laws.Numbers.{parties-laid}
 use Rattle.deskline.proofs.Laws.PutAt.{first, gives, next, text-is}
 use Rattle.deskline.proofs.text.put_parties.Statement.{statement}
@@ -34,7 +34,7 @@ same_length : tie.Need-same-length
 same_length c = search rules
 
 returns : tie.Need-returns
-unfolding partiesText
+unfolding parties_text
 returns c =
     let a = c.before.before.before.before.before.before.before.before.before.before.before.before.before.before.before.before.before.before.before.before.before.before.before.args in (
       gives

@@ -4,7 +4,7 @@ use mathlib.Core.Path.{ap, ◌∙◌}
 use lib.IntN.{ℤ}
 use Rattle.hub.specs.declared.record.Figures.{Figures}
 use Rattle.hub.specs.Moves.{Act}
-use Rattle.hub.specs.Table.{change, withCounter}
+use Rattle.hub.specs.Table.{change, with_counter}
 use Rattle.effects.specs.declared.effect.Effect.{Effect}
 use Rattle.effects.specs.Effect.{effect_of}
 use Rattle.effects.proofs.Laws.Counter.{more, more-fits}
@@ -28,7 +28,7 @@ returns c =
     c.acted.ensures
     ∙ ap e
     (c.before.with-counter.ensures
-    ∙ ap (λ (z : ℤ). withCounter z a.s.figures) (more a.s.figures.counter b.requires))
+    ∙ ap (λ (z : ℤ). with_counter z a.s.figures) (more a.s.figures.counter b.requires))
 
 pub given-spec : {M : Type 1} → statement M
 given-spec = tie.close (tie.spec add-counter with-counter-requires acted-requires returns)

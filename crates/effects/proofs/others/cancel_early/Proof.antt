@@ -3,10 +3,10 @@ use borrow.Author.Rules.{rules}
 use mathlib.Core.Path.{refl, sym, ap, ◌∙◌}
 use mathlib.Core.Bool.{Bool, false, cond}
 use mathlib.Core.List.{[], ◌∷◌}
-use Rattle.hub.proofs.Laws.Phases.{allBut, phase-arm}
+use Rattle.hub.proofs.Laws.Phases.{all_but, phase-arm}
 use Rattle.hub.specs.Moves.{Move}
-use Rattle.hub.specs.Phases.{isOneOf, isWaiting}
-use Rattle.hub.specs.Table.{canCancel, givenUp}
+use Rattle.hub.specs.Phases.{is_one_of, is_waiting}
+use Rattle.hub.specs.Table.{can_cancel, given_up}
 use Rattle.effects.specs.Effect.{effect_of}
 use Rattle.effects.proofs.Laws.Others.{gives_up, not-waiting}
 use Rattle.effects.proofs.others.cancel_early.Statement.{statement}
@@ -34,25 +34,25 @@ cancel-to-requires-4 : tie.Need-cancel-to-requires-4
 cancel-to-requires-4 c κs = search rules
 
 returns : tie.Need-returns
-unfolding isOneOf givenUp
+unfolding is_one_of given_up
 returns c =
     let b = c.before in
     gives_up b.before.before.before.args.s b.enum_told.given.1 c.cancel-to.ensures
 
 returns-2 : tie.Need-returns-2
-unfolding isOneOf givenUp
+unfolding is_one_of given_up
 returns-2 c =
     let b = c.before in
     gives_up b.before.before.before.args.s b.enum-told2.given.1 c.cancel-to2.ensures
 
 returns-3 : tie.Need-returns-3
-unfolding isOneOf givenUp
+unfolding is_one_of given_up
 returns-3 c =
     let b = c.before.before in
     gives_up b.before.before.before.args.s b.phase.given.1 c.cancel-to3.ensures
 
 returns-4 : tie.Need-returns-4
-unfolding isOneOf
+unfolding is_one_of
 returns-4 c =
     let b = c.before.before.before in
     let s = b.args.s in
@@ -60,8 +60,8 @@ returns-4 c =
     c.cancel-to4.ensures
     ∙ ap (λ (m : Move). effect_of m s)
     (sym (not-waiting s f
-    (ap (λ (w : Bool). cond w false (canCancel f)) (sym b.requires)
-    ∙ sym (phase-arm (allBut (3 ∷ 4 ∷ 5 ∷ [])) (λ x. cond (isWaiting x) false (canCancel x)) f refl
+    (ap (λ (w : Bool). cond w false (can_cancel f)) (sym b.requires)
+    ∙ sym (phase-arm (all_but (3 ∷ 4 ∷ 5 ∷ [])) (λ x. cond (is_waiting x) false (can_cancel x)) f refl
     c.before.match.keys4))))
 
 pub cancel-early-spec : {M : Type 1} → statement M

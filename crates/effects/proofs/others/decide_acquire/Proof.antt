@@ -4,9 +4,9 @@ use borrow.Author.Tests.{le-leb, lt-leb}
 use mathlib.Core.Path.{refl, sym, ap, ◌∙◌}
 use mathlib.Core.List.{[], ◌∷◌}
 use native.Mathlib.Omega.{arith}
-use Rattle.hub.proofs.Laws.Phases.{allBut, phase-arm}
-use Rattle.hub.specs.Phases.{isFree, isOneOf}
-use Rattle.hub.specs.Record.{MAX-BEGUN}
+use Rattle.hub.proofs.Laws.Phases.{all_but, phase-arm}
+use Rattle.hub.specs.Phases.{is_free, is_one_of}
+use Rattle.hub.specs.Record.{MAX_BEGUN}
 use Rattle.hub.specs.declared.answers.Answer.{Answer}
 use Rattle.hub.specs.declared.record.Figures.{Figures}
 use Rattle.hub.specs.declared.record.Phase.{Phase}
@@ -24,37 +24,37 @@ refused-requires : tie.Need-refused-requires
 refused-requires c κs = search rules
 
 returns : tie.Need-returns
-unfolding decide acquire isOneOf
+unfolding decide acquire is_one_of
 returns c =
     let f = c.before.before.before.args.s.slot.phase in
-    let e = sym (phase-arm (allBut (0 ∷ [])) isFree f refl c.before.match.keys2) in
+    let e = sym (phase-arm (all_but (0 ∷ [])) is_free f refl c.before.match.keys2) in
     rw e c.refused.ensures
 
 refused-requires-2 : tie.Need-refused-requires-2
 refused-requires-2 c κs = search rules
 
 returns-2 : tie.Need-returns-2
-unfolding decide isOneOf
+unfolding decide is_one_of
 returns-2 c =
     let b = c.before.before.before in
     let s = b.before.before.before.args.s in
     c.refused2.ensures
     ∙ ap (λ (m : Move). effect_of m s)
-    (sym (exhausted _ _ _ s (ap isFree b.enum_told.given.1)
-    (le-leb MAX-BEGUN s.figures.begun (omega arith))))
+    (sym (exhausted _ _ _ s (ap is_free b.enum_told.given.1)
+    (le-leb MAX_BEGUN s.figures.begun (omega arith))))
 
 refused-requires-3 : tie.Need-refused-requires-3
 refused-requires-3 c κs = search rules
 
 returns-3 : tie.Need-returns-3
-unfolding decide isOneOf
+unfolding decide is_one_of
 returns-3 c =
     let b = c.before.before.before.before in
     let s = b.before.before.before.args.s in
     c.refused3.ensures
     ∙ ap (λ (m : Move). effect_of m s)
-    (sym (full-up _ _ _ s (ap isFree b.enum_told.given.1)
-    (lt-leb MAX-BEGUN s.figures.begun (omega arith)) c.before.if2.true))
+    (sym (full-up _ _ _ s (ap is_free b.enum_told.given.1)
+    (lt-leb MAX_BEGUN s.figures.begun (omega arith)) c.before.if2.true))
 
 add-with-begun : tie.Need-overflow-add-with-begun
 add-with-begun c = search rules
@@ -66,12 +66,12 @@ acted-requires : tie.Need-acted-requires
 acted-requires c κs = search rules
 
 returns-4 : tie.Need-returns-4
-unfolding decide acquire isOneOf
+unfolding decide acquire is_one_of
 returns-4 c =
     let b = c.before.before.before.before.before in
     let s = b.before.before.before.args.s in
     let e = b.enum_told.given.1 in
-    rw (e, lt-leb MAX-BEGUN s.figures.begun (omega arith), c.before.before.if2.false)
+    rw (e, lt-leb MAX_BEGUN s.figures.begun (omega arith), c.before.before.if2.false)
     (c.acted.ensures
     ∙ ap (λ (f : Figures). effect_of (Act (change Phase.Acquiring f Answer.Accepted s)) s)
     c.before.with-begun.ensures)

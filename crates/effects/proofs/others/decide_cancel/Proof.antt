@@ -2,9 +2,9 @@
 use borrow.Author.Rules.{rules}
 use mathlib.Core.Path.{refl, sym}
 use mathlib.Core.List.{[], ◌∷◌}
-use Rattle.hub.proofs.Laws.Phases.{allBut, phase-arm}
-use Rattle.hub.specs.Phases.{isOneOf, isWaiting}
-use Rattle.hub.specs.Table.{givenUp}
+use Rattle.hub.proofs.Laws.Phases.{all_but, phase-arm}
+use Rattle.hub.specs.Phases.{is_one_of, is_waiting}
+use Rattle.hub.specs.Table.{given_up}
 use Rattle.effects.proofs.Laws.Others.{gives_up}
 use Rattle.effects.proofs.others.decide_cancel.Statement.{statement}
 use Rattle.effects.proofs.others.decide_cancel.Tie as tie
@@ -13,10 +13,10 @@ enum-known-phase : tie.Need-enum-known-phase
 enum-known-phase c = search rules
 
 cancel-early-requires : tie.Need-cancel-early-requires
-unfolding isOneOf
+unfolding is_one_of
 cancel-early-requires c κs =
     let f = c.before.before.args.s.slot.phase in
-    sym (phase-arm (allBut (2 ∷ [])) isWaiting f refl c.match.keys2)
+    sym (phase-arm (all_but (2 ∷ [])) is_waiting f refl c.match.keys2)
 
 returns : tie.Need-returns
 returns c = c.cancel-early.ensures
@@ -25,7 +25,7 @@ cancel-to-requires : tie.Need-cancel-to-requires
 cancel-to-requires c κs = search rules
 
 returns-2 : tie.Need-returns-2
-unfolding isOneOf givenUp
+unfolding is_one_of given_up
 returns-2 c =
     let b = c.before.before in
     gives_up b.before.before.before.args.s b.phase.given.1 c.cancel-to.ensures

@@ -11,7 +11,7 @@ use lib.Signed.{lt_z, non_neg}
 use mir.Syntax.{w32}
 use mir.Val.{SFits, Fits, to_z, of_z}
 use mir.Facts.{to_z-of_z}
-use Rattle.encoding.specs.Frame.{twosComplement}
+use Rattle.encoding.specs.Frame.{twos_complement}
 use Rattle.encoding.proofs.signed.twos_complement.Statement.{statement}
 use Rattle.encoding.proofs.signed.twos_complement.Tie as tie
 
@@ -79,7 +79,7 @@ returns : tie.Need-returns
 returns c =
     let z = c.before.args.n in
     let f = c.before.ranges.n in
-    below-zero (λ (z : ℤ). SFits w32 z → 0xFFFFFFFF - nat_abs (read (depth z)) ≡ twosComplement z)
+    below-zero (λ (z : ℤ). SFits w32 z → 0xFFFFFFFF - nat_abs (read (depth z)) ≡ twos_complement z)
     (λ n f. ap (λ (y : ℤ). 0xFFFFFFFF - nat_abs y) (depth-read n f)) z (test f c.if1.true) f
 
 cast-result-2 : tie.Need-overflow-cast-result-2
@@ -93,7 +93,7 @@ returns-2 : tie.Need-returns-2
 returns-2 c =
     let z = c.before.args.n in
     let f = c.before.ranges.n in
-    not-below (λ (z : ℤ). SFits w32 z → nat_abs (read z) ≡ twosComplement z)
+    not-below (λ (z : ℤ). SFits w32 z → nat_abs (read z) ≡ twos_complement z)
     (λ n f. ap nat_abs (to_z-of_z f)) z (test f c.if1.false) f
 
 pub twos-complement-spec : {M : Type 1} → statement M

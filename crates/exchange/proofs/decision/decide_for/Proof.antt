@@ -3,8 +3,8 @@ use Rattle.std.proofs.Common.{ℕ, cond, ltb, leb, ap, ◌∙◌, rules}
 use Rattle.hub.specs.declared.moves.Op.{Op}
 use Rattle.hub.specs.declared.moves.Sight.{Sight}
 use Rattle.hub.specs.declared.record.PartySlot.{PartySlot}
-use Rattle.hub.specs.Look.{sightFrom}
-use Rattle.hub.specs.Record.{PARTIES, freeSlot}
+use Rattle.hub.specs.Look.{sight_from}
+use Rattle.hub.specs.Record.{PARTIES, free_slot}
 use Rattle.hub.specs.Table.{decide}
 use Rattle.encoding.specs.Frame.{op_of}
 use Rattle.effects.specs.Effect.{effect_of}
@@ -30,13 +30,13 @@ returns c =
     let w = c.before.before in
     let a = w.before.before.args in
     let seen : PartySlot → Sight = λ waiter.
-    sightFrom a.party a.kind a.slot a.seat waiter a.figures a.named a.radio (leb 1 a.stored) in
+    sight_from a.party a.kind a.slot a.seat waiter a.figures a.named a.radio (leb 1 a.stored) in
     c.decide_by.ensures
     ∙ ap (λ (o : Op). effect_of (decide o a.full (seen w.slot-within.result)) (seen w.slot-within.result))
     c.before.op-of.ensures
     ∙ ap (λ (waiter : PartySlot). effect_of (decide (op_of a.code) a.full (seen waiter)) (seen waiter))
     (w.slot-within.ensures
-    ∙ ap (λ (q : ℕ). cond (ltb q PARTIES) a.near freeSlot) w.before.waiter-at.ensures)
+    ∙ ap (λ (q : ℕ). cond (ltb q PARTIES) a.near free_slot) w.before.waiter-at.ensures)
 
 pub decide-for-spec : {M : Type 1} → statement M
 decide-for-spec =

@@ -1,8 +1,8 @@
 -- `full_by` meets its contract: the operation is that of the code.
 use Rattle.std.proofs.Common.{ap, ◌∙◌, rules}
 use Rattle.hub.specs.declared.moves.Op.{Op}
-use Rattle.hub.specs.Calls.{isFull}
-use Rattle.transition.specs.Room.{fullFor}
+use Rattle.hub.specs.Calls.{is_full}
+use Rattle.transition.specs.Room.{full_for}
 use Rattle.exchange.proofs.decision.full_by.Statement.{statement}
 use Rattle.exchange.proofs.decision.full_by.Tie as tie
 
@@ -16,7 +16,7 @@ returns : tie.Need-returns
 returns c =
     let a = c.before.before.args in
     c.full-for.ensures
-    ∙ ap (λ (o : Op). fullFor o (isFull a.oldest a.issued a.slots)) c.before.op-of.ensures
+    ∙ ap (λ (o : Op). full_for o (is_full a.oldest a.issued a.slots)) c.before.op-of.ensures
 
 pub full-by-spec : {M : Type 1} → statement M
 full-by-spec = tie.close (tie.spec op-of-requires full-for-requires returns)

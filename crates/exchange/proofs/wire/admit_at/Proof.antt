@@ -1,6 +1,6 @@
 -- `admit_at` meets its contract: what is admitted are the two bytes of the request.
 use Rattle.std.proofs.Common.{◌∙◌, rules}
-use Rattle.exchange.specs.Admission.{admissionOf}
+use Rattle.exchange.specs.Admission.{admission_of}
 use Rattle.exchange.proofs.wire.admit_at.Statement.{statement}
 use Rattle.exchange.proofs.wire.admit_at.Tie as tie
 
@@ -18,7 +18,7 @@ returns c =
     let p = c.before in
     let k = p.before in
     c.admit.ensures
-    ∙ (λ i. admissionOf (k.code_at.ensures i) (p.party-at.ensures i) k.before.before.args.parties)
+    ∙ (λ i. admission_of (k.code_at.ensures i) (p.party-at.ensures i) k.before.before.args.parties)
 
 pub admit-at-spec : {M : Type 1} → statement M
 admit-at-spec =

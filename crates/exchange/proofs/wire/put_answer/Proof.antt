@@ -1,6 +1,6 @@
 -- `put_answer` meets its contract: the words of an answer are what is printed of it.
 use Rattle.std.proofs.Common.{◌*◌, rules}
-use Rattle.encoding.specs.Form.{form_of, replySize}
+use Rattle.encoding.specs.Form.{form_of, reply_size}
 use Rattle.exchange.proofs.Laws.Reply.{replied-as}
 use Rattle.exchange.proofs.wire.put_answer.Statement.{statement}
 use Rattle.exchange.proofs.wire.put_answer.Tie as tie
@@ -14,5 +14,5 @@ put-answer-spec =
     (λ c. search rules)
     (λ c.
     let a = c.before.before.before.before.before.before.args in
-    replied-as (form_of a.form) (replySize (form_of a.form) * a.i) a.party a.out.now c.before.before.put-reply-at.ensures
+    replied-as (form_of a.form) (reply_size (form_of a.form) * a.i) a.party a.out.now c.before.before.put-reply-at.ensures
     c.before.before.before.print-of.ensures))

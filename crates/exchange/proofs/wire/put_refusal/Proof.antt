@@ -1,6 +1,6 @@
 -- `put_refusal` meets its contract: of a refusal its code is printed.
 use Rattle.std.proofs.Common.{◌*◌, rules}
-use Rattle.encoding.specs.Form.{form_of, replySize}
+use Rattle.encoding.specs.Form.{form_of, reply_size}
 use Rattle.exchange.proofs.Laws.Reply.{replied-as}
 use Rattle.exchange.proofs.wire.put_refusal.Statement.{statement}
 use Rattle.exchange.proofs.wire.put_refusal.Tie as tie
@@ -14,5 +14,5 @@ put-refusal-spec =
     (λ c. search rules)
     (λ c.
     let a = c.before.before.before.before.before.before.args in
-    replied-as (form_of a.form) (replySize (form_of a.form) * a.i) a.a.party a.out.now c.before.before.put-reply-at.ensures
+    replied-as (form_of a.form) (reply_size (form_of a.form) * a.i) a.a.party a.out.now c.before.before.put-reply-at.ensures
     c.before.before.before.plain.ensures))

@@ -2,15 +2,15 @@
 use Rattle.std.proofs.Common.{◌≡◌, ℕ, ◌+◌, ◌-◌, ◌*◌, ◌≤◌, length, sym, refl, ap, ◌∙◌, subst, arith, rules}
 use borrow.Rule.Slice.PartMut.{put_mid}
 use Rattle.hub.specs.Answers.{Printed}
-use Rattle.encoding.specs.Form.{Form, asText, asBytes, form_of, inForm, replySize}
+use Rattle.encoding.specs.Form.{Form, as_text, as_bytes, form_of, in_form, reply_size}
 use Rattle.encoding.specs.Frame.{frame_of, paper}
 use Rattle.encoding.proofs.Laws.Parts.{parts}
 use Rattle.exchange.proofs.wire.put_reply_at.Statement.{statement}
 use Rattle.exchange.proofs.wire.put_reply_at.Tie as tie
 
-size : (form : Form) (party : ℕ) (p : Printed) → length (inForm form (frame_of party p)) ≡ replySize form
-size asText party p = refl
-size asBytes party p = refl
+size : (form : Form) (party : ℕ) (p : Printed) → length (in_form form (frame_of party p)) ≡ reply_size form
+size as_text party p = refl
+size as_bytes party p = refl
 
 reply-size-requires : tie.Need-reply-size-requires
 reply-size-requires c κs = search rules
@@ -55,8 +55,8 @@ returns c =
     let print = paper s.args.print in
     let k = z.reply-size.result in
     ap (put_mid (k * i) (k * i + k - k * i) out) c.before.before.put-reply.ensures
-    ∙ ap (λ (k : ℕ). put_mid (k * i) (k * i + k - k * i) out (inForm form (frame_of party print))) z.reply-size.ensures
-    ∙ parts out _ (replySize form * i) (replySize form) s.requires.1 (size form party print)
+    ∙ ap (λ (k : ℕ). put_mid (k * i) (k * i + k - k * i) out (in_form form (frame_of party print))) z.reply-size.ensures
+    ∙ parts out _ (reply_size form * i) (reply_size form) s.requires.1 (size form party print)
 
 pub put-reply-at-spec : {M : Type 1} → statement M
 put-reply-at-spec =

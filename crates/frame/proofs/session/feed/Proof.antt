@@ -4,7 +4,7 @@ use borrow.Author.Tests.{not-true, not-false}
 use mathlib.Core.Path.{◌≡◌, sym, ◌∙◌}
 use mathlib.Core.Bool.{true}
 use native.Mathlib.Omega.{arith}
-use Rattle.line.specs.Program.{isOpen}
+use Rattle.line.specs.Program.{is_open}
 use Rattle.frame.proofs.Laws.Feeding.{Early, lines-few, read-few, feeds-early, reachable-now}
 use Rattle.frame.proofs.Laws.Feeding.{short-now, late-few, late-room, all-few, feeds-both}
 use Rattle.frame.proofs.session.feed.Statement.{statement}
@@ -30,7 +30,7 @@ early u =
 abbrev opening : tie.Else1 → tie.After-until-open
 opening c = c.before.before.before.before.before.before
 
-now-open : (c : tie.Else1) → isOpen (opening c).until_open.result.hub ≡ true
+now-open : (c : tie.Else1) → is_open (opening c).until_open.result.hub ≡ true
 now-open c = sym c.before.is_open.ensures ∙ not-false _ c.if1.false
 
 until-open-requires : tie.Need-until-open-requires

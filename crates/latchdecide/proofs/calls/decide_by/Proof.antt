@@ -1,7 +1,7 @@
 -- `decide_by` meets its contract: each arm is that of its call.
 use borrow.Author.Rules.{rules}
 use Rattle.latch.specs.Table.{decide}
-use Rattle.latcheffect.specs.Effect.{effectBy}
+use Rattle.latcheffect.specs.Effect.{effect_by}
 use Rattle.latchdecide.proofs.Laws.Ops.{by-op}
 use Rattle.latchdecide.proofs.calls.decide_by.Statement.{statement}
 use Rattle.latchdecide.proofs.calls.decide_by.Tie as tie
@@ -31,25 +31,25 @@ decide-count-down-requires : tie.Need-decide-count-down-requires
 decide-count-down-requires c κs = search rules
 
 returns : tie.Need-returns
-unfolding effectBy decide
+unfolding effect_by decide
 returns c =
     let a = c.before.before.before.args in
     by-op 1 _ a.s a.op c.before.before.match.keys1 c.decide-step.ensures
 
 returns-2 : tie.Need-returns-2
-unfolding effectBy
+unfolding effect_by
 returns-2 c =
     let a = c.before.before.before.args in
     by-op 0 _ a.s a.op c.before.before.match.keys2 c.decide-await.ensures
 
 returns-3 : tie.Need-returns-3
-unfolding effectBy decide
+unfolding effect_by decide
 returns-3 c =
     let a = c.before.before.before.args in
     by-op 2 _ a.s a.op c.before.before.match.keys3 c.decide-cancel.ensures
 
 returns-4 : tie.Need-returns-4
-unfolding effectBy decide
+unfolding effect_by decide
 returns-4 c =
     let a = c.before.before.before.args in
     by-op 3 _ a.s a.op c.before.before.match.keys4 c.decide-count-down.ensures

@@ -6,9 +6,9 @@ use Rattle.hub.proofs.Laws.Phases.{phase-arm}
 use Rattle.hub.specs.declared.record.Phase.{Phase}
 use Rattle.hub.specs.Phases.{rank}
 use Rattle.latch.specs.declared.moves.LatchSight.{LatchSight}
-use Rattle.latch.specs.Fits.{HUB-ONLY}
+use Rattle.latch.specs.Fits.{HUB_ONLY}
 use Rattle.latch.specs.Moves.{Move}
-use Rattle.latch.specs.Table.{step, stepIn}
+use Rattle.latch.specs.Table.{step, step_in}
 use Rattle.latcheffect.specs.declared.effect.LatchEffect.{LatchEffect}
 use Rattle.latcheffect.specs.Effect.{effect_of}
 use Rattle.latchdecide.proofs.steps.decide_step.Statement.{statement}
@@ -16,11 +16,11 @@ use Rattle.latchdecide.proofs.steps.decide_step.Tie as tie
 
 -- The sight is written out at each arm: the row does not show it once its tests are made of it.
 in-phase : (s : LatchSight) {f : Phase} {e : LatchEffect} → s.slot.phase ≡ f
-    → e ≡ effect_of (stepIn f s) s → e ≡ effect_of (step s) s
-in-phase s i h = h ∙ ap (λ (x : Phase). effect_of (stepIn x s) s) (sym i)
+    → e ≡ effect_of (step_in f s) s → e ≡ effect_of (step s) s
+in-phase s i h = h ∙ ap (λ (x : Phase). effect_of (step_in x s) s) (sym i)
 
 pub decide-step-spec : {M : Type 1} → statement M
-unfolding stepIn
+unfolding step_in
 decide-step-spec =
     tie.close
     (tie.spec
@@ -56,7 +56,7 @@ decide-step-spec =
     let s = c.before.before.before.args.s in
     c.refused.ensures
     ∙ ap (λ (m : Move). effect_of m s)
-    (phase-arm (0 ∷ 2 ∷ []) (λ f. stepIn f s) s.slot.phase refl c.before.match.keys1))
+    (phase-arm (0 ∷ 2 ∷ []) (λ f. step_in f s) s.slot.phase refl c.before.match.keys1))
     (λ c. in-phase c.before.before.before.before.args.s c.before.enum_told.given.1 c.step-acquiring.ensures)
     (λ c. in-phase c.before.before.before.before.args.s c.before.enum-told2.given.1 c.step-suspending.ensures)
     (λ c. in-phase c.before.before.before.before.before.args.s c.before.before.phase.given.1 c.step-ticketed.ensures)
@@ -73,4 +73,4 @@ decide-step-spec =
     let s = c.before.before.before.args.s in
     c.refused2.ensures
     ∙ ap (λ (m : Move). effect_of m s)
-    (phase-arm (map rank HUB-ONLY) (λ f. stepIn f s) s.slot.phase refl c.before.match.keys14)))
+    (phase-arm (map rank HUB_ONLY) (λ f. step_in f s) s.slot.phase refl c.before.match.keys14)))

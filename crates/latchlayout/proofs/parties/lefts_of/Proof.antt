@@ -4,14 +4,14 @@ use Prim.Native.Nat.{ℕ, ◌-◌, ◌%◌}
 use mathlib.Core.Bool.{cond}
 use lib.ListN.{get_or}
 use Rattle.hub.specs.Phases.{resumes}
-use Rattle.latch.specs.Record.{freeSlot}
+use Rattle.latch.specs.Record.{free_slot}
 use Rattle.cells.proofs.Laws.Each.{Filled, start, onward, full}
 use Rattle.latchlayout.proofs.parties.lefts_of.Statement.{statement}
 use Rattle.latchlayout.proofs.parties.lefts_of.Tie as tie
 
 abbrev invariant-loop : tie.invariant-loop
 invariant-loop slots lefts₀ p₀ lefts p =
-    Filled (λ (q : ℕ). cond (resumes (get_or slots q freeSlot).phase) ((get_or slots q freeSlot).left % 256) 0) 32 lefts p
+    Filled (λ (q : ℕ). cond (resumes (get_or slots q free_slot).phase) ((get_or slots q free_slot).left % 256) 0) 32 lefts p
 
 abbrev decreases-loop : tie.decreases-loop
 decreases-loop slots lefts₀ p₀ lefts p = 32 - p

@@ -2,14 +2,14 @@
 use borrow.Author.Rules.{rules}
 use Prim.Native.Nat.{ℕ, ◌-◌}
 use lib.ListN.{get_or}
-use Rattle.latch.specs.Record.{freeSlot}
-use Rattle.cells.specs.Phases.{markOf}
+use Rattle.latch.specs.Record.{free_slot}
+use Rattle.cells.specs.Phases.{mark_of}
 use Rattle.cells.proofs.Laws.Each.{Filled, start, onward, full}
 use Rattle.latchlayout.proofs.parties.marks_of.Statement.{statement}
 use Rattle.latchlayout.proofs.parties.marks_of.Tie as tie
 
 abbrev invariant-loop : tie.invariant-loop
-invariant-loop slots marks₀ p₀ marks p = Filled (λ (q : ℕ). markOf (get_or slots q freeSlot).phase) 32 marks p
+invariant-loop slots marks₀ p₀ marks p = Filled (λ (q : ℕ). mark_of (get_or slots q free_slot).phase) 32 marks p
 
 abbrev decreases-loop : tie.decreases-loop
 decreases-loop slots marks₀ p₀ marks p = 32 - p

@@ -3,8 +3,8 @@ use borrow.Author.Rules.{rules}
 use mathlib.Core.Path.{refl, sym, ◌∙◌}
 use mathlib.Core.List.{[], ◌∷◌}
 use Rattle.hub.specs.declared.record.Phase.TheVariants.{Acquiring, AcquiringMarked}
-use Rattle.hub.specs.Phases.{isOneOf}
-use Rattle.hub.proofs.Laws.Phases.{allBut, phase-arm}
+use Rattle.hub.specs.Phases.{is_one_of}
+use Rattle.hub.proofs.Laws.Phases.{all_but, phase-arm}
 use Rattle.latchlayout.proofs.parties.name_of.Statement.{statement}
 use Rattle.latchlayout.proofs.parties.name_of.Tie as tie
 
@@ -21,22 +21,22 @@ phase-name-requires : tie.Need-phase-name-requires
 phase-name-requires c κs = search rules
 
 returns-2 : tie.Need-returns-2
-unfolding isOneOf
+unfolding is_one_of
 returns-2 c =
     let b = c.before.before in
     let radio = sym b.before.of-radios.ensures ∙ b.if1.false in
     let asked =
-    phase-arm (3 ∷ 14 ∷ []) (isOneOf (Acquiring ∷ AcquiringMarked ∷ [])) b.before.before.args.phase refl
+    phase-arm (3 ∷ 14 ∷ []) (is_one_of (Acquiring ∷ AcquiringMarked ∷ [])) b.before.before.args.phase refl
     c.before.match.keys1 in
     rw (radio, ← asked) c.asked-name.ensures
 
 returns-3 : tie.Need-returns-3
-unfolding isOneOf
+unfolding is_one_of
 returns-3 c =
     let b = c.before.before in
     let radio = sym b.before.of-radios.ensures ∙ b.if1.false in
     let asked =
-    phase-arm (allBut (3 ∷ 14 ∷ [])) (isOneOf (Acquiring ∷ AcquiringMarked ∷ [])) b.before.before.args.phase refl
+    phase-arm (all_but (3 ∷ 14 ∷ [])) (is_one_of (Acquiring ∷ AcquiringMarked ∷ [])) b.before.before.args.phase refl
     c.before.match.keys2 in
     rw (radio, ← asked) c.phase-name.ensures
 

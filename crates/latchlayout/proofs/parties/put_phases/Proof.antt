@@ -5,18 +5,18 @@ use mathlib.Core.Path.{ap, ◌∙◌}
 use mathlib.Core.List.{◌∷◌}
 use native.Mathlib.Omega.{arith}
 use lib.ListN.{length}
-use Rattle.hub.specs.Phases.{ticketOf}
+use Rattle.hub.specs.Phases.{ticket_of}
 use Rattle.latch.specs.declared.record.LatchSlot.{LatchSlot}
-use Rattle.latch.specs.Record.{freeSlot}
-use Rattle.cells.specs.Bytes.{fourOf}
+use Rattle.latch.specs.Record.{free_slot}
+use Rattle.cells.specs.Bytes.{four_of}
 use Rattle.cells.proofs.Laws.Cells.{Celled, no_cell, cell-more, all-cells}
-use Rattle.latchlayout.specs.Written.{nameOf}
+use Rattle.latchlayout.specs.Written.{name_of}
 use Rattle.latchlayout.proofs.parties.put_phases.Statement.{statement}
 use Rattle.latchlayout.proofs.parties.put_phases.Tie as tie
 
 abbrev invariant-loop : tie.invariant-loop
 invariant-loop out₀ slots p₀ out p =
-    Celled (λ (s : LatchSlot). nameOf s.phase s.raising ∷ fourOf (ticketOf s.phase)) slots 32 out p
+    Celled (λ (s : LatchSlot). name_of s.phase s.raising ∷ four_of (ticket_of s.phase)) slots 32 out p
 
 abbrev decreases-loop : tie.decreases-loop
 decreases-loop out₀ slots p₀ out p = 32 - p
@@ -66,9 +66,9 @@ loop-again c =
     let put = c.before.before.put-cell in
     let name = c.before.before.before.before.name_of.ensures in
     let number = c.before.before.before.ticket.ensures in
-    cell-more _ _ _ _ _ freeSlot put.new.0 l.loop.invariant
+    cell-more _ _ _ _ _ free_slot put.new.0 l.loop.invariant
     c.before.before.before.before.before.before.before.loop-test.true
-    (put.ensures ∙ (λ j. name j ∷ fourOf (number j))) (ap length put.ensures)
+    (put.ensures ∙ (λ j. name j ∷ four_of (number j))) (ap length put.ensures)
 
 same_length : tie.Need-same-length invariant-loop decreases-loop
 same_length c = omega (arith, c.before.loop.invariant.long, c.before.before.before.requires)

@@ -5,8 +5,8 @@ use mathlib.Core.Path.{ap, ◌∙◌}
 use lib.Dec.{eqb}
 use lib.ListN.{get_or}
 use Rattle.hub.specs.declared.record.Phase.{Phase}
-use Rattle.cells.specs.Phases.{marked, phaseNamed}
-use Rattle.latchlayout.specs.Read.{nameIn}
+use Rattle.cells.specs.Phases.{marked, phase_named}
+use Rattle.latchlayout.specs.Read.{name_in}
 use Rattle.latchlayout.proofs.parties.slot_of.Statement.{statement}
 use Rattle.latchlayout.proofs.parties.slot_of.Tie as tie
 
@@ -60,9 +60,9 @@ returns c =
           (c.marked.ensures
           ∙ ap (λ (f : Phase). marked f (get_or b (1491 + p) 0))
           (c.before.before.before.before.phase-named.ensures
-          ∙ ap (phaseNamed (nameIn b p)) c.before.before.before.before.before.number_at.ensures))
+          ∙ ap (phase_named (name_in b p)) c.before.before.before.before.before.number_at.ensures))
           j;
-      raising = eqb (nameIn b p) 14;
+      raising = eqb (name_in b p) 14;
       left = c.before.before.wide.ensures.0 j;
     }
 

@@ -2,7 +2,7 @@
 use mathlib.Core.Path.{ap, ◌∙◌}
 use mathlib.Core.Bool.{Bool}
 use borrow.Author.Rules.{rules}
-use Rattle.latcheffect.specs.Effect.{effectBy}
+use Rattle.latcheffect.specs.Effect.{effect_by}
 use Rattle.latchmove.proofs.Laws.Ops.{as-asked}
 use Rattle.latchmove.proofs.effect.decide.Statement.{statement}
 use Rattle.latchmove.proofs.effect.decide.Tie as tie
@@ -17,7 +17,7 @@ returns : tie.Need-returns
 returns c =
     let a = c.before.before.args in
     c.decide_by.ensures
-    ∙ ap (λ (b : Bool). effectBy a.op b a.s) c.before.full-for.ensures
+    ∙ ap (λ (b : Bool). effect_by a.op b a.s) c.before.full-for.ensures
     ∙ as-asked _ a.s a.op
 
 pub decide-spec : {M : Type 1} → statement M

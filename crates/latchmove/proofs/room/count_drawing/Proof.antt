@@ -4,16 +4,16 @@ use mathlib.Core.Path.{sym, ◌∙◌}
 use native.Mathlib.Omega.{arith}
 use Prim.Native.Nat.{◌-◌}
 use lib.ListN.{get_or}
-use Rattle.hub.specs.Phases.{drawsTicket}
+use Rattle.hub.specs.Phases.{draws_ticket}
 use Rattle.latch.specs.declared.record.LatchSlot.{LatchSlot}
-use Rattle.latch.specs.Record.{freeSlot}
+use Rattle.latch.specs.Record.{free_slot}
 use Rattle.counts.proofs.Laws.Counting.{Counting, bit-most, counting-on, counting-all}
 use Rattle.latchmove.proofs.Laws.Counting.{by_slots}
 use Rattle.latchmove.proofs.room.count_drawing.Statement.{statement}
 use Rattle.latchmove.proofs.room.count_drawing.Tie as tie
 
 abbrev invariant-loop : tie.invariant-loop
-invariant-loop slots n₀ p₀ n p = Counting (λ (s : LatchSlot). drawsTicket s.phase) slots 32 p n
+invariant-loop slots n₀ p₀ n p = Counting (λ (s : LatchSlot). draws_ticket s.phase) slots 32 p n
 
 abbrev decreases-loop : tie.decreases-loop
 decreases-loop slots n₀ p₀ n p = 32 - p
@@ -34,13 +34,13 @@ drawing-requires c κs = search rules
 add-n : tie.Need-overflow-add-n invariant-loop decreases-loop
 add-n c =
     let l = c.before.before.before in
-    let slot = get_or l.before.args.t1 l.loop.p freeSlot in
+    let slot = get_or l.before.args.t1 l.loop.p free_slot in
     omega (
       arith,
       c.drawing.ensures,
       l.loop.invariant.few,
       l.loop.invariant.within,
-      bit-most (drawsTicket slot.phase),
+      bit-most (draws_ticket slot.phase),
     )
 
 add-p : tie.Need-overflow-add-p invariant-loop decreases-loop
@@ -52,7 +52,7 @@ loop-less c = search rules
 loop-again : tie.Need-loop-preserved invariant-loop decreases-loop
 loop-again c =
     let l = c.before.before.before in
-    counting-on _ _ _ _ _ l.loop.invariant freeSlot _ c.before.before.loop-test.true
+    counting-on _ _ _ _ _ l.loop.invariant free_slot _ c.before.before.loop-test.true
     c.drawing.ensures
 
 returns : tie.Need-returns invariant-loop decreases-loop

@@ -9,22 +9,22 @@ use native.Mathlib.Omega.{arith}
 use lib.ListN.{length}
 use Rattle.latch.specs.declared.moves.LatchOp.{LatchOp}
 use Rattle.hub.specs.Basics.{count}
-use Rattle.latch.specs.Calls.{isFull}
-use Rattle.hub.specs.Phases.{drawsTicket}
-use Rattle.latch.specs.Record.{phasesOf}
-use Rattle.latchmove.specs.Room.{fullFor}
+use Rattle.latch.specs.Calls.{is_full}
+use Rattle.hub.specs.Phases.{draws_ticket}
+use Rattle.latch.specs.Record.{phases_of}
+use Rattle.latchmove.specs.Room.{full_for}
 use Rattle.latchmove.proofs.Laws.Counting.{draws-few}
 use Rattle.latchmove.proofs.Laws.Ops.{unasked}
 use Rattle.latchmove.proofs.room.full_for.Statement.{statement}
 use Rattle.latchmove.proofs.room.full_for.Tie as tie
 
 abbrev full : tie.Start → Bool
-full s = isFull s.args.oldest s.args.issued s.args.slots
+full s = is_full s.args.oldest s.args.issued s.args.slots
 
 -- It is an await that comes past the first test.
 an-await : (c : tie.After-enum-told) (b : Bool)
-    → b ≡ full c.before.before → b ≡ fullFor c.before.before.args.op (full c.before.before)
-an-await c b e = e ∙ ap (λ (o : LatchOp). fullFor o (full c.before.before)) (sym c.enum_told.given.1)
+    → b ≡ full c.before.before → b ≡ full_for c.before.before.args.op (full c.before.before)
+an-await c b e = e ∙ ap (λ (o : LatchOp). full_for o (full c.before.before)) (sym c.enum_told.given.1)
 
 enum_told : tie.Need-enum-told
 enum_told c = search rules
@@ -46,7 +46,7 @@ returns-2 c =
     let a = c.before.before.before.args in
     let size : length a.slots ≡ 32 = search rules in
     an-await c.before _
-    (sym (lt-leb (a.oldest + 256) (a.issued + count drawsTicket (phasesOf a.slots))
+    (sym (lt-leb (a.oldest + 256) (a.issued + count draws_ticket (phases_of a.slots))
     (omega (arith, c.if1.true, size, draws-few a.slots))))
 
 is-full-requires : tie.Need-is-full-requires

@@ -2,9 +2,9 @@
 use borrow.Author.Rules.{rules}
 use mathlib.Core.Path.{refl, sym}
 use mathlib.Core.List.{[], ◌∷◌}
-use Rattle.hub.proofs.Laws.Phases.{allBut, phase-arm}
-use Rattle.hub.specs.Phases.{isOneOf, isWaiting}
-use Rattle.latch.specs.Table.{resumeWaiter}
+use Rattle.hub.proofs.Laws.Phases.{all_but, phase-arm}
+use Rattle.hub.specs.Phases.{is_one_of, is_waiting}
+use Rattle.latch.specs.Table.{resume_waiter}
 use Rattle.latcheffect.proofs.Laws.Changes.{puts, wakes}
 use Rattle.latchtable.proofs.rows.resume_waiter.Statement.{statement}
 use Rattle.latchtable.proofs.rows.resume_waiter.Tie as tie
@@ -19,10 +19,10 @@ placed-requires : tie.Need-placed-requires
 placed-requires c κs = search rules
 
 returns : tie.Need-returns
-unfolding resumeWaiter isOneOf
+unfolding resume_waiter is_one_of
 returns c =
     let s = c.before.before.before.before.args.s in
-    let e = sym (phase-arm (allBut (2 ∷ [])) isWaiting s.waiter.phase refl c.before.before.match.keys2) in
+    let e = sym (phase-arm (all_but (2 ∷ [])) is_waiting s.waiter.phase refl c.before.before.match.keys2) in
     rw e (puts s _ c.placed.ensures refl c.before.used-one.ensures)
 
 used-one-requires-2 : tie.Need-used-one-requires-2
@@ -32,7 +32,7 @@ woke-requires : tie.Need-woke-requires
 woke-requires c κs = search rules
 
 returns-2 : tie.Need-returns-2
-unfolding resumeWaiter isOneOf
+unfolding resume_waiter is_one_of
 returns-2 c =
     let e = c.before.before.enum_told.given.1 in
     rw e (wakes c.before.before.before.before.before.args.s _ _ c.woke.ensures c.before.used-one2.ensures)

@@ -2,7 +2,7 @@
 use borrow.Author.Rules.{rules}
 use borrow.Author.Tests.{eq-eqb, ne_eqb, not-true, not-false}
 use mathlib.Core.Path.{refl}
-use Rattle.latch.specs.Table.{stepAcquiring}
+use Rattle.latch.specs.Table.{step_acquiring}
 use Rattle.latcheffect.proofs.Laws.Changes.{acts}
 use Rattle.latchtable.proofs.rows.step_acquiring.Statement.{statement}
 use Rattle.latchtable.proofs.rows.step_acquiring.Tie as tie
@@ -14,7 +14,7 @@ turned-requires : tie.Need-turned-requires
 turned-requires c κs = search rules
 
 returns : tie.Need-returns
-unfolding stepAcquiring
+unfolding step_acquiring
 returns c =
     let s = c.before.before.before.before.before.args.s in
     rw (eq-eqb _ _ c.before.before.if1.true) (acts s _ c.turned.ensures c.before.free-slot.ensures refl)
@@ -26,7 +26,7 @@ turned-requires-2 : tie.Need-turned-requires-2
 turned-requires-2 c κs = search rules
 
 returns-2 : tie.Need-returns-2
-unfolding stepAcquiring
+unfolding step_acquiring
 returns-2 c =
     let s = c.before.before.before.before.before.before.args.s in
     rw (ne_eqb _ _ c.before.before.before.if1.false, not-true s.slot.raising c.before.before.if2.true)
@@ -45,7 +45,7 @@ acted-requires : tie.Need-acted-requires
 acted-requires c κs = search rules
 
 returns-3 : tie.Need-returns-3
-unfolding stepAcquiring
+unfolding step_acquiring
 returns-3 c =
     let b = c.before.before.before.before in
     let s = b.before.before.before.before.args.s in

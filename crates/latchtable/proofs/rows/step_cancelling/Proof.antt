@@ -4,7 +4,7 @@ use mathlib.Core.Path.{refl, ap, ◌∙◌}
 use mathlib.Core.List.{[], ◌∷◌}
 use Rattle.hub.proofs.Laws.Phases.{place-arm}
 use Rattle.latch.specs.Moves.{Move}
-use Rattle.latch.specs.Table.{stepIn, stepCancelling}
+use Rattle.latch.specs.Table.{step_in, step_cancelling}
 use Rattle.latcheffect.specs.Effect.{effect_of}
 use Rattle.latcheffect.proofs.Laws.Changes.{puts}
 use Rattle.latchtable.proofs.rows.step_cancelling.Statement.{statement}
@@ -32,27 +32,27 @@ refused-requires : tie.Need-refused-requires
 refused-requires c κs = search rules
 
 returns : tie.Need-returns
-unfolding stepIn stepCancelling
+unfolding step_in step_cancelling
 returns c =
     let b = c.before.before in
     rw b.enum_told.given.1
     (puts b.before.before.before.args.s _ c.placed.ensures refl c.before.free-slot.ensures)
 
 returns-2 : tie.Need-returns-2
-unfolding stepIn stepCancelling
+unfolding step_in step_cancelling
 returns-2 c =
     let b = c.before.before in
     rw b.enum-told2.given.1
     (puts b.before.before.before.args.s _ c.placed2.ensures refl c.before.with-left.ensures)
 
 returns-3 : tie.Need-returns-3
-unfolding stepIn stepCancelling
+unfolding step_in step_cancelling
 returns-3 c =
     let a = c.before.before.before.args in
     let s = a.s in
     c.refused.ensures
     ∙ ap (λ (m : Move). effect_of m s)
-    (place-arm (0 ∷ 3 ∷ 4 ∷ 5 ∷ []) (λ x. stepCancelling a.t x s) s.seat.place refl c.before.match.keys3)
+    (place-arm (0 ∷ 3 ∷ 4 ∷ 5 ∷ []) (λ x. step_cancelling a.t x s) s.seat.place refl c.before.match.keys3)
 
 pub step-cancelling-spec : {M : Type 1} → statement M
 step-cancelling-spec =

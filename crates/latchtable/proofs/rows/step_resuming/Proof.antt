@@ -1,6 +1,6 @@
 -- `step_resuming` meets its contract: it draws its row's ticket, and one more still fits.
 use borrow.Author.Rules.{rules}
-use Rattle.latch.specs.Table.{stepIn, stepResuming}
+use Rattle.latch.specs.Table.{step_in, step_resuming}
 use Rattle.latcheffect.proofs.Laws.Changes.{acts}
 use Rattle.latchtable.proofs.rows.step_resuming.Statement.{statement}
 use Rattle.latchtable.proofs.rows.step_resuming.Tie as tie
@@ -18,7 +18,7 @@ acted-requires : tie.Need-acted-requires
 acted-requires c κs = search rules
 
 returns : tie.Need-returns
-unfolding stepIn stepResuming
+unfolding step_in step_resuming
 returns c =
     let s = c.before.before.before.before.args.s in
     acts s _ c.acted.ensures c.before.with-left.ensures c.before.before.with-resumed.ensures

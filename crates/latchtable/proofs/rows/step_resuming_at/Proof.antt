@@ -5,7 +5,7 @@ use mathlib.Core.List.{[], ◌∷◌}
 use Rattle.hub.proofs.Laws.Phases.{place-arm}
 use Rattle.hub.specs.declared.record.Place.{Place}
 use Rattle.latch.specs.Moves.{Move}
-use Rattle.latch.specs.Table.{stepIn, stepResumingAt}
+use Rattle.latch.specs.Table.{step_in, step_resuming_at}
 use Rattle.latcheffect.specs.Effect.{effect_of}
 use Rattle.latcheffect.proofs.Laws.Changes.{puts}
 use Rattle.latchtable.proofs.rows.step_resuming_at.Statement.{statement}
@@ -51,42 +51,42 @@ refused-requires : tie.Need-refused-requires
 refused-requires c κs = search rules
 
 returns : tie.Need-returns
-unfolding stepIn stepResumingAt
+unfolding step_in step_resuming_at
 returns c =
     let b = c.before.before in
     rw b.enum_told.given.1
     (puts b.before.before.before.args.s _ c.placed.ensures refl c.before.used-one.ensures)
 
 returns-2 : tie.Need-returns-2
-unfolding stepIn stepResumingAt
+unfolding step_in step_resuming_at
 returns-2 c =
     let a = c.before.before.before.before.before.args in
     c.resume-waiter.ensures
-    ∙ ap (λ (x : Place). effect_of (stepResumingAt a.t x a.s) a.s)
+    ∙ ap (λ (x : Place). effect_of (step_resuming_at a.t x a.s) a.s)
     (sym c.before.before.place.given.1)
 
 returns-3 : tie.Need-returns-3
-unfolding stepIn stepResumingAt
+unfolding step_in step_resuming_at
 returns-3 c =
     let b = c.before.before in
     rw b.enum-told2.given.1
     (puts b.before.before.before.args.s _ c.placed2.ensures refl c.before.with-left.ensures)
 
 returns-4 : tie.Need-returns-4
-unfolding stepIn stepResumingAt
+unfolding step_in step_resuming_at
 returns-4 c =
     let b = c.before.before in
     rw b.enum-told3.given.1
     (puts b.before.before.before.args.s _ c.placed3.ensures refl c.before.used-one2.ensures)
 
 returns-5 : tie.Need-returns-5
-unfolding stepIn stepResumingAt
+unfolding step_in step_resuming_at
 returns-5 c =
     let a = c.before.before.before.args in
     let s = a.s in
     c.refused.ensures
     ∙ ap (λ (m : Move). effect_of m s)
-    (place-arm (2 ∷ 5 ∷ []) (λ x. stepResumingAt a.t x s) s.seat.place refl c.before.match.keys5)
+    (place-arm (2 ∷ 5 ∷ []) (λ x. step_resuming_at a.t x s) s.seat.place refl c.before.match.keys5)
 
 pub step-resuming-at-spec : {M : Type 1} → statement M
 step-resuming-at-spec =

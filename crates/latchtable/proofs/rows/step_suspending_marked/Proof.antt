@@ -1,6 +1,6 @@
 -- `step_suspending_marked` meets its contract: it draws its row's ticket, and one more still fits.
 use borrow.Author.Rules.{rules}
-use Rattle.latch.specs.Table.{stepIn, stepSuspending}
+use Rattle.latch.specs.Table.{step_in, step_suspending}
 use Rattle.latcheffect.proofs.Laws.Changes.{acts}
 use Rattle.latchtable.proofs.rows.step_suspending_marked.Statement.{statement}
 use Rattle.latchtable.proofs.rows.step_suspending_marked.Tie as tie
@@ -18,7 +18,7 @@ acted-requires : tie.Need-acted-requires
 acted-requires c κs = search rules
 
 returns : tie.Need-returns
-unfolding stepIn stepSuspending
+unfolding step_in step_suspending
 returns c =
     let s = c.before.before.before.before.args.s in
     acts s _ c.acted.ensures c.before.in-phase.ensures c.before.before.with-issued.ensures

@@ -4,7 +4,7 @@ use mathlib.Core.Path.{refl, ap, ◌∙◌}
 use mathlib.Core.List.{[], ◌∷◌}
 use Rattle.hub.proofs.Laws.Phases.{place-arm}
 use Rattle.latch.specs.Moves.{Move}
-use Rattle.latch.specs.Table.{stepTicketed}
+use Rattle.latch.specs.Table.{step_ticketed}
 use Rattle.latcheffect.specs.Effect.{effect_of}
 use Rattle.latcheffect.proofs.Laws.Changes.{puts}
 use Rattle.latchtable.proofs.rows.step_ticketed.Statement.{statement}
@@ -35,7 +35,7 @@ refused-requires : tie.Need-refused-requires
 refused-requires c κs = search rules
 
 returns : tie.Need-returns
-unfolding stepTicketed
+unfolding step_ticketed
 returns c =
     let b = c.before.before in
     rw b.before.enum_told.given.1
@@ -43,20 +43,20 @@ returns c =
     c.before.in-phase.ensures)
 
 returns-2 : tie.Need-returns-2
-unfolding stepTicketed
+unfolding step_ticketed
 returns-2 c =
     let b = c.before.before in
     rw b.enum-told2.given.1
     (puts b.before.before.before.args.s _ c.placed2.ensures refl c.before.free-slot.ensures)
 
 returns-3 : tie.Need-returns-3
-unfolding stepTicketed
+unfolding step_ticketed
 returns-3 c =
     let a = c.before.before.before.args in
     let s = a.s in
     c.refused.ensures
     ∙ ap (λ (m : Move). effect_of m s)
-    (place-arm (1 ∷ 3 ∷ 4 ∷ 5 ∷ []) (λ x. stepTicketed a.next a.t x s) s.seat.place refl
+    (place-arm (1 ∷ 3 ∷ 4 ∷ 5 ∷ []) (λ x. step_ticketed a.next a.t x s) s.seat.place refl
     c.before.match.keys3)
 
 pub step-ticketed-spec : {M : Type 1} → statement M

@@ -4,11 +4,11 @@ use lib.ListN.{length, replicate}
 use mir.Facts.{to_z-of_z}
 use mir.Syntax.{w32}
 use mir.Val.{SFits}
-use Rattle.encoding.specs.Frame.{twosComplement}
+use Rattle.encoding.specs.Frame.{twos_complement}
 use mathlib.Core.Path.{refl, ap, ◌∙◌}
 use mathlib.Core.List.{[], ◌∷◌}
 use native.Mathlib.Omega.{arith}
-use Rattle.cells.specs.Bytes.{fourOf}
+use Rattle.cells.specs.Bytes.{four_of}
 use Rattle.cells.proofs.Laws.Cells.{nothing, next, all-written}
 use Rattle.layout.proofs.figures.figure_bytes.Statement.{statement}
 use Rattle.layout.proofs.figures.figure_bytes.Tie as tie
@@ -67,9 +67,9 @@ returns c =
     (omega arith) refl refl at-put-bytes-at.put-bytes-at.ensures in
     let counter =
     at-number-bytes.number-bytes.ensures
-    ∙ ap fourOf
+    ∙ ap four_of
     (at-twos-complement.twos-complement.ensures
-    ∙ ap twosComplement (to_z-of_z (bits start))) in
+    ∙ ap twos_complement (to_z-of_z (bits start))) in
     let w2 =
     next 22 _ 2 4 _ _ _ _ w1 (omega arith) counter (ap length counter)
     at-put-bytes-at2.put-bytes-at2.ensures in

@@ -6,17 +6,17 @@ use mathlib.Core.List.{◌∷◌}
 use native.Mathlib.Omega.{arith}
 use lib.ListN.{length}
 use Rattle.hub.specs.declared.record.PartySlot.{PartySlot}
-use Rattle.hub.specs.Phases.{ticketOf}
-use Rattle.hub.specs.Record.{freeSlot}
-use Rattle.cells.specs.Bytes.{fourOf}
-use Rattle.cells.specs.Phases.{phaseName}
+use Rattle.hub.specs.Phases.{ticket_of}
+use Rattle.hub.specs.Record.{free_slot}
+use Rattle.cells.specs.Bytes.{four_of}
+use Rattle.cells.specs.Phases.{phase_name}
 use Rattle.cells.proofs.Laws.Cells.{Celled, no_cell, cell-more, all-cells}
 use Rattle.layout.proofs.parties.put_phases.Statement.{statement}
 use Rattle.layout.proofs.parties.put_phases.Tie as tie
 
 abbrev invariant-loop : tie.invariant-loop
 invariant-loop out₀ slots p₀ out p =
-    Celled (λ (s : PartySlot). phaseName s.phase ∷ fourOf (ticketOf s.phase)) slots 32 out p
+    Celled (λ (s : PartySlot). phase_name s.phase ∷ four_of (ticket_of s.phase)) slots 32 out p
 
 abbrev decreases-loop : tie.decreases-loop
 decreases-loop out₀ slots p₀ out p = 32 - p
@@ -66,9 +66,9 @@ loop-again c =
     let put = c.before.before.put-cell in
     let name = c.before.before.before.before.phase-name.ensures in
     let number = c.before.before.before.ticket.ensures in
-    cell-more _ _ _ _ _ freeSlot put.new.0 l.loop.invariant
+    cell-more _ _ _ _ _ free_slot put.new.0 l.loop.invariant
     c.before.before.before.before.before.before.before.loop-test.true
-    (put.ensures ∙ (λ j. name j ∷ fourOf (number j))) (ap length put.ensures)
+    (put.ensures ∙ (λ j. name j ∷ four_of (number j))) (ap length put.ensures)
 
 same_length : tie.Need-same-length invariant-loop decreases-loop
 same_length c = omega (arith, c.before.loop.invariant.long, c.before.before.before.requires)

@@ -4,8 +4,8 @@ use Prim.Native.Nat.{◌+◌, ◌*◌, ◌%◌}
 use mathlib.Core.Path.{ap, ap₂, ◌∙◌}
 use lib.ListN.{get_or}
 use Rattle.hub.specs.declared.record.Phase.{Phase}
-use Rattle.hub.specs.Record.{withPhase}
-use Rattle.cells.specs.Phases.{marked, phaseNamed}
+use Rattle.hub.specs.Record.{with_phase}
+use Rattle.cells.specs.Phases.{marked, phase_named}
 use Rattle.layout.proofs.parties.slot_of.Statement.{statement}
 use Rattle.layout.proofs.parties.slot_of.Tie as tie
 
@@ -51,11 +51,11 @@ returns c =
     let b = s.args.bytes.now in
     let p = s.args.p in
     c.with-phase.ensures
-    ∙ ap₂ withPhase
+    ∙ ap₂ with_phase
     (c.before.before.marked.ensures
     ∙ ap (λ (f : Phase). marked f (get_or b (1817 + p) 0))
     (c.before.before.before.before.phase-named.ensures
-    ∙ ap (phaseNamed (get_or b (1302 + 5 * p) 0 % 14)) c.before.before.before.before.before.number_at.ensures))
+    ∙ ap (phase_named (get_or b (1302 + 5 * p) 0 % 14)) c.before.before.before.before.before.number_at.ensures))
     c.before.free-slot.ensures
 
 pub slot-of-spec : {M : Type 1} → statement M

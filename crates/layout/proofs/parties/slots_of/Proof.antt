@@ -1,13 +1,13 @@
 -- `slots_of` meets its contract: the parties so far are read.
 use borrow.Author.Rules.{rules}
 use Prim.Native.Nat.{◌-◌}
-use Rattle.layout.specs.Read.{slotIn}
+use Rattle.layout.specs.Read.{slot_in}
 use Rattle.cells.proofs.Laws.Each.{Filled, start, onward, full}
 use Rattle.layout.proofs.parties.slots_of.Statement.{statement}
 use Rattle.layout.proofs.parties.slots_of.Tie as tie
 
 abbrev invariant-loop : tie.invariant-loop
-invariant-loop bytes slots₀ p₀ slots p = Filled (slotIn bytes) 32 slots p
+invariant-loop bytes slots₀ p₀ slots p = Filled (slot_in bytes) 32 slots p
 
 abbrev decreases-loop : tie.decreases-loop
 decreases-loop bytes slots₀ p₀ slots p = 32 - p

@@ -2,7 +2,7 @@
 use borrow.Author.Rules.{rules}
 use native.Mathlib.Omega.{arith}
 use mathlib.Core.Path.{ap, ◌∙◌}
-use Rattle.line.specs.Requests.{toOpen}
+use Rattle.line.specs.Requests.{to_open}
 use Rattle.line.proofs.Laws.Openings.{Frame, asked-for, in_frame}
 use Rattle.line.proofs.openings.opening_in.Statement.{statement}
 use Rattle.line.proofs.openings.opening_in.Tie as tie
@@ -73,7 +73,7 @@ returns c =
     let b = c.before.before in
     let p = b.before in
     let r = p.before.before.before in
-    ap toOpen c.given-kinds.ensures
+    ap to_open c.given-kinds.ensures
     ∙ asked-for _ (framed r.before.before.before.before) _ r.frame-size.ensures _ _
     p.padded.ensures b.built_in.ensures
 

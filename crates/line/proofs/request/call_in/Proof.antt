@@ -5,7 +5,7 @@ use mathlib.Core.Path.{sym, ap, ◌∙◌, subst}
 use native.Mathlib.Omega.{arith}
 use Rattle.encoding.specs.Frame.{is_call, op_of, code_of}
 use Rattle.encoding.specs.Hex.{byte_of}
-use Rattle.line.specs.Requests.{headerOf}
+use Rattle.line.specs.Requests.{header_of}
 use Rattle.line.proofs.Laws.Codes.{under, over, a-code, code-back}
 use Rattle.line.proofs.Laws.Lines.{from, four-code, four-party, four}
 use Rattle.line.proofs.request.call_in.Statement.{statement}
@@ -22,7 +22,7 @@ returns c =
     let h = c.before.before in
     let s = h.before.before in
     c.malformed.ensures
-    ∙ ap headerOf (four-code s.args.line.now s.requires
+    ∙ ap header_of (four-code s.args.line.now s.requires
     (ap is_call (sym h.hex-byte.ensures) ∙ under _ c.before.if1.true))
 
 malformed-requires-2 : tie.Need-malformed-requires-2
@@ -33,7 +33,7 @@ returns-2 c =
     let h = c.before.before.before in
     let s = h.before.before in
     c.malformed2.ensures
-    ∙ ap headerOf (four-code s.args.line.now s.requires
+    ∙ ap header_of (four-code s.args.line.now s.requires
     (ap is_call (sym h.hex-byte.ensures) ∙ over _ c.before.if2.true))
 
 sub-hex-byte : tie.Need-overflow-sub-hex-byte
@@ -57,7 +57,7 @@ returns-3 c =
     let h = g.before.before.before.before in
     let s = h.before.before in
     c.malformed3.ensures
-    ∙ ap headerOf (four-party s.args.line.now s.requires
+    ∙ ap header_of (four-party s.args.line.now s.requires
     (subst (λ (b : ℕ). 256 ≤ b) (g.hex-byte2.ensures ∙ ap byte_of (from 2 s.args.line.now))
     c.before.if3.true))
 
@@ -78,7 +78,7 @@ returns-4 c =
     let low = g.before.before.before.if1.false in
     let high = g.before.before.if2.false in
     (λ i. record { code = (sym (code-back _ low high) ∙ ap (λ (b : ℕ). code_of (op_of b)) e) i; party = f i })
-    ∙ ap headerOf (four l s.requires (ap is_call (sym e) ∙ a-code _ low high)
+    ∙ ap header_of (four l s.requires (ap is_call (sym e) ∙ a-code _ low high)
     (subst (λ (b : ℕ). b < 256) e (omega arith)) (subst (λ (b : ℕ). b < 256) f c.if3.false))
 
 pub call-in-spec : {M : Type 1} → statement M

@@ -1,7 +1,7 @@
 -- `is_opening` meets its contract: the bytes of a line are asked as the line is.
 use borrow.Author.Rules.{rules}
 use mathlib.Core.Path.{ap, ◌∙◌}
-use Rattle.line.specs.Requests.{isOpening}
+use Rattle.line.specs.Requests.{is_opening}
 use Rattle.line.proofs.Laws.Decoding.{as_line}
 use Rattle.line.proofs.request.is_opening.Statement.{statement}
 use Rattle.line.proofs.request.is_opening.Tie as tie
@@ -28,7 +28,7 @@ returns : tie.Need-returns
 returns c =
     let d = c.before.before.before.before.decode in
     c.is-opening-frame.ensures
-    ∙ ap isOpening (as_line _ d.new.1.0 d.result d.ensures.0.1)
+    ∙ ap is_opening (as_line _ d.new.1.0 d.result d.ensures.0.1)
 
 pub is-opening-spec : {M : Type 1} → statement M
 is-opening-spec =

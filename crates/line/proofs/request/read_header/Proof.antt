@@ -2,7 +2,7 @@
 use borrow.Author.Rules.{rules}
 use borrow.Author.Tests.{not-true, not-false}
 use mathlib.Core.Path.{sym, ◌∙◌}
-use Rattle.line.specs.Requests.{requestOf}
+use Rattle.line.specs.Requests.{request_of}
 use Rattle.line.proofs.Laws.Lines.{not-four, an-opening}
 use Rattle.line.proofs.request.read_header.Statement.{statement}
 use Rattle.line.proofs.request.read_header.Tie as tie
@@ -29,7 +29,7 @@ returns-2 c =
 returns-3 : tie.Need-returns-3
 returns-3 c =
     let o = c.before in
-    an-opening (requestOf o.before.before.before.args.line.now)
+    an-opening (request_of o.before.before.before.args.line.now)
     (sym o.is-opening.ensures ∙ not-false _ c.if2.false)
 
 pub read-header-spec : {M : Type 1} → statement M

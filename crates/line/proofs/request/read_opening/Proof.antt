@@ -1,7 +1,7 @@
 -- `read_opening` meets its contract: the bytes of a line are asked as the line is.
 use borrow.Author.Rules.{rules}
 use mathlib.Core.Path.{ap, ◌∙◌}
-use Rattle.line.specs.Requests.{isOpening}
+use Rattle.line.specs.Requests.{is_opening}
 use Rattle.line.proofs.Laws.Decoding.{as_line}
 use Rattle.line.proofs.request.read_opening.Statement.{statement}
 use Rattle.line.proofs.request.read_opening.Tie as tie
@@ -25,7 +25,7 @@ opening-in-requires : tie.Need-opening-in-requires
 opening-in-requires c κs =
     let b = c.before.before.before in
     let d = b.decode in
-    ap isOpening (as_line _ d.new.1.0 d.result d.ensures.0.1) ∙ b.before.before.before.requires
+    ap is_opening (as_line _ d.new.1.0 d.result d.ensures.0.1) ∙ b.before.before.before.requires
 
 returns : tie.Need-returns
 returns c =

@@ -1,12 +1,12 @@
 -- `table` meets its contract: each entry passes the test.
 use mathlib.Core.Path.{refl}
-use Rattle.encoding.specs.Hex.{digitOf}
+use Rattle.encoding.specs.Hex.{digit_of}
 use Rattle.encoding.proofs.Laws.Tables.{values-right}
 use Rattle.line.proofs.values.table.Statement.{statement}
 use Rattle.line.proofs.values.table.Tie as tie
 
 returns : tie.Need-returns
-unfolding digitOf
+unfolding digit_of
 returns c = values-right _ refl refl
 
 pub table-spec : {M : Type 1} → statement M

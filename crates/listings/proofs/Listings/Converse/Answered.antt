@@ -9,13 +9,13 @@ use Rattle.hub.specs.declared.moves.Op.{Op}
 use Rattle.hub.specs.declared.record.Phase.{Phase}
 use Rattle.hub.specs.Answers.{Printed, printed}
 use Rattle.hub.specs.Calls.{answer_of, checked}
-use Rattle.listings.specs.Listings.Converse.{Follows, call_of, phaseOf, saidFor}
+use Rattle.listings.specs.Listings.Converse.{Follows, call_of, phase_of, said_for}
 use Rattle.listings.specs.Listings.Machine.{Listing}
-use Rattle.hub.specs.Look.{seenBy}
+use Rattle.hub.specs.Look.{seen_by}
 use Rattle.hub.specs.Moves.{Move}
 use Rattle.hub.specs.Moves.{Refuse, Tell, Act, Put, Wake}
 use Rattle.hub.specs.Queue.{Queue, acted, answers, apply, look, move_of, placed, run, woken}
-use Rattle.hub.specs.Table.{decide, stepIn}
+use Rattle.hub.specs.Table.{decide, step_in}
 use Rattle.hub.proofs.Invariant.Keep.{Inv}
 use Rattle.hub.proofs.Invariant.Rows.{Good}
 use Rattle.hub.proofs.Invariant.Walk.{decide-good}
@@ -31,7 +31,7 @@ After p m f s a (Wake q x b c) = Follows (acted (placed (woken m q x) f b) p c) 
 
 -- Calls follow to s, and are answered by a if there is one.
 abbrev pub Answered : Queue → List Call → Listing → List Printed → Type 0
-Answered m cs s a = Follows (run m cs) s × (map printed (answers m cs) ≡ saidFor cs a)
+Answered m cs s a = Follows (run m cs) s × (map printed (answers m cs) ≡ said_for cs a)
 
 pub silent-answered : (m : Queue) (s : Listing) (a : List Printed) → Follows m s → Answered m [] s a
 unfolding run answers
@@ -40,7 +40,7 @@ silent-answered m s a w = (w, refl)
 module _ (k : ℕ) (m : Queue) (inv : Inv k m) (p : ℕ) (l : p < m.opening.parties) (s : Listing) (a : List Printed) where
   applied : (v : Move) → After p m (look m p).slot.phase s a v
       → Follows (apply m (look m p) v) s × (printed (answer_of v) ∷ [] ≡ a)
-  unfolding apply seenBy
+  unfolding apply seen_by
   applied (Refuse r) g = absurd g
   applied (Tell y) g = absurd g
   applied (Act x) g = (skip-follows (acted m p x).figures.issued (acted m p x) _ g.0, g.1)
@@ -51,20 +51,20 @@ module _ (k : ℕ) (m : Queue) (inv : Inv k m) (p : ℕ) (l : p < m.opening.part
       let n = acted (placed (woken m q u) (look m p).slot.phase b) p x in
       (skip-follows n.figures.issued n _ g.0, g.1)
 
-  pub answered : (o : Op) → After p m (phaseOf m p) s a (decide o false (look m p)) → Answered m (call_of o p) s a
-  unfolding run answers checked seenBy
+  pub answered : (o : Op) → After p m (phase_of m p) s a (decide o false (look m p)) → Answered m (call_of o p) s a
+  unfolding run answers checked seen_by
   answered o g =
       let z = applied (move_of m (record { op = o; party = p }))
-      (subst (λ (b : Bool). After p m (phaseOf m p) s a (checked true b (decide o false (look m p)))) (sym (lt-ltb p _ l)) g) in
+      (subst (λ (b : Bool). After p m (phase_of m p) s a (checked true b (decide o false (look m p)))) (sym (lt-ltb p _ l)) g) in
       (pool-follows _ _ _ z.0, z.1)
 
-  pub stepped : (f : Phase) → phaseOf m p ≡ f → After p m f s a (stepIn f (look m p)) → Answered m (call_of Op.Step p) s a
+  pub stepped : (f : Phase) → phase_of m p ≡ f → After p m f s a (step_in f (look m p)) → Answered m (call_of Op.Step p) s a
   stepped f e g =
-      answered Op.Step (unfold decide seenBy in (subst (λ (h : Phase). After p m h s a (stepIn h (look m p))) (sym e) g))
+      answered Op.Step (unfold decide seen_by in (subst (λ (h : Phase). After p m h s a (step_in h (look m p))) (sym e) g))
 
 -- The move of a step is listed in the table.
-pub good : (k : ℕ) (m : Queue) → Inv k m → (p : ℕ) → p < m.opening.parties → (f : Phase) → phaseOf m p ≡ f
-    → Good k Op.Step p m f (stepIn f (look m p))
+pub good : (k : ℕ) (m : Queue) → Inv k m → (p : ℕ) → p < m.opening.parties → (f : Phase) → phase_of m p ≡ f
+    → Good k Op.Step p m f (step_in f (look m p))
 good k m inv p l f e =
-    subst (λ (h : Phase). Good k Op.Step p m h (stepIn h (look m p))) e
-    (unfold decide seenBy in decide-good k m p l inv Op.Step)
+    subst (λ (h : Phase). Good k Op.Step p m h (step_in h (look m p))) e
+    (unfold decide seen_by in decide-good k m p l inv Op.Step)

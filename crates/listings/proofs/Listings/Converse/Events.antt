@@ -10,19 +10,19 @@ use lib.ListN.{length}
 use Rattle.hub.specs.declared.moves.Call.{Call}
 use Rattle.hub.specs.declared.moves.Op.{Op}
 use Rattle.hub.specs.declared.record.Phase.TheVariants.{Resuming}
-use Rattle.hub.specs.Kinds.{kindIn}
-use Rattle.listings.specs.Listings.Converse.{Follows, Where, call_of, decides, phaseOf}
-use Rattle.listings.specs.Listings.Machine.{Cell, Line, Listing, aborted, act, branch, is_null, isParkedAt, isThreadOf, request, goto, unparks}
+use Rattle.hub.specs.Kinds.{kind_in}
+use Rattle.listings.specs.Listings.Converse.{Follows, Where, call_of, decides, phase_of}
+use Rattle.listings.specs.Listings.Machine.{Cell, Line, Listing, aborted, act, branch, is_null, is_parked_at, is_thread_of, request, goto, unparks}
 use Rattle.listings.specs.Listings.Machine.{Outside, Inside, Acquire9, Suspend6, Suspend9, Suspend10, Suspend12, Taking12}
 use Rattle.listings.specs.Listings.Machine.{Release16, Resume2, Resume4, Resume7, Resume10, Resume11, Resume19}
 use Rattle.listings.specs.Listings.Machine.{Resume26, Resume28, Handler45, Handler55}
-use Rattle.listings.specs.Listings.Shown.{isCancelledCell, isRefuse}
-use Rattle.listings.specs.Listings.Words.{said, saidOfCell, say}
-use Rattle.hub.specs.Look.{seenBy}
-use Rattle.hub.specs.Phases.{isOneOf}
+use Rattle.listings.specs.Listings.Shown.{is_cancelled_cell, is_refuse}
+use Rattle.listings.specs.Listings.Words.{said, said_of_cell, say}
+use Rattle.hub.specs.Look.{seen_by}
+use Rattle.hub.specs.Phases.{is_one_of}
 use Rattle.hub.specs.Queue.{Queue, look, phases}
-use Rattle.hub.specs.Record.{MAX-BEGUN}
-use Rattle.hub.specs.Table.{canCancel, cancel, decide, givenUp}
+use Rattle.hub.specs.Record.{MAX_BEGUN}
+use Rattle.hub.specs.Table.{can_cancel, cancel, decide, given_up}
 use Rattle.hub.proofs.Invariant.Keep.{Inv}
 use Rattle.hub.proofs.Invariant.Tickets.{inside}
 use Rattle.listings.proofs.Listings.Cells.{cancelled-cell, not-parked, override-other, override-same}
@@ -44,29 +44,29 @@ module _ (k : ℕ) (m : Queue) (inv : Inv k m) (s : Listing) (w : Follows m s) (
   Goes x cs = Answered m cs (act x p s) (said x p s)
 
   -- where p is
-  own : (x : Line) → s.lines p ≡ x → Where x m s (phaseOf m p) (s.requests p)
-  own x e = subst (λ (y : Line). Where y m s (phaseOf m p) (s.requests p)) e (w.at p)
+  own : (x : Line) → s.lines p ≡ x → Where x m s (phase_of m p) (s.requests p)
+  own x e = subst (λ (y : Line). Where y m s (phase_of m p) (s.requests p)) e (w.at p)
 
   -- it only comes to line y
-  on-to : (y : Line) → Where y m (goto p y s) (phaseOf m p) (s.requests p) → Answered m [] (goto p y s) []
-  on-to y z = silent-answered m _ [] (silent-row m s w p i₀ y s.resumeIdx (omega arith) w.behind z)
+  on-to : (y : Line) → Where y m (goto p y s) (phase_of m p) (s.requests p) → Answered m [] (goto p y s) []
+  on-to y z = silent-answered m _ [] (silent-row m s w p i₀ y s.resume_idx (omega arith) w.behind z)
 
-  at-four : (i : ℕ) → Where (Resume4 i) m s (phaseOf m p) (s.requests p) → Goes (Resume4 i) (decides (Resume4 i) p m s)
-  unfolding act said decides isOneOf
+  at-four : (i : ℕ) → Where (Resume4 i) m s (phase_of m p) (s.requests p) → Goes (Resume4 i) (decides (Resume4 i) p m s)
+  unfolding act said decides is_one_of
   at-four i (inl z) =
       subst (λ (b : Bool). Answered m
-      (cond b [] (cond (isCancelledCell (s.cells i) || isRefuse (s.cells i)) (call_of Op.Step p) []))
-      (goto p (branch i (s.cells i)) s) (saidOfCell i (s.cells i))) (sym (ap (isOneOf (Resuming ∷ [])) z))
+      (cond b [] (cond (is_cancelled_cell (s.cells i) || is_refuse (s.cells i)) (call_of Op.Step p) []))
+      (goto p (branch i (s.cells i)) s) (said_of_cell i (s.cells i))) (sym (ap (is_one_of (Resuming ∷ [])) z))
       (reads k m inv s w p l i z)
   at-four i (inr z) =
       subst (λ (b : Bool). Answered m
-      (cond b [] (cond (isCancelledCell (s.cells i) || isRefuse (s.cells i)) (call_of Op.Step p) []))
-      (goto p (branch i (s.cells i)) s) (saidOfCell i (s.cells i))) (sym (ap (isOneOf (Resuming ∷ [])) z.0))
-      (silent-answered m _ (saidOfCell i (s.cells i))
+      (cond b [] (cond (is_cancelled_cell (s.cells i) || is_refuse (s.cells i)) (call_of Op.Step p) []))
+      (goto p (branch i (s.cells i)) s) (said_of_cell i (s.cells i))) (sym (ap (is_one_of (Resuming ∷ [])) z.0))
+      (silent-answered m _ (said_of_cell i (s.cells i))
       (subst (λ (c : Cell). Follows m (goto p (branch i c) s)) (sym (cancelled-cell (s.cells i) z.1.cancelled))
-      (silent-row m s w p i₀ (Resume26 i) s.resumeIdx (omega arith) w.behind z.0)))
+      (silent-row m s w p i₀ (Resume26 i) s.resume_idx (omega arith) w.behind z.0)))
 
-  pub goes : m.opening.named ≡ false → (x : Line) → s.lines p ≡ x → leb MAX-BEGUN m.figures.begun ≡ false
+  pub goes : m.opening.named ≡ false → (x : Line) → s.lines p ≡ x → leb MAX_BEGUN m.figures.begun ≡ false
       → Goes x (decides x p m s)
   unfolding decides
   goes n Outside e b = outside k m inv s w p l n (own Outside e) b
@@ -82,7 +82,7 @@ module _ (k : ℕ) (m : Queue) (inv : Inv k m) (s : Listing) (w : Follows m s) (
       let z = own (Taking12 i) e in
       unfold act said in silent-answered m _ [] (late-row m s w p i₀ Inside i Cell.Taken z.1 refl refl z.0)
   goes n Release16 e b = releasing k m inv s w p l n (own Release16 e)
-  goes n Resume2 e b = draws k m inv s w p l (own Resume2 e) (ltb s.resumeIdx m.figures.resumed) refl
+  goes n Resume2 e b = draws k m inv s w p l (own Resume2 e) (ltb s.resume_idx m.figures.resumed) refl
   goes n (Resume4 i) e b = at-four i (own (Resume4 i) e)
   goes n (Resume7 i) e b = unfold act said in at-seven k m inv s w p l i (own (Resume7 i) e) (is_null (s.cells i)) refl
   goes n (Resume10 i q) e b =
@@ -93,7 +93,7 @@ module _ (k : ℕ) (m : Queue) (inv : Inv k m) (s : Listing) (w : Follows m s) (
       unfold act said in silent-answered m _ [] (late-row m s w p i₀ Outside i Cell.Resumed z.1 refl refl z.0)
   goes n (Resume19 i q) e b =
       let z = own (Resume19 i q) e in
-      unfold act said in at-nineteen k m inv s w p l i z.0 q z.2 (isThreadOf q (s.cells i)) refl
+      unfold act said in at-nineteen k m inv s w p l i z.0 q z.2 (is_thread_of q (s.cells i)) refl
   goes n (Resume26 i) e b = unfold act said in on-to Resume2 (own (Resume26 i) e)
   goes n (Resume28 i) e b = unfold act said in on-to Outside (own (Resume28 i) e)
   goes n (Handler45 i) e b = cancelling k m inv s w p l i (own (Handler45 i) e)
@@ -113,33 +113,33 @@ module _ (k : ℕ) (m : Queue) (inv : Inv k m) (s : Listing) (w : Follows m s) (
       }
 
   none-parked : (t : ℕ) → is_null (s.cells t) ≡ false → unparks p t s ≡ false
-      → isParkedAt t (aborted (s.requests p)) ≡ false
+      → is_parked_at t (aborted (s.requests p)) ≡ false
   none-parked t i j = not-parked t (aborted (s.requests p)) (aborted-none (s.requests p))
 
-  too-late : canCancel (phaseOf m p) ≡ false → Follows m after-cancel
+  too-late : can_cancel (phase_of m p) ≡ false → Follows m after-cancel
   too-late c =
       let g = aborted (s.requests p) in
       let o = onward-line m m s after-cancel p (s.lines p) g mv (omega arith) (λ t d. d) none-parked refl in
       follow-silent m s w p after-cancel (s.lines p) g o refl refl w.behind w.cells mv
-      (where-kept o (s.lines p) (phaseOf m p) g (stays m s (s.lines p) (phaseOf m p) (s.requests p) c (w.at p)))
-      (lone-fits (phaseOf m p) g (cannot-not (phaseOf m p) c) (aborted-none (s.requests p)))
+      (where-kept o (s.lines p) (phase_of m p) g (stays m s (s.lines p) (phase_of m p) (s.requests p) c (w.at p)))
+      (lone-fits (phase_of m p) g (cannot-not (phase_of m p) c) (aborted-none (s.requests p)))
 
-  pub cancelled : eqb (kindIn m.opening.kinds p) 3 ≡ false → (b : Bool) → canCancel (phaseOf m p) ≡ b
+  pub cancelled : eqb (kind_in m.opening.kinds p) 3 ≡ false → (b : Bool) → can_cancel (phase_of m p) ≡ b
       → Answered m (cond b (call_of Op.Cancel p) []) after-cancel (say 0x20)
-  unfolding decide cancel seenBy
+  unfolding decide cancel seen_by
   cancelled kd true c =
-      let f = phaseOf m p in
+      let f = phase_of m p in
       let g = aborted (s.requests p) in
-      let n = set_to m p (givenUp f) m.cells m.figures in
+      let n = set_to m p (given_up f) m.cells m.figures in
       let o = onward-line m n s after-cancel p (s.lines p) g mv (omega arith) (λ t d. d) none-parked refl in
       answered k m inv p l after-cancel (say 0x20) Op.Cancel
       (subst (λ (u : Bool). After p m f after-cancel (say 0x20)
-      (cancel u (eqb (kindIn m.opening.kinds p) 3) (givenUp f) (look m p))) (sym c)
-      (subst (λ (u : Bool). After p m f after-cancel (say 0x20) (cancel true u (givenUp f) (look m p))) (sym kd) (
-        follow-call m s w p i₀ (givenUp f) m.cells m.figures after-cancel (s.lines p) g o
+      (cancel u (eqb (kind_in m.opening.kinds p) 3) (given_up f) (look m p))) (sym c)
+      (subst (λ (u : Bool). After p m f after-cancel (say 0x20) (cancel true u (given_up f) (look m p))) (sym kd) (
+        follow-call m s w p i₀ (given_up f) m.cells m.figures after-cancel (s.lines p) g o
             w.counter w.issued w.behind w.passed w.cells mv
-            (where-kept o (s.lines p) (givenUp f) g (gives_up m s (s.lines p) f (s.requests p) c (w.at p)))
-            (lone-fits (givenUp f) g (given-up-not f c) (aborted-none (s.requests p))),
+            (where-kept o (s.lines p) (given_up f) g (gives_up m s (s.lines p) f (s.requests p) c (w.at p)))
+            (lone-fits (given_up f) g (given-up-not f c) (aborted-none (s.requests p))),
         refl,
       )))
   cancelled kd false c = silent-answered m _ (say 0x20) (too-late c)

@@ -12,20 +12,20 @@ use Rattle.hub.specs.declared.record.Phase.{Phase}
 use Rattle.hub.specs.declared.record.Phase.TheVariants.{Free}
 use Rattle.hub.specs.Answers.{Printed, printed}
 use Rattle.hub.specs.Calls.{answer_of}
-use Rattle.hub.specs.Kinds.{kindIn}
+use Rattle.hub.specs.Kinds.{kind_in}
 use Rattle.hub.specs.Ledger.{Ledger, opened}
-use Rattle.listings.specs.Listings.Converse.{AllAllowed, Allowed, Follows, QueueFollows, Within, calls, calls_at, decided, parkFits}
-use Rattle.listings.specs.Listings.Converse.{phaseOf}
+use Rattle.listings.specs.Listings.Converse.{AllAllowed, Allowed, Follows, QueueFollows, Within, calls, calls_at, decided, park_fits}
+use Rattle.listings.specs.Listings.Converse.{phase_of}
 use Rattle.listings.specs.Listings.Machine.{Event, Listing, Request, happen, idle, play}
 use Rattle.listings.specs.Listings.Machine.{Acts, Cancels}
-use Rattle.listings.specs.Listings.Words.{saidAt}
-use Rattle.hub.specs.Look.{seenBy}
+use Rattle.listings.specs.Listings.Words.{said_at}
+use Rattle.hub.specs.Look.{seen_by}
 use Rattle.hub.specs.Moves.{Move}
 use Rattle.hub.specs.Moves.{Refuse, Tell, Act, Put, Wake}
-use Rattle.hub.specs.Phases.{isOneOf, isPlaceOf}
-use Rattle.hub.specs.Queue.{Queue, acted, answers, apply, canSkip, fresh, look, move_of, next, placed, run, skip, skipped, woken}
-use Rattle.hub.specs.Record.{MAX-BEGUN, PARTIES, freeSlot, read_slot}
-use Rattle.hub.specs.Table.{canCancel}
+use Rattle.hub.specs.Phases.{is_one_of, is_place_of}
+use Rattle.hub.specs.Queue.{Queue, acted, answers, apply, can_skip, fresh, look, move_of, next, placed, run, skip, skipped, woken}
+use Rattle.hub.specs.Record.{MAX_BEGUN, PARTIES, free_slot, read_slot}
+use Rattle.hub.specs.Table.{can_cancel}
 use Rattle.hub.proofs.Laws.Slots.{read-phase}
 use Rattle.hub.proofs.Invariant.Keep.{Inv}
 use Rattle.hub.proofs.Invariant.Schedules.{Agrees, entered, fresh-agrees, fresh-inv, next-good}
@@ -38,14 +38,14 @@ use Rattle.listings.proofs.Listings.Converse.Events.{cancelled, goes}
 skip-opening : (n : ℕ) (m : Queue) → (skip n m).opening ≡ m.opening
 unfolding skip
 skip-opening zero m = refl
-skip-opening (suc n) m = go (canSkip m) (skip-opening n (skipped m))
+skip-opening (suc n) m = go (can_skip m) (skip-opening n (skipped m))
   where
     go : (b : Bool) → (skip n (skipped m)).opening ≡ m.opening → (cond b (skip n (skipped m)) m).opening ≡ m.opening
     go true e = e
     go false e = refl
 
 applied-opening : (m : Queue) (p : ℕ) (v : Move) → (apply m (look m p) v).opening ≡ m.opening
-unfolding apply seenBy
+unfolding apply seen_by
 applied-opening m p (Refuse r) = refl
 applied-opening m p (Tell y) = refl
 applied-opening m p (Act x) = skip-opening (acted m p x).figures.issued (acted m p x)
@@ -90,14 +90,14 @@ answers-append (c ∷ a) b m =
     ap (λ (l : List Printed). printed (answer_of (move_of m c)) ∷ l) (answers-append a b (next m c))
 
 one-event : (k : ℕ) (o : Opening) (m : Queue) (s : Listing) (e : Event) → o.named ≡ false → Along k o m → Follows m s
-    → Allowed o e → leb MAX-BEGUN m.figures.begun ≡ false → Answered m (calls_at e m s) (happen e s) (saidAt e s)
-unfolding calls_at happen saidAt
+    → Allowed o e → leb MAX_BEGUN m.figures.begun ≡ false → Answered m (calls_at e m s) (happen e s) (said_at e s)
+unfolding calls_at happen said_at
 one-event k o m s (Acts p) n a w x b =
     goes k m a.inv s w p (subst (λ (v : Opening). p < v.parties) (sym a.opening) x)
     (ap (λ (v : Opening). v.named) a.opening ∙ n) (s.lines p) refl b
 one-event k o m s (Cancels p) n a w x b =
     cancelled k m a.inv s w p (subst (λ (v : Opening). p < v.parties) (sym a.opening) x.0)
-    (subst (λ (v : Opening). eqb (kindIn v.kinds p) 3 ≡ false) (sym a.opening) x.1) (canCancel (phaseOf m p)) refl
+    (subst (λ (v : Opening). eqb (kind_in v.kinds p) 3 ≡ false) (sym a.opening) x.1) (can_cancel (phase_of m p)) refl
 
 follows-from : (k : ℕ) (o : Opening) → o.named ≡ false → (es : List Event) → AllAllowed o es → (m : Queue) (s : Listing)
     → Along k o m → Follows m s → Within m s es
@@ -114,7 +114,7 @@ follows-from k o n (e ∷ es) x m s a w b =
     )
 
 fresh-follows : (o : Opening) → Follows (fresh o) (idle o.permits)
-unfolding fresh idle isPlaceOf isOneOf
+unfolding fresh idle is_place_of is_one_of
 fresh-follows o =
     record {
       counter = refl;
@@ -123,11 +123,11 @@ fresh-follows o =
       passed = λ t i j. (let z : ⊥ = omega (arith, j) in absurd z);
       cells = λ t d. refl;
       at = λ p. free p;
-      parks = λ p. subst (λ (f : Phase). parkFits f Request.Fresh ≡ true) (sym (free p)) refl;
+      parks = λ p. subst (λ (f : Phase). park_fits f Request.Fresh ≡ true) (sym (free p)) refl;
     }
   where
-    free : (p : ℕ) → (read_slot (replicate PARTIES freeSlot) p).phase ≡ Free
-    free p = read-phase (replicate PARTIES freeSlot) p ∙ all-free PARTIES p
+    free : (p : ℕ) → (read_slot (replicate PARTIES free_slot) p).phase ≡ Free
+    free p = read-phase (replicate PARTIES free_slot) p ∙ all-free PARTIES p
 
 pub queue-follows : QueueFollows
 unfolding QueueFollows

@@ -14,17 +14,17 @@ use Rattle.hub.specs.declared.record.Place.{Place}
 use Rattle.hub.specs.declared.record.Place.TheVariants as place
 use Rattle.hub.specs.declared.record.PlaceSlot.{PlaceSlot}
 use Rattle.hub.specs.Answers.{Printed}
-use Rattle.listings.specs.Listings.Converse.{Follows, Where, call_of, phaseOf}
-use Rattle.listings.specs.Listings.Machine.{Cell, Line, Listing, Request, act, branch, is_null, isThreadOf, mark}
+use Rattle.listings.specs.Listings.Converse.{Follows, Where, call_of, phase_of}
+use Rattle.listings.specs.Listings.Machine.{Cell, Line, Listing, Request, act, branch, is_null, is_thread_of, mark}
 use Rattle.listings.specs.Listings.Machine.{request, goto, unparks}
 use Rattle.listings.specs.Listings.Machine.{Outside, Resume2, Resume4, Resume7, Resume10, Resume11, Resume19, Resume26, Resume28}
-use Rattle.listings.specs.Listings.Shown.{isCancelledCell, isParked, isRefuse}
-use Rattle.listings.specs.Listings.Words.{said, saidOfCell, sayOf, sayWoke}
-use Rattle.hub.specs.Look.{seenBy}
-use Rattle.hub.specs.Phases.{byWaiter, isDone, isOneOf, isPlaceOf, isWaiting}
+use Rattle.listings.specs.Listings.Shown.{is_cancelled_cell, is_parked, is_refuse}
+use Rattle.listings.specs.Listings.Words.{said, said_of_cell, say_of, say_woke}
+use Rattle.hub.specs.Look.{seen_by}
+use Rattle.hub.specs.Phases.{by_waiter, is_done, is_one_of, is_place_of, is_waiting}
 use Rattle.hub.specs.Queue.{Queue, look, phases, places, write}
-use Rattle.hub.specs.Record.{emptySeat, freeSlot, read_slot, withPhase, withPlace}
-use Rattle.hub.specs.Table.{resumeWaiter, row_in, stepResuming, stepResumingAt}
+use Rattle.hub.specs.Record.{empty_seat, free_slot, read_slot, with_phase, with_place}
+use Rattle.hub.specs.Table.{resume_waiter, row_in, step_resuming, step_resuming_at}
 use Rattle.hub.proofs.Laws.Bools.{never}
 use Rattle.hub.proofs.Laws.Slots.{read-phase, write-phase}
 use Rattle.hub.proofs.Invariant.Keep.{Inv}
@@ -48,80 +48,80 @@ module _ (k : ℕ) (m : Queue) (inv : Inv k m) (s : Listing) (w : Follows m s) (
   i₀ = inside inv.tickets p l
 
   -- 6: 2, of a cell that the queue has passed, or of its next
-  pub draws : phaseOf m p ≡ Resuming → (b : Bool) → ltb s.resumeIdx m.figures.resumed ≡ b
+  pub draws : phase_of m p ≡ Resuming → (b : Bool) → ltb s.resume_idx m.figures.resumed ≡ b
       → Answered m (cond b [] (call_of Op.Step p)) (act Resume2 p s) (said Resume2 p s)
-  unfolding act said row_in stepResuming seenBy isOneOf
+  unfolding act said row_in step_resuming seen_by is_one_of
   draws e true i =
-      let j = ltb-true s.resumeIdx m.figures.resumed i in
-      let z = w.passed s.resumeIdx (omega arith) j in
-      silent-answered m _ (sayOf 0x28 s.resumeIdx)
-      (silent-row m s w p i₀ (Resume4 s.resumeIdx) (s.resumeIdx + 1) (omega arith) (omega (arith, j))
+      let j = ltb-true s.resume_idx m.figures.resumed i in
+      let z = w.passed s.resume_idx (omega arith) j in
+      silent-answered m _ (say_of 0x28 s.resume_idx)
+      (silent-row m s w p i₀ (Resume4 s.resume_idx) (s.resume_idx + 1) (omega arith) (omega (arith, j))
       (inr (e, record { done = z.done; cancelled = z.cancelled })))
   draws e false i =
-      let j = ltb-false s.resumeIdx m.figures.resumed i in
-      let r : s.resumeIdx ≡ m.figures.resumed = omega (arith, j, w.behind) in
+      let j = ltb-false s.resume_idx m.figures.resumed i in
+      let r : s.resume_idx ≡ m.figures.resumed = omega (arith, j, w.behind) in
       stepped k m inv p l _ _ Resuming e (
-        count-row m s w p i₀ (ResumingAt m.figures.resumed) _ (Resume4 s.resumeIdx) s.state s.suspendIdx
-            (s.resumeIdx + 1) w.counter w.issued (omega arith) (omega (arith, w.behind))
+        count-row m s w p i₀ (ResumingAt m.figures.resumed) _ (Resume4 s.resume_idx) s.state s.suspend_idx
+            (s.resume_idx + 1) w.counter w.issued (omega arith) (omega (arith, w.behind))
             (λ t u v. (let y : ⊥ = omega (arith, u, v, j) in absurd y)) (alone m s w p i₀ Resuming e refl)
             (inl (ap ResumingAt (sym r))),
         rw r,
       )
 
   -- At a hand-over.
-  module _ (t : ℕ) (e : phaseOf m p ≡ ResumingAt t) where
-    lone-here : not (isParked (s.requests p)) ≡ true
-    unfolding isOneOf
+  module _ (t : ℕ) (e : phase_of m p ≡ ResumingAt t) where
+    lone-here : not (is_parked (s.requests p)) ≡ true
+    unfolding is_one_of
     lone-here = alone m s w p i₀ (ResumingAt t) e refl
 
     hands : (a : Place) → places m t ≡ a → (s' : Listing) (y : List Printed)
-        → After p m (ResumingAt t) s' y (stepResumingAt t (isWaiting (look m p).waiter.phase) a (look m p))
+        → After p m (ResumingAt t) s' y (step_resuming_at t (is_waiting (look m p).waiter.phase) a (look m p))
         → Answered m (call_of Op.Step p) s' y
-    unfolding row_in seenBy
+    unfolding row_in seen_by
     hands a i s' y g =
         stepped k m inv p l s' y (ResumingAt t) e
-        (subst (λ (b : Place). After p m (ResumingAt t) s' y (stepResumingAt t (isWaiting (look m p).waiter.phase) b (look m p)))
+        (subst (λ (b : Place). After p m (ResumingAt t) s' y (step_resuming_at t (is_waiting (look m p).waiter.phase) b (look m p)))
         (sym (seen_at m p (ResumingAt t) e ∙ i)) g)
 
     listed : (a : Place) → places m t ≡ a
-        → Good k Op.Step p m (ResumingAt t) (stepResumingAt t (isWaiting (look m p).waiter.phase) a (look m p))
-    unfolding row_in seenBy
+        → Good k Op.Step p m (ResumingAt t) (step_resuming_at t (is_waiting (look m p).waiter.phase) a (look m p))
+    unfolding row_in seen_by
     listed a i =
         subst (λ (b : Place). Good k Op.Step p m (ResumingAt t)
-        (stepResumingAt t (isWaiting (look m p).waiter.phase) b (look m p)))
+        (step_resuming_at t (is_waiting (look m p).waiter.phase) b (look m p)))
         (seen_at m p (ResumingAt t) e ∙ i) (good k m inv p l (ResumingAt t) e)
 
     -- no permit and nothing done lies there
     no-permit : {A : Type 0} → places m t ≡ place.Permit → A
-    unfolding stepResumingAt
+    unfolding step_resuming_at
     no-permit i = never (sym (listed place.Permit i))
 
     no-done : {A : Type 0} → places m t ≡ place.Done → A
-    unfolding stepResumingAt
+    unfolding step_resuming_at
     no-done i = never (sym (listed place.Done i))
 
     -- 6: 4
     abbrev Looks : Cell → Type 0
     Looks c =
-        Answered m (cond (isCancelledCell c || isRefuse c) (call_of Op.Step p) []) (goto p (branch t c) s) (saidOfCell t c)
+        Answered m (cond (is_cancelled_cell c || is_refuse c) (call_of Op.Step p) []) (goto p (branch t c) s) (said_of_cell t c)
 
     looks : (a : Place) → places m t ≡ a → Looks (s.cells t)
-    unfolding isPlaceOf stepResumingAt seenBy isOneOf
+    unfolding is_place_of step_resuming_at seen_by is_one_of
     looks place.Empty i =
         subst Looks (sym (null-cell (s.cells t) (cell-is m s w p i₀ t place.Empty i refl)))
-        (silent-answered m _ [] (silent-row m s w p i₀ (Resume7 t) s.resumeIdx (omega arith) w.behind e))
+        (silent-answered m _ [] (silent-row m s w p i₀ (Resume7 t) s.resume_idx (omega arith) w.behind e))
     looks (place.Waiting q) i =
         let z = thread-cell q (s.cells t) (cell-is m s w p i₀ t (place.Waiting q) i refl) in
         subst Looks (sym z)
         (silent-answered m _ []
-        (silent-row m s w p i₀ (Resume10 t q) s.resumeIdx (omega arith) w.behind (e, ap is_null z)))
+        (silent-row m s w p i₀ (Resume10 t q) s.resume_idx (omega arith) w.behind (e, ap is_null z)))
     looks place.Cancelled i =
         subst Looks (sym (cancelled-cell (s.cells t) (cell-is m s w p i₀ t place.Cancelled i refl)))
-        (hands place.Cancelled i (goto p (Resume26 t) s) (sayOf 0x2C t)
+        (hands place.Cancelled i (goto p (Resume26 t) s) (say_of 0x2C t)
         (done-row m s w p i₀ t (open-place m s w p i₀ t place.Cancelled i refl) Resuming (Resume26 t) lone-here refl, refl))
     looks place.Refused i =
         subst Looks (sym (refuse-cell (s.cells t) (cell-is m s w p i₀ t place.Refused i refl)))
-        (hands place.Refused i (goto p (Resume28 t) s) (sayOf 0x2D t)
+        (hands place.Refused i (goto p (Resume28 t) s) (say_of 0x2D t)
         (done-row m s w p i₀ t (open-place m s w p i₀ t place.Refused i refl) Free (Resume28 t) lone-here refl, refl))
     looks place.Permit i = no-permit i
     looks place.Done i = no-done i
@@ -130,16 +130,16 @@ module _ (k : ℕ) (m : Queue) (inv : Inv k m) (s : Listing) (w : Follows m s) (
     reads = looks (places m t) refl
 
     -- back to 6: 4, or on, without a call
-    quiet : (y : Line) (a : List Printed) → Where y m (goto p y s) (phaseOf m p) (s.requests p) → Answered m [] (goto p y s) a
-    quiet y a wh = silent-answered m _ a (silent-row m s w p i₀ y s.resumeIdx (omega arith) w.behind wh)
+    quiet : (y : Line) (a : List Printed) → Where y m (goto p y s) (phase_of m p) (s.requests p) → Answered m [] (goto p y s) a
+    quiet y a wh = silent-answered m _ a (silent-row m s w p i₀ y s.resume_idx (omega arith) w.behind wh)
 
     -- 6: 7
     leaves : (a : Place) → places m t ≡ a → is_null (s.cells t) ≡ true
-        → Answered m (call_of Op.Step p) (goto p Outside (mark t Cell.Value s)) (sayOf 0x29 t)
-    unfolding isPlaceOf isOneOf
+        → Answered m (call_of Op.Step p) (goto p Outside (mark t Cell.Value s)) (say_of 0x29 t)
+    unfolding is_place_of is_one_of
     leaves place.Empty i n =
-        hands place.Empty i (goto p Outside (mark t Cell.Value s)) (sayOf 0x29 t)
-        (unfold stepResumingAt seenBy in (
+        hands place.Empty i (goto p Outside (mark t Cell.Value s)) (say_of 0x29 t)
+        (unfold step_resuming_at seen_by in (
           mark-row m s w p i₀ t (open-place m s w p i₀ t place.Empty i refl) Free place.Permit Cell.Value Outside (λ d. refl) refl
               lone-here refl,
           refl,
@@ -155,58 +155,58 @@ module _ (k : ℕ) (m : Queue) (inv : Inv k m) (s : Listing) (w : Follows m s) (
 
     pub at-seven : (b : Bool) → is_null (s.cells t) ≡ b
         → Answered m (cond b (call_of Op.Step p) []) (cond b (goto p Outside (mark t Cell.Value s)) (goto p (Resume4 t) s))
-        (cond b (sayOf 0x29 t) [])
+        (cond b (say_of 0x29 t) [])
     at-seven true n = leaves (places m t) refl n
     at-seven false n = quiet (Resume4 t) [] (inl e)
 
     -- The waiter's phase.
-    same-waiter : (q : ℕ) → places m t ≡ place.Waiting q → (look m p).waiter.phase ≡ phaseOf m q
-    unfolding seenBy
+    same-waiter : (q : ℕ) → places m t ≡ place.Waiting q → (look m p).waiter.phase ≡ phase_of m q
+    unfolding seen_by
     same-waiter q i =
-        ap (λ (a : Place). (byWaiter freeSlot (read_slot m.slots) a).phase) (seen_at m p (ResumingAt t) e ∙ i)
+        ap (λ (a : Place). (by_waiter free_slot (read_slot m.slots) a).phase) (seen_at m p (ResumingAt t) e ∙ i)
 
     -- 6: 19, the waiter has given up
-    delegates : (q : ℕ) → unparks q t s ≡ false → (a : Place) → places m t ≡ a → isThreadOf q (s.cells t) ≡ true
-        → Answered m (call_of Op.Step p) (goto p Outside (mark t Cell.Value s)) (sayOf 0x2B t)
-    unfolding isPlaceOf
+    delegates : (q : ℕ) → unparks q t s ≡ false → (a : Place) → places m t ≡ a → is_thread_of q (s.cells t) ≡ true
+        → Answered m (call_of Op.Step p) (goto p Outside (mark t Cell.Value s)) (say_of 0x2B t)
+    unfolding is_place_of
     delegates q u (place.Waiting r) i n =
         let z : r ≡ q = cc (thread-cell r (s.cells t) (cell-is m s w p i₀ t (place.Waiting r) i refl), thread-cell q (s.cells t) n) in
         let j : places m t ≡ place.Waiting q = i ∙ ap place.Waiting z in
-        hands (place.Waiting q) j (goto p Outside (mark t Cell.Value s)) (sayOf 0x2B t)
-        (go j (isWaiting (look m p).waiter.phase) refl)
+        hands (place.Waiting q) j (goto p Outside (mark t Cell.Value s)) (say_of 0x2B t)
+        (go j (is_waiting (look m p).waiter.phase) refl)
       where
-        go : places m t ≡ place.Waiting q → (b : Bool) → isWaiting (look m p).waiter.phase ≡ b
-            → After p m (ResumingAt t) (goto p Outside (mark t Cell.Value s)) (sayOf 0x2B t)
-            (stepResumingAt t b (place.Waiting q) (look m p))
+        go : places m t ≡ place.Waiting q → (b : Bool) → is_waiting (look m p).waiter.phase ≡ b
+            → After p m (ResumingAt t) (goto p Outside (mark t Cell.Value s)) (say_of 0x2B t)
+            (step_resuming_at t b (place.Waiting q) (look m p))
         go j true y =
-            let h = waits-here t (phaseOf m q) (sym (ap isWaiting (same-waiter q j)) ∙ y)
+            let h = waits-here t (phase_of m q) (sym (ap is_waiting (same-waiter q j)) ∙ y)
             (ap (stand t) (read-phase m.slots q) ∙ inv.tickets.named t q j) in
-            never (sym (waits-parked (phaseOf m q) (s.requests q) t (w.parks q) h) ∙ u)
+            never (sym (waits-parked (phase_of m q) (s.requests q) t (w.parks q) h) ∙ u)
         go j false y =
-            unfold stepResumingAt resumeWaiter seenBy isOneOf in (
+            unfold step_resuming_at resume_waiter seen_by is_one_of in (
               mark-row m s w p i₀ t (open-place m s w p i₀ t (place.Waiting q) j refl) Free place.Permit Cell.Value Outside
                   (λ d. refl) refl lone-here refl,
               refl,
             )
     delegates q u place.Empty i n =
-        never (sym n ∙ ap (isThreadOf q) (null-cell (s.cells t) (cell-is m s w p i₀ t place.Empty i refl)))
+        never (sym n ∙ ap (is_thread_of q) (null-cell (s.cells t) (cell-is m s w p i₀ t place.Empty i refl)))
     delegates q u place.Cancelled i n =
-        never (sym n ∙ ap (isThreadOf q) (cancelled-cell (s.cells t) (cell-is m s w p i₀ t place.Cancelled i refl)))
+        never (sym n ∙ ap (is_thread_of q) (cancelled-cell (s.cells t) (cell-is m s w p i₀ t place.Cancelled i refl)))
     delegates q u place.Refused i n =
-        never (sym n ∙ ap (isThreadOf q) (refuse-cell (s.cells t) (cell-is m s w p i₀ t place.Refused i refl)))
+        never (sym n ∙ ap (is_thread_of q) (refuse-cell (s.cells t) (cell-is m s w p i₀ t place.Refused i refl)))
     delegates q u place.Permit i n = no-permit i
     delegates q u place.Done i n = no-done i
 
-    pub at-nineteen : (q : ℕ) → unparks q t s ≡ false → (b : Bool) → isThreadOf q (s.cells t) ≡ b
+    pub at-nineteen : (q : ℕ) → unparks q t s ≡ false → (b : Bool) → is_thread_of q (s.cells t) ≡ b
         → Answered m (cond b (call_of Op.Step p) []) (cond b (goto p Outside (mark t Cell.Value s)) (goto p (Resume4 t) s))
-        (cond b (sayOf 0x2B t) [])
+        (cond b (say_of 0x2B t) [])
     at-nineteen q u true n = delegates q u (places m t) refl n
     at-nineteen q u false n = quiet (Resume4 t) [] (inl e)
 
     -- 6: 10
     module _ (q : ℕ) (u : unparks q t s ≡ true) where
-      waits-q : phaseOf m q ≡ Waiting t
-      waits-q = parked-waits (phaseOf m q) (s.requests q) t (w.parks q) u
+      waits-q : phase_of m q ≡ Waiting t
+      waits-q = parked-waits (phase_of m q) (s.requests q) t (w.parks q) u
 
       there : places m t ≡ place.Waiting q
       there = waits-at k m inv q t (sym (read-phase m.slots q) ∙ waits-q)
@@ -225,7 +225,7 @@ module _ (k : ℕ) (m : Queue) (inv : Inv k m) (s : Listing) (w : Follows m s) (
       s₁ = request q Request.Unparked s
 
       w' : Follows m' s₁
-      unfolding m' s₁ isOneOf
+      unfolding m' s₁ is_one_of
       w' =
           let mv : Moves q s (request q Request.Unparked s) (s.lines q) Request.Unparked = record {
             line = refl;
@@ -238,28 +238,28 @@ module _ (k : ℕ) (m : Queue) (inv : Inv k m) (s : Listing) (w : Follows m s) (
           follow-call m s w q inside-q Holding m.cells m.figures (request q Request.Unparked s) (s.lines q) Request.Unparked
           o w.counter w.issued w.behind w.passed w.cells mv
           (where-kept o (s.lines q) Holding Request.Unparked
-          (woken-at m s t (s.lines q) (s.requests q) (phaseOf m q) waits-q (w.at q)))
+          (woken-at m s t (s.lines q) (s.requests q) (phase_of m q) waits-q (w.at q)))
           refl
 
-      open-q : isDone (places m t) ≡ false
-      unfolding isPlaceOf
+      open-q : is_done (places m t) ≡ false
+      unfolding is_place_of
       open-q = open-place m s w p i₀ t (place.Waiting q) there refl
 
       size : p < length (phases m')
       unfolding m'
-      size = omega (arith, i₀, ap length (write-phase m.slots q (withPhase Holding freeSlot)), sizes)
+      size = omega (arith, i₀, ap length (write-phase m.slots q (with_phase Holding free_slot)), sizes)
         where
           sizes : length (set (phases m) q Holding) ≡ length (phases m)
           sizes = simp length-set
 
       others : p ≢ q
-      others y = let z : ◌≡◌ {A = ℕ} 0 1 = cc (waits-q, e, ap (phaseOf m) y) in omega arith
+      others y = let z : ◌≡◌ {A = ℕ} 0 1 = cc (waits-q, e, ap (phase_of m) y) in omega arith
 
       abbrev done-cells : ℕ → PlaceSlot
-      done-cells = write m.cells t (withPlace place.Done emptySeat)
+      done-cells = write m.cells t (with_place place.Done empty_seat)
 
-      woke : Follows (set_to m' p Free (write m.cells t (withPlace place.Done emptySeat)) m.figures) (goto p (Resume11 t) s₁)
-      unfolding m' s₁ isPlaceOf isOneOf
+      woke : Follows (set_to m' p Free (write m.cells t (with_place place.Done empty_seat)) m.figures) (goto p (Resume11 t) s₁)
+      unfolding m' s₁ is_place_of is_one_of
       woke =
           let n = set_to (set_to m q Holding m.cells m.figures) p Free done-cells m.figures in
           let s₀ = request q Request.Unparked s in
@@ -273,25 +273,25 @@ module _ (k : ℕ) (m : Queue) (inv : Inv k m) (s : Listing) (w : Follows m s) (
           mv (
             refl,
             record {
-              done = ap (λ (b : PlaceSlot). b.place) (write_same m.cells t (withPlace place.Done emptySeat));
-              other = ap isCancelledCell (thread-cell q (s.cells t) (cell-is m s w p i₀ t (place.Waiting q) there refl));
+              done = ap (λ (b : PlaceSlot). b.place) (write_same m.cells t (with_place place.Done empty_seat));
+              other = ap is_cancelled_cell (thread-cell q (s.cells t) (cell-is m s w p i₀ t (place.Waiting q) there refl));
             },
           )
-          (ap (λ (g : Request). not (isParked g)) (override-other s.requests q Request.Unparked p others) ∙ lone-here)
+          (ap (λ (g : Request). not (is_parked g)) (override-other s.requests q Request.Unparked p others) ∙ lone-here)
 
-      wakes : Answered m (call_of Op.Step p) (goto p (Resume11 t) (request q Request.Unparked s)) (sayWoke q t)
-      unfolding stepResumingAt resumeWaiter seenBy m' s₁
+      wakes : Answered m (call_of Op.Step p) (goto p (Resume11 t) (request q Request.Unparked s)) (say_woke q t)
+      unfolding step_resuming_at resume_waiter seen_by m' s₁
       wakes =
-          hands (place.Waiting q) there (goto p (Resume11 t) (request q Request.Unparked s)) (sayWoke q t)
-          (subst (λ (b : Bool). After p m (ResumingAt t) (goto p (Resume11 t) (request q Request.Unparked s)) (sayWoke q t)
-          (stepResumingAt t b (place.Waiting q) (look m p)))
-          (sym (ap isWaiting (same-waiter q there ∙ waits-q) ∙ is-waiting)) (woke, refl))
+          hands (place.Waiting q) there (goto p (Resume11 t) (request q Request.Unparked s)) (say_woke q t)
+          (subst (λ (b : Bool). After p m (ResumingAt t) (goto p (Resume11 t) (request q Request.Unparked s)) (say_woke q t)
+          (step_resuming_at t b (place.Waiting q) (look m p)))
+          (sym (ap is_waiting (same-waiter q there ∙ waits-q) ∙ is-waiting)) (woke, refl))
         where
-          is-waiting : isWaiting (Waiting t) ≡ true
-          is-waiting = unfold isOneOf in refl
+          is-waiting : is_waiting (Waiting t) ≡ true
+          is-waiting = unfold is_one_of in refl
 
     pub at-ten : (q : ℕ) → is_null (s.cells t) ≡ false → (b : Bool) → unparks q t s ≡ b
         → Answered m (cond b (call_of Op.Step p) [])
-        (cond b (goto p (Resume11 t) (request q Request.Unparked s)) (goto p (Resume19 t q) s)) (cond b (sayWoke q t) [])
+        (cond b (goto p (Resume11 t) (request q Request.Unparked s)) (goto p (Resume19 t q) s)) (cond b (say_woke q t) [])
     at-ten q n true u = wakes q u
     at-ten q n false u = quiet (Resume19 t q) [] (e, n, u)

@@ -1,7 +1,7 @@
 -- `kind_in` meets its contract: past the table it is a desk.
 use borrow.Author.Rules.{rules}
 use mathlib.Core.Path.{refl}
-use Rattle.hub.specs.Kinds.{kindIn}
+use Rattle.hub.specs.Kinds.{kind_in}
 use Rattle.hub.proofs.Laws.Kinds.{past}
 use Rattle.openhub.proofs.kinds.kind_in.Statement.{statement}
 use Rattle.openhub.proofs.kinds.kind_in.Tie as tie
@@ -10,7 +10,7 @@ array-read-result : tie.Need-array-read-result
 array-read-result c = search rules
 
 returns : tie.Need-returns
-unfolding kindIn
+unfolding kind_in
 returns c = refl
 
 returns-2 : tie.Need-returns-2

@@ -5,9 +5,9 @@ use mathlib.Core.Path.{sym}
 use mathlib.Core.List.{◌++◌}
 use mathlib.Core.Logic.{⊎_elim}
 use Rattle.hub.specs.declared.record.PlaceSlot.{PlaceSlot}
-use Rattle.hub.specs.Phases.{isPermit}
+use Rattle.hub.specs.Phases.{is_permit}
 use Rattle.hub.specs.Radios.{shown}
-use Rattle.hub.specs.Record.{emptySeat, places_of}
+use Rattle.hub.specs.Record.{empty_seat, places_of}
 use Rattle.pool.specs.Met.{noted}
 use Rattle.pool.proofs.Laws.Noted.{Walk, no-permit, none-met, permit-there}
 use Rattle.pool.proofs.Laws.Noted.{shown-map, walk-all, walk_none, walk-one}
@@ -16,8 +16,8 @@ use Rattle.pool.proofs.check.at_places.Tie as tie
 
 abbrev invariant-loop : tie.invariant-loop
 invariant-loop met₀ places laid i₀ met i =
-    Walk (λ (s : PlaceSlot). isPermit s.place) places laid
-    (noted met₀ ++ shown isPermit (places_of places) laid) 256 i met
+    Walk (λ (s : PlaceSlot). is_permit s.place) places laid
+    (noted met₀ ++ shown is_permit (places_of places) laid) 256 i met
 
 abbrev decreases-loop : tie.decreases-loop
 decreases-loop met₀ places laid i₀ met i = 256 - i
@@ -27,7 +27,7 @@ loop-holds c =
     record {
       size = search rules;
       sizes = search rules;
-      meeting = none-met _ _ _ c.requires (sym (shown-map isPermit (λ (s : PlaceSlot). s.place) _ _));
+      meeting = none-met _ _ _ c.requires (sym (shown-map is_permit (λ (s : PlaceSlot). s.place) _ _));
     }
 
 mul-seat : tie.Need-overflow-mul-seat invariant-loop decreases-loop
@@ -57,10 +57,10 @@ loop-again c =
     let told = c.before.place-rank.ensures in
     ⊎_elim
     (λ w. rw w.2
-    (walk-one _ _ _ _ _ _ _ l.invariant emptySeat (search rules) (permit-there _ _ told w.0.taken) _
+    (walk-one _ _ _ _ _ _ _ l.invariant empty_seat (search rules) (permit-there _ _ told w.0.taken) _
     w.1.ensures))
     (λ w. rw w.1
-    (walk_none _ _ _ _ _ _ _ l.invariant emptySeat (search rules) (no-permit _ _ told w.0.left)))
+    (walk_none _ _ _ _ _ _ _ l.invariant empty_seat (search rules) (no-permit _ _ told w.0.left)))
     c.if1.branch
 
 returns : tie.Need-returns invariant-loop decreases-loop

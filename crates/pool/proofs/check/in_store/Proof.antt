@@ -3,7 +3,7 @@ use borrow.Author.Rules.{rules}
 use Prim.Native.Nat.{◌+◌, ◌-◌, ◌≤◌}
 use mathlib.Core.List.{◌++◌}
 use mathlib.Core.Path.{subst}
-use Rattle.hub.specs.Radios.{ringFrom}
+use Rattle.hub.specs.Radios.{ring_from}
 use Rattle.pool.specs.Met.{noted}
 use Rattle.pool.proofs.Laws.Noted.{Meeting, all-met, meet, none-met, ring-none, ring-one, ring-whole}
 use Rattle.pool.proofs.check.in_store.Statement.{statement}
@@ -12,7 +12,7 @@ use Rattle.pool.proofs.check.in_store.Tie as tie
 abbrev invariant-loop : tie.invariant-loop
 invariant-loop first stored met₀ store i₀ met i =
     (i ≤ stored)
-    × Meeting (noted met₀ ++ ringFrom store first stored) met (ringFrom store (first + i) (stored - i))
+    × Meeting (noted met₀ ++ ring_from store first stored) met (ring_from store (first + i) (stored - i))
 
 abbrev decreases-loop : tie.decreases-loop
 decreases-loop first stored met₀ store i₀ met i = stored - i

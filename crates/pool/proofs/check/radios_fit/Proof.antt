@@ -4,7 +4,7 @@ use borrow.Author.Tests.{not-true, not-false}
 use mathlib.Core.Path.{◌≡◌, sym, ◌∙◌}
 use mathlib.Core.Bool.{true}
 use lib.ListN.{length}
-use Rattle.hub.specs.Opening.{radiosDiffer}
+use Rattle.hub.specs.Opening.{radios_differ}
 use Rattle.pool.proofs.Laws.Fits.{alike-unfit, other-count, same_count, stored-over, unnamed-fit}
 use Rattle.pool.proofs.check.radios_fit.Statement.{statement}
 use Rattle.pool.proofs.check.radios_fit.Tie as tie
@@ -15,7 +15,7 @@ start c = c.before.before.before.before
 named : (c : tie.Else2) → (start c.before).args.hub.control.opening.named ≡ true
 named c = not-false _ c.before.before.if1.false
 
-differ : (c : tie.Else2) → radiosDiffer (start c.before).args.hub.control.opening ≡ true
+differ : (c : tie.Else2) → radios_differ (start c.before).args.hub.control.opening ≡ true
 differ c = sym c.before.radios-differ.ensures ∙ not-false _ c.if2.false
 
 size : (c : tie.Else2) → length (start c.before).args.hub.control.opening.radios ≡ 32

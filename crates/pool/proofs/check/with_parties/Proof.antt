@@ -5,9 +5,9 @@ use mathlib.Core.Path.{sym, ◌∙◌}
 use mathlib.Core.List.{◌++◌}
 use mathlib.Core.Logic.{⊎_elim}
 use Rattle.hub.specs.declared.record.PartySlot.{PartySlot}
-use Rattle.hub.specs.Phases.{hasRadio}
+use Rattle.hub.specs.Phases.{has_radio}
 use Rattle.hub.specs.Radios.{shown}
-use Rattle.hub.specs.Record.{freeSlot, phasesOf}
+use Rattle.hub.specs.Record.{free_slot, phases_of}
 use Rattle.pool.specs.Met.{noted}
 use Rattle.pool.proofs.Laws.Noted.{Walk, none-met, shown-map, walk-all, walk_none, walk-one}
 use Rattle.pool.proofs.check.with_parties.Statement.{statement}
@@ -15,8 +15,8 @@ use Rattle.pool.proofs.check.with_parties.Tie as tie
 
 abbrev invariant-loop : tie.invariant-loop
 invariant-loop met₀ slots hands p₀ met p =
-    Walk (λ (s : PartySlot). hasRadio s.phase) slots hands
-    (noted met₀ ++ shown hasRadio (phasesOf slots) hands) 32 p met
+    Walk (λ (s : PartySlot). has_radio s.phase) slots hands
+    (noted met₀ ++ shown has_radio (phases_of slots) hands) 32 p met
 
 abbrev decreases-loop : tie.decreases-loop
 decreases-loop met₀ slots hands p₀ met p = 32 - p
@@ -26,7 +26,7 @@ loop-holds c =
     record {
       size = search rules;
       sizes = search rules;
-      meeting = none-met _ _ _ c.requires (sym (shown-map hasRadio (λ (s : PartySlot). s.phase) _ _));
+      meeting = none-met _ _ _ c.requires (sym (shown-map has_radio (λ (s : PartySlot). s.phase) _ _));
     }
 
 mul-slot : tie.Need-overflow-mul-slot invariant-loop decreases-loop
@@ -56,9 +56,9 @@ loop-again c =
     let told = sym c.before.has-radio.ensures in
     ⊎_elim
     (λ w. rw w.2
-    (walk-one _ _ _ _ _ _ _ l.invariant freeSlot (search rules) (told ∙ w.0.taken) _ w.1.ensures))
+    (walk-one _ _ _ _ _ _ _ l.invariant free_slot (search rules) (told ∙ w.0.taken) _ w.1.ensures))
     (λ w. rw w.1
-    (walk_none _ _ _ _ _ _ _ l.invariant freeSlot (search rules) (told ∙ w.0.left)))
+    (walk_none _ _ _ _ _ _ _ l.invariant free_slot (search rules) (told ∙ w.0.left)))
     c.if1.branch
 
 returns : tie.Need-returns invariant-loop decreases-loop

@@ -3,7 +3,7 @@ use borrow.Author.Rules.{rules}
 use mathlib.Core.Path.{◌≡◌, sym}
 use native.Mathlib.Omega.{arith}
 use lib.ListN.{length, get_or-eq_default}
-use Rattle.hub.specs.Radios.{handOf}
+use Rattle.hub.specs.Radios.{hand_of}
 use Rattle.pool.proofs.moving.hand_of.Statement.{statement}
 use Rattle.pool.proofs.moving.hand_of.Tie as tie
 
@@ -14,11 +14,11 @@ element-copy-out-result : tie.Need-element-copy-out-result
 element-copy-out-result c = search rules
 
 returns : tie.Need-returns
-unfolding handOf
+unfolding hand_of
 returns c = search rules
 
 returns-2 : tie.Need-returns-2
-unfolding handOf
+unfolding hand_of
 returns-2 c =
     let a = c.before.args in
     sym (get_or-eq_default a.t1.hands 0 {n = a.party} (omega (arith, size c.before)))

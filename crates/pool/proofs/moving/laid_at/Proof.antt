@@ -1,6 +1,6 @@
 -- `laid_at` meets its contract: it reads where the definition does.
 use borrow.Author.Rules.{rules}
-use Rattle.hub.specs.Radios.{laidAt}
+use Rattle.hub.specs.Radios.{laid_at}
 use Rattle.pool.proofs.moving.laid_at.Statement.{statement}
 use Rattle.pool.proofs.moving.laid_at.Tie as tie
 
@@ -11,7 +11,7 @@ element-copy-out-result : tie.Need-element-copy-out-result
 element-copy-out-result c = search rules
 
 returns : tie.Need-returns
-unfolding laidAt
+unfolding laid_at
 returns c = search rules
 
 pub laid-at-spec : {M : Type 1} → statement M

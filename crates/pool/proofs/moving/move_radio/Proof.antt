@@ -6,7 +6,7 @@ use Prim.Native.Nat.{ℕ}
 use Rattle.hub.specs.declared.answers.Answer.{Answer}
 use Rattle.hub.specs.declared.record.Pool.{Pool}
 use Rattle.hub.specs.Answers.{printed}
-use Rattle.hub.specs.Radios.{handOf, handTo, laidAt, layAt, moved, put_back}
+use Rattle.hub.specs.Radios.{hand_of, hand_to, laid_at, lay_at, moved, put_back}
 use Rattle.pool.proofs.Laws.Answers.{stored, still}
 use Rattle.pool.proofs.moving.move_radio.Statement.{statement}
 use Rattle.pool.proofs.moving.move_radio.Tie as tie
@@ -88,7 +88,7 @@ returns-3 c =
     let s = d.before.before in
     by s d.answer5.given.1
     (c.hand-to.ensures
-    ∙ ap (λ (r : ℕ). handTo d.answer5.given.0.0 r s.args.pool) c.before.hand-of2.ensures)
+    ∙ ap (λ (r : ℕ). hand_to d.answer5.given.0.0 r s.args.pool) c.before.hand-of2.ensures)
 
 returns-4 : tie.Need-returns-4
 unfolding moved
@@ -113,12 +113,12 @@ returns-6 c =
   where
     laid : (c : tie.After-hand-to2) {t : ℕ} → c.before.before.match.t ≡ t
         → let s = c.before.before.before.args in
-        c.hand-to2.result ≡ handTo s.party (laidAt s.pool t) s.pool
+        c.hand-to2.result ≡ hand_to s.party (laid_at s.pool t) s.pool
     laid c e =
         let s = c.before.before.before.args in
         c.hand-to2.ensures
-        ∙ ap (λ (r : ℕ). handTo s.party r s.pool)
-        (c.before.laid-at2.ensures ∙ ap (laidAt s.pool) e)
+        ∙ ap (λ (r : ℕ). hand_to s.party r s.pool)
+        (c.before.laid-at2.ensures ∙ ap (laid_at s.pool) e)
 
 returns-7 : tie.Need-returns-7
 unfolding moved
@@ -129,12 +129,12 @@ returns-7 c =
   where
     lay : (c : tie.After-lay-at) {t : ℕ} → c.before.before.match.t ≡ t
         → let s = c.before.before.before.args in
-        c.Lay-at.result ≡ layAt t (handOf s.pool s.party) s.pool
+        c.Lay-at.result ≡ lay_at t (hand_of s.pool s.party) s.pool
     lay c e =
         let s = c.before.before.before.args in
         c.Lay-at.ensures
-        ∙ ap (λ (r : ℕ). layAt c.before.before.match.t r s.pool) c.before.hand-of3.ensures
-        ∙ ap (λ (t : ℕ). layAt t (handOf s.pool s.party) s.pool) e
+        ∙ ap (λ (r : ℕ). lay_at c.before.before.match.t r s.pool) c.before.hand-of3.ensures
+        ∙ ap (λ (t : ℕ). lay_at t (hand_of s.pool s.party) s.pool) e
 
 pub move-radio-spec : {M : Type 1} → statement M
 move-radio-spec =

@@ -5,7 +5,7 @@ use mathlib.Core.List.{[], ◌∷◌}
 use Rattle.hub.specs.declared.moves.Sight.{Sight}
 use Rattle.hub.specs.declared.record.Phase.{Phase}
 use Rattle.hub.specs.Moves.{Move}
-use Rattle.hub.specs.Table.{step, row_in, stepIn}
+use Rattle.hub.specs.Table.{step, row_in, step_in}
 use Rattle.hub.proofs.Laws.Phases.{phase-arm}
 use Rattle.effects.specs.declared.effect.Effect.{Effect}
 use Rattle.effects.specs.Effect.{effect_of}
@@ -13,9 +13,9 @@ use Rattle.table.proofs.rows.decide_step.Statement.{statement}
 use Rattle.table.proofs.rows.decide_step.Tie as tie
 
 -- The sight is written out at each arm: the row does not show it once its tests are made of it.
-in-phase : (s : Sight) {f : Phase} {e : Effect} → s.slot.phase ≡ f → e ≡ effect_of (stepIn f s) s
+in-phase : (s : Sight) {f : Phase} {e : Effect} → s.slot.phase ≡ f → e ≡ effect_of (step_in f s) s
     → e ≡ effect_of (step s) s
-in-phase s i h = h ∙ ap (λ (x : Phase). effect_of (stepIn x s) s) (sym i)
+in-phase s i h = h ∙ ap (λ (x : Phase). effect_of (step_in x s) s) (sym i)
 
 pub decide-step-spec : {M : Type 1} → statement M
 unfolding row_in
@@ -57,7 +57,7 @@ decide-step-spec =
     let s = c.before.before.before.args.s in
     c.refused.ensures
     ∙ ap (λ (m : Move). effect_of m s)
-    (phase-arm (0 ∷ 1 ∷ 2 ∷ []) (λ f. stepIn f s) s.slot.phase refl c.before.match.keys1))
+    (phase-arm (0 ∷ 1 ∷ 2 ∷ []) (λ f. step_in f s) s.slot.phase refl c.before.match.keys1))
     (λ c. in-phase c.before.before.before.before.args.s c.before.enum_told.given.1 c.step-acquiring.ensures)
     (λ c. in-phase c.before.before.before.before.args.s c.before.enum-told2.given.1 c.step-suspending.ensures)
     (λ c. in-phase c.before.before.before.before.before.args.s c.before.before.phase.given.1 c.step-ticketed.ensures)

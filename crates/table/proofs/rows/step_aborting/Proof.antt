@@ -1,7 +1,7 @@
 -- `step_aborting` meets its contract: the test of the counter picks the row.
 use borrow.Author.Rules.{rules}
 use mathlib.Core.Path.{◌∙◌}
-use Rattle.hub.specs.Table.{belowZero, row_in, stepAborting}
+use Rattle.hub.specs.Table.{below_zero, row_in, step_aborting}
 use Rattle.effects.proofs.Laws.Counter.{sign}
 use Rattle.table.proofs.rows.step_aborting.Statement.{statement}
 use Rattle.table.proofs.rows.step_aborting.Tie as tie
@@ -13,20 +13,20 @@ given-requires : tie.Need-given-requires
 given-requires c κs = search rules
 
 returns : tie.Need-returns
-unfolding row_in stepAborting
+unfolding row_in step_aborting
 returns c =
     let b = c.before.before in
-    let e = sign belowZero _ b.before.before.requires b.below-zero.ensures in
+    let e = sign below_zero _ b.before.before.requires b.below-zero.ensures in
     rw (e ∙ c.before.if1.true) c.given.ensures
 
 given-requires-2 : tie.Need-given-requires-2
 given-requires-2 c κs = search rules
 
 returns-2 : tie.Need-returns-2
-unfolding row_in stepAborting
+unfolding row_in step_aborting
 returns-2 c =
     let b = c.before.before in
-    let e = sign belowZero _ b.before.before.requires b.below-zero.ensures in
+    let e = sign below_zero _ b.before.before.requires b.below-zero.ensures in
     rw (e ∙ c.before.if1.false) c.given2.ensures
 
 pub step-aborting-spec : {M : Type 1} → statement M

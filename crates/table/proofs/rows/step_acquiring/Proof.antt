@@ -3,7 +3,7 @@ use borrow.Author.Rules.{rules}
 use mathlib.Core.Path.{ap, ◌∙◌}
 use Rattle.hub.specs.declared.answers.Answer.{Answer}
 use Rattle.hub.specs.declared.record.Phase.{Phase}
-use Rattle.hub.specs.Table.{aboveZero, stepAcquiring, take}
+use Rattle.hub.specs.Table.{above_zero, step_acquiring, take}
 use Rattle.effects.specs.Effect.{effect_of}
 use Rattle.effects.proofs.Laws.Counter.{sign}
 use Rattle.table.proofs.rows.step_acquiring.Statement.{statement}
@@ -19,11 +19,11 @@ taken-requires : tie.Need-taken-requires
 taken-requires c κs = search rules
 
 returns : tie.Need-returns
-unfolding stepAcquiring
+unfolding step_acquiring
 returns c =
     let b = c.before.before.before in
     let s = b.before.before.args.s in
-    let e = sign aboveZero _ b.before.before.requires b.above_zero.ensures in
+    let e = sign above_zero _ b.before.before.requires b.above_zero.ensures in
     rw (e ∙ c.before.before.if1.true)
     (c.taken.ensures
     ∙ ap (λ (f : Phase). effect_of (take f Answer.Acquired s) s) c.before.with-permit.ensures)
@@ -32,10 +32,10 @@ taken-requires-2 : tie.Need-taken-requires-2
 taken-requires-2 c κs = search rules
 
 returns-2 : tie.Need-returns-2
-unfolding stepAcquiring
+unfolding step_acquiring
 returns-2 c =
     let b = c.before.before in
-    let e = sign aboveZero _ b.before.before.requires b.above_zero.ensures in
+    let e = sign above_zero _ b.before.before.requires b.above_zero.ensures in
     rw (e ∙ c.before.if1.false) c.taken2.ensures
 
 pub step-acquiring-spec : {M : Type 1} → statement M

@@ -6,7 +6,7 @@ use Rattle.hub.specs.declared.record.Figures.{Figures}
 use Rattle.hub.specs.declared.record.Phase.{Phase}
 use Rattle.hub.specs.Moves.{Act}
 use Rattle.effects.specs.Effect.{effect_of}
-use Rattle.hub.specs.Table.{change, row_in, stepResuming}
+use Rattle.hub.specs.Table.{change, row_in, step_resuming}
 use Rattle.table.proofs.rows.step_resuming.Statement.{statement}
 use Rattle.table.proofs.rows.step_resuming.Tie as tie
 
@@ -20,7 +20,7 @@ acted-requires : tie.Need-acted-requires
 acted-requires c κs = search rules
 
 returns : tie.Need-returns
-unfolding row_in stepResuming
+unfolding row_in step_resuming
 returns c =
     let s = c.before.before.before.args.s in
     let t = s.figures.resumed in

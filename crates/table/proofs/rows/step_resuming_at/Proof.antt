@@ -5,8 +5,8 @@ use mathlib.Core.List.{[], ◌∷◌}
 use Rattle.hub.proofs.Laws.Phases.{place-arm}
 use Rattle.hub.specs.declared.record.Place.{Place}
 use Rattle.hub.specs.Moves.{Move}
-use Rattle.hub.specs.Phases.{isWaiting}
-use Rattle.hub.specs.Table.{row_in, stepResumingAt}
+use Rattle.hub.specs.Phases.{is_waiting}
+use Rattle.hub.specs.Table.{row_in, step_resuming_at}
 use Rattle.effects.specs.Effect.{effect_of}
 use Rattle.table.proofs.rows.step_resuming_at.Statement.{statement}
 use Rattle.table.proofs.rows.step_resuming_at.Tie as tie
@@ -42,33 +42,33 @@ refused-requires : tie.Need-refused-requires
 refused-requires c κs = search rules
 
 returns : tie.Need-returns
-unfolding row_in stepResumingAt
+unfolding row_in step_resuming_at
 returns c = let e = c.before.enum_told.given.1 in rw e c.placed.ensures
 
 returns-2 : tie.Need-returns-2
-unfolding row_in stepResumingAt
+unfolding row_in step_resuming_at
 returns-2 c =
     let a = c.before.before.before.before.before.args in
     c.resume-waiter.ensures
-    ∙ ap (λ (x : Place). effect_of (stepResumingAt a.t (isWaiting a.s.waiter.phase) x a.s) a.s)
+    ∙ ap (λ (x : Place). effect_of (step_resuming_at a.t (is_waiting a.s.waiter.phase) x a.s) a.s)
     (sym c.before.before.place.given.1)
 
 returns-3 : tie.Need-returns-3
-unfolding row_in stepResumingAt
+unfolding row_in step_resuming_at
 returns-3 c = let e = c.before.enum-told2.given.1 in rw e c.placed2.ensures
 
 returns-4 : tie.Need-returns-4
-unfolding row_in stepResumingAt
+unfolding row_in step_resuming_at
 returns-4 c = let e = c.before.enum-told3.given.1 in rw e c.placed3.ensures
 
 returns-5 : tie.Need-returns-5
-unfolding row_in stepResumingAt
+unfolding row_in step_resuming_at
 returns-5 c =
     let a = c.before.before.before.args in
     let s = a.s in
     c.refused.ensures
     ∙ ap (λ (m : Move). effect_of m s)
-    (place-arm (2 ∷ 5 ∷ []) (λ x. stepResumingAt a.t (isWaiting s.waiter.phase) x s) s.seat.place refl c.before.match.keys5)
+    (place-arm (2 ∷ 5 ∷ []) (λ x. step_resuming_at a.t (is_waiting s.waiter.phase) x s) s.seat.place refl c.before.match.keys5)
 
 pub step-resuming-at-spec : {M : Type 1} → statement M
 step-resuming-at-spec =

@@ -1,6 +1,6 @@
 -- `step_storing` meets its contract: the row has one case.
 use borrow.Author.Rules.{rules}
-use Rattle.hub.specs.Table.{row_in, stepStoring}
+use Rattle.hub.specs.Table.{row_in, step_storing}
 use Rattle.table.proofs.rows.step_storing.Statement.{statement}
 use Rattle.table.proofs.rows.step_storing.Tie as tie
 
@@ -8,7 +8,7 @@ turned-requires : tie.Need-turned-requires
 turned-requires c κs = search rules
 
 returns : tie.Need-returns
-unfolding row_in stepStoring
+unfolding row_in step_storing
 returns c = c.turned.ensures
 
 pub step-storing-spec : {M : Type 1} → statement M

@@ -1,6 +1,6 @@
 -- `can_skip` meets its contract: its two tests are those of the definition.
 use borrow.Author.Rules.{rules}
-use Rattle.hub.specs.Phases.{isPlaceOf}
+use Rattle.hub.specs.Phases.{is_place_of}
 use Rattle.transition.proofs.Laws.Tests.{is_one}
 use borrow.Author.Tests.{lt-ltb, le-ltb}
 use Rattle.transition.proofs.tidy.can_skip.Statement.{statement}
@@ -13,7 +13,7 @@ place-rank-requires : tie.Need-place-rank-requires
 place-rank-requires c κs = search rules
 
 returns-2 : tie.Need-returns-2
-unfolding isPlaceOf
+unfolding is_place_of
 returns-2 c = simp (lt-ltb _ _ c.before.if1.false) (is_one _ _ 3 c.place-rank.ensures)
 
 pub can-skip-spec : {M : Type 1} → statement M

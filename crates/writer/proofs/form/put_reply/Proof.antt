@@ -2,14 +2,14 @@
 use borrow.Author.Rules.{rules}
 use mathlib.Core.Path.{ap, ◌∙◌}
 use mathlib.Core.Bool.{Bool}
-use Rattle.encoding.specs.Form.{form_of, replySize}
+use Rattle.encoding.specs.Form.{form_of, reply_size}
 use Rattle.writer.proofs.form.put_reply.Statement.{statement}
 use Rattle.writer.proofs.form.put_reply.Tie as tie
 
 put-line-by-requires : tie.Need-put-line-by-requires
 put-line-by-requires c κs =
     let s = c.before.before.before in
-    (s.requires.0, s.requires.1 ∙ ap (λ (b : Bool). replySize (form_of b)) c.before.if1.true)
+    (s.requires.0, s.requires.1 ∙ ap (λ (b : Bool). reply_size (form_of b)) c.before.if1.true)
 
 same_length : tie.Need-same-length
 same_length c = search rules
@@ -19,7 +19,7 @@ returns c = rw c.before.before.before.before.if1.true c.before.before.put-line-b
 
 put-requires : tie.Need-put-requires
 put-requires c κs =
-    c.before.before.before.requires.1 ∙ ap (λ (b : Bool). replySize (form_of b)) c.before.if1.false
+    c.before.before.before.requires.1 ∙ ap (λ (b : Bool). reply_size (form_of b)) c.before.if1.false
 
 same-length-2 : tie.Need-same-length-2
 same-length-2 c = search rules
