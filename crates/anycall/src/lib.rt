@@ -1,6 +1,8 @@
 // Any call of the hub by value: a record in, the answer and the record out, for every record and
 // every party byte. A refusal hands the record back as it came.
 
+#![tactic(auto)]
+
 ghost use Rattle.std.specs.Prelude.{◌≡◌};
 ghost use Rattle.hub.specs.Answers.{printed};
 ghost use Rattle.hub.specs.Calls.{called};

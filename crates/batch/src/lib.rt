@@ -2,6 +2,8 @@
 // arrays and figures are parameters, altered in place. A record that is reached from an opening fits, and
 // that is proved: so there is no check of the whole record here. The crate `requests` hands a whole record over.
 
+#![tactic(auto)]
+
 ghost use Rattle.std.specs.Prelude.{◌≡◌, ◌*◌, ◌≤◌, length};
 ghost use Rattle.encoding.specs.Form.{form_of, reply_size};
 ghost use Rattle.encoding.specs.Tables.{Pairs};
@@ -17,7 +19,7 @@ use transition::sight::{seat_index, waiter_at};
 use transition::tidy::is_untidy;
 
 // What the requests leave of a record; its opening stays as it was.
-#[derive(Drop)]
+#[derive(Clone, Copy)]
 pub struct Parts {
     pub figures: Figures,
     pub ring: PlaceRing,

@@ -16,7 +16,7 @@ use reader::{Reader, read_piece};
 use writer::text::put_line;
 
 // What the first characters of a piece lead to: those until a hub is open, or all of them.
-#[derive(Drop)]
+#[derive(Clone, Copy)]
 pub struct Begun {
     pub hub: Hub,
     pub reader: Reader,

@@ -1,6 +1,8 @@
 // The monthly bill: n parties share a fee in whole cents by the links (permits) that they got,
 // counted from the hub's answer lines. The cents left over go to the largest remainders.
 
+#![tactic(auto)]
+
 ghost use Rattle.std.specs.Prelude.{◌*◌, ◌+◌, ◌<◌, ◌≤◌, ◌≡◌, ltb, get_or, length, replicate};
 ghost use Rattle.hub.specs.Basics.{bit};
 ghost use Rattle.billing.specs.Bill.{answer_to, bill_bytes, bill_code, code_of, in_bytes, shares_of};
@@ -18,7 +20,7 @@ const MOST_CENTS: u32 = 1000000;
 const MOST_LINES: usize = 100000000;
 
 // How a bill is answered: 3, 22, 0 (`code_of`).
-#[derive(Drop)]
+#[derive(Clone, Copy)]
 pub enum Answer {
     BadParties, // n is not 1 to 32
     TooMuch, // the fee is above 1,000,000 cents, or the lines exceed 100,000,000
@@ -26,7 +28,7 @@ pub enum Answer {
 }
 
 // What is shared, and by what.
-#[derive(Drop)]
+#[derive(Clone, Copy)]
 pub struct Terms {
     pub parties: u8, // n
     pub fee: u32, // in cents
@@ -34,7 +36,7 @@ pub struct Terms {
 }
 
 // The exact portions, rounded down and what remains of each, and the cents left over.
-#[derive(Drop)]
+#[derive(Clone, Copy)]
 struct Portions {
     cents: [u32; 32],
     remainders: [u64; 32],
@@ -42,7 +44,7 @@ struct Portions {
 }
 
 // An answer, and the parties' shares in cents: 0 from n up, and of a refused bill.
-#[derive(Drop)]
+#[derive(Clone, Copy)]
 pub struct Bill {
     pub answer: Answer,
     pub shares: [u32; 32],

@@ -2,6 +2,8 @@
 // function over them, which calls the by-value core, and stores the record that comes back. Its
 // contract names `printed` beside the answer, since that is where the paper's codes are.
 
+#![tactic(auto)]
+
 ghost use Rattle.std.specs.Prelude.{◌≡◌};
 ghost use Rattle.hub.specs.declared.moves.Op.{Op};
 ghost use Rattle.hub.specs.Answers.{printed};

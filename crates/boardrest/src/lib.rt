@@ -2,6 +2,8 @@
 // at rest. A shell takes the hub by reference, hands its fields to a function over them, which calls the by-value
 // core, and stores the record that comes back, as in the crate board.
 
+#![tactic(auto)]
+
 ghost use Rattle.std.specs.Prelude.{◌≡◌};
 ghost use Rattle.hub.specs.Answers.{printed};
 ghost use Rattle.hub.specs.Record.{of_fields};

@@ -1,5 +1,7 @@
 // How the programs of cases print bytes, and an answer, as a line.
 
+#![tactic(auto)]
+
 ghost use Rattle.std.specs.Prelude.{◌+◌, ◌*◌, ◌≡◌, length};
 ghost use Rattle.hub.specs.Answers.{printed};
 ghost use Rattle.encoding.specs.Frame.{frame_of};

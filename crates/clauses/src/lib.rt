@@ -1,5 +1,7 @@
 // The clauses of a record that fits, each over the few values that it asks.
 
+#![tactic(auto)]
+
 ghost use Rattle.std.specs.Prelude.{◌≡◌, ◌&&◌, ◌≤◌, ◌<◌};
 ghost use Rattle.hub.specs.Basics.{implies};
 ghost use Rattle.hub.specs.Fits.{counter_fits, figures_fit, in_window, ticket_fits, place_listed};

@@ -1,5 +1,7 @@
 // The end of an input: a line left without its end mark, and the closing line.
 
+#![tactic(auto)]
+
 mod text; // the closing line
 
 ghost use Rattle.std.specs.Prelude.{◌≡◌, ◌++◌, suc, ◌*◌, ◌≤◌, length, drop};

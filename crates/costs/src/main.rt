@@ -2,6 +2,8 @@
 // the count with the letter less the count with a dot or a comma. docs/SPEED.md has the method and
 // the figures. Nothing else calls the by-value core here: so it is compiled as it is on a board.
 
+#![tactic(auto)]
+
 use board::call_on_board;
 use counts::counts;
 use encoding::answer::print_of;

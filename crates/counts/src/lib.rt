@@ -1,5 +1,7 @@
 // What a record shows, for boards and auditors: parties by phase, places by state, and the figures made of them.
 
+#![tactic(auto)]
+
 pub mod calm; // how many steps until all are at rest
 
 ghost use Rattle.std.specs.Prelude.{◌≡◌, eqb, ◌≤◌};

@@ -1,5 +1,7 @@
 // The desk program: standard input to standard output, in constant memory.
 
+#![tactic(auto)]
+
 ghost use Rattle.std.specs.Prelude.{◌*◌, ◌≤◌, length};
 ghost use Rattle.deskfeed.specs.Session.{Sound};
 ghost use Rattle.deskline.specs.Text.{LONGEST_TEXT};
@@ -9,7 +11,7 @@ use libc::{STDERR_FILENO, STDIN_FILENO, STDOUT_FILENO};
 
 // The session past a piece. Without more there is nothing to read; a run is whole as long as
 // every piece was read and every answer written.
-#[derive(Drop)]
+#[derive(Clone, Copy)]
 pub struct Taken {
     pub session: Session,
     pub more: bool,

@@ -12,14 +12,14 @@ use reader::{KEPT, Reader};
 use screen::Line;
 
 // The screen's line, and the line of text that is being read.
-#[derive(Drop)]
+#[derive(Clone, Copy)]
 pub struct Session {
     pub line: Line,
     pub reader: Reader,
 }
 
 // The session past a piece, and how many characters are printed for it.
-#[derive(Drop)]
+#[derive(Clone, Copy)]
 pub struct Fed {
     pub session: Session,
     pub size: usize,

@@ -1,5 +1,7 @@
 // What a line of the desk program is answered: 12, then 13, then the operation's own.
 
+#![tactic(auto)]
+
 ghost use Rattle.std.specs.Prelude.{◌≡◌};
 ghost use Rattle.line.specs.Requests.{request_of};
 ghost use Rattle.deskreply.specs.Replies.{asked_by, code_reply, is_open_line, opening_reply, operation_reply, reply_to};
@@ -11,7 +13,7 @@ use screen::{Line, Operation};
 use screenmove::{call, open_line};
 use screensteps::steps_to_rest;
 
-#[derive(Drop)]
+#[derive(Clone, Copy)]
 pub struct DeskReply {
     pub code: u8,
     pub party: u8, // FF for openings and for 12

@@ -1,6 +1,8 @@
 // The door book: which lock stands at each of 200 doors. Replacing a lock is a frame of ten bytes,
 // which the book enters or refuses. It stands apart from the hub. Here is the book by value; `doorbytes` has it in place.
 
+#![tactic(auto)]
+
 ghost use Rattle.std.specs.Prelude.{◌+◌, ◌<◌, ◌≤◌, ◌≡◌, length};
 ghost use Rattle.doorbook.specs.Book.{after, answer_to, code_of, empty_book, lock_at, stands};
 ghost use Rattle.doorbook.specs.Frame.{is_frame, number_at};
@@ -10,7 +12,7 @@ pub const LAST: u8 = 199; // the highest door
 pub const NONE: u32 = 0; // stands at a door without a lock
 
 // How a frame is answered: 12, 19, 20, 21, 41 (`code_of`).
-#[derive(Drop)]
+#[derive(Clone, Copy)]
 pub enum Answer {
     Malformed, // another length or code
     NoSuchDoor, // the door is above 199
@@ -20,7 +22,7 @@ pub enum Answer {
 }
 
 // The locks of the doors 0 to 199, 0 for none.
-#[derive(Drop)]
+#[derive(Clone, Copy)]
 pub struct Book {
     pub locks: [u32; 200],
 }
@@ -65,7 +67,7 @@ fn stands(locks: [u32; 200], lock: u32) -> bool
 }
 
 // An answer, and the book that is left.
-#[derive(Drop)]
+#[derive(Clone, Copy)]
 pub struct Entry {
     pub answer: Answer,
     pub book: Book,

@@ -1,5 +1,7 @@
 // The door book as 800 bytes, altered in place, for C and Rust: 200 locks of four bytes, the high byte first.
 
+#![tactic(auto)]
+
 ghost use Rattle.std.specs.Prelude.{◌+◌, ◌≤◌, ◌≡◌, length};
 ghost use Rattle.doorbook.specs.Book.{answer_to, stands};
 ghost use Rattle.doorbook.specs.Bytes.{bytes_after, enter_bytes, enter_code, fitted_at, lock_in, locks_of};

@@ -2,6 +2,8 @@
 // the answer's code and the lock that then stands at a door. The expected output, beside this program, was written by
 // hand from the paper.
 
+#![tactic(auto)]
+
 use doorbook::{Book, code};
 
 // A hexadecimal digit, in capitals.

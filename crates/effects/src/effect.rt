@@ -6,7 +6,7 @@ use hub::record::{Figures, PartySlot, PlaceSlot};
 
 // What was seen and does not change is in it, too; a call that is refused, or answered 37 or 39,
 // changes nothing.
-#[derive(Drop)]
+#[derive(Clone, Copy)]
 pub struct Effect {
     pub turns: u32, // that each of the tidying's loops may take: none if nothing changes
     pub woken: u32, // the party whose slot becomes the waiter's; 32 if nobody is woken

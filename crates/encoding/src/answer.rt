@@ -7,7 +7,7 @@ ghost use Rattle.encoding.specs.Frame.{frame_of, paper};
 use hub::answers::{Answer, Refusal};
 
 // What an answer prints: its code, the woken party and the number.
-#[derive(Drop)]
+#[derive(Clone, Copy)]
 pub struct Print {
     pub code: u8,
     pub woken: u32, // FF if nobody was woken

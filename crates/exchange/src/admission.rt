@@ -8,7 +8,7 @@ use hub::moves::Op;
 use line::request::OPENING;
 use std::num::wrapping_sub_u8;
 
-#[derive(Drop)]
+#[derive(Clone, Copy)]
 pub struct Admission {
     pub admitted: bool, // a call of a party that there is: the table answers it
     pub party: u8,

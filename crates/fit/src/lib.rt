@@ -1,5 +1,7 @@
 // Does a record fit? The check of every clause, for any value of the type.
 
+#![tactic(auto)]
+
 ghost use Rattle.std.specs.Prelude.{◌≡◌};
 ghost use Rattle.hub.specs.Fits;
 

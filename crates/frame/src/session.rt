@@ -15,14 +15,14 @@ use requests::answer_requests;
 use writer::form::TEXT;
 
 // The record, and the line that is being read.
-#[derive(Drop)]
+#[derive(Clone, Copy)]
 pub struct Session {
     pub hub: Hub,
     pub reader: Reader,
 }
 
 // The session past a piece, and how many lines are printed for it, of fifteen characters each.
-#[derive(Drop)]
+#[derive(Clone, Copy)]
 pub struct Fed {
     pub session: Session,
     pub lines: usize,

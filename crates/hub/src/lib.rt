@@ -2,6 +2,8 @@
 // The papers that it is built from are documents 01 and 02; specs/ has their definitions, and every contract
 // here cites one of them.
 
+#![tactic(auto)]
+
 pub mod record; // the record of a hub: phases, places, figures
 pub mod slots; // what the record keeps of a party and of a place
 pub mod answers; // what a call answers

@@ -7,7 +7,7 @@ use crate::record::{Control, Figures, Hub, Pool};
 use crate::slots::{empty_seat, free_slot};
 
 // What an opening asks for.
-#[derive(Drop)]
+#[derive(Clone, Copy)]
 pub struct Opening {
     pub permits: u8, // links, K
     pub parties: u8, // n

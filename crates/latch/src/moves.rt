@@ -4,7 +4,7 @@ use crate::record::{LatchFigures, LatchSlot};
 use hub::record::PlaceSlot;
 
 // The calls: await (10), step (11), give up (12), count down (13).
-#[derive(Drop)]
+#[derive(Clone, Copy)]
 pub enum LatchOp {
     Await,
     Step,
@@ -12,14 +12,14 @@ pub enum LatchOp {
     CountDown,
 }
 
-#[derive(Drop)]
+#[derive(Clone, Copy)]
 pub struct LatchCall {
     pub op: LatchOp,
     pub party: u8,
 }
 
 // What a call of one party looks at.
-#[derive(Drop)]
+#[derive(Clone, Copy)]
 pub struct LatchSight {
     pub party: u8,
     pub kind: u8,

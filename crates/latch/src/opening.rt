@@ -9,7 +9,7 @@ use hub::record::Phase;
 use hub::slots::empty_seat;
 use openhub::up_to_32;
 
-#[derive(Drop)]
+#[derive(Clone, Copy)]
 pub enum Start {
     BadParties, // 3: n is not 1 to 32
     BadCount, // 18: N is not 1 to 200
@@ -17,7 +17,7 @@ pub enum Start {
 }
 
 // How an opening went, and the record that it made.
-#[derive(Drop)]
+#[derive(Clone, Copy)]
 pub struct LatchOpening {
     pub start: Start,
     pub latch: Latch,

@@ -5,7 +5,7 @@ use hub::record::{Phase, PlaceSlot};
 
 // What the record keeps of a party: its phase as at the hub, and what only a latch has. Raising is asked, once it
 // is known that there is something to wait for.
-#[derive(Drop)]
+#[derive(Clone, Copy)]
 pub struct LatchSlot {
     pub phase: Phase,
     pub raising: bool, // of an asked party: it is to add a waiter
@@ -13,7 +13,7 @@ pub struct LatchSlot {
 }
 
 // The numbers that calls move. The done mark is the count at 0.
-#[derive(Drop)]
+#[derive(Clone, Copy)]
 pub struct LatchFigures {
     pub count: u32, // doors that are still to answer
     pub waiters: u32, // waits that were begun and not given up
@@ -22,7 +22,7 @@ pub struct LatchFigures {
     pub begun: u32, // awaits accepted since opening
 }
 
-#[derive(Drop)]
+#[derive(Clone, Copy)]
 pub struct Latch {
     pub parties: u8, // n
     pub figures: LatchFigures,
@@ -32,7 +32,7 @@ pub struct Latch {
 }
 
 // What a call answers, and the record that it leaves.
-#[derive(Drop)]
+#[derive(Clone, Copy)]
 pub struct LatchOutcome {
     pub answer: Answer,
     pub latch: Latch,

@@ -2,6 +2,8 @@
 // figures are locals while they are, altered in place. A record that is reached from an opening fits:
 // so there is no check of the whole record here.
 
+#![tactic(auto)]
+
 mod wire; // calls and answers as bytes
 
 ghost use Rattle.std.specs.Prelude.{◌≡◌, ◌*◌, ◌≤◌, length};

@@ -1,1 +1,3 @@
 // What holds of every schedule of a latch: there is no code here, only what is claimed, and why it holds.
+
+#![tactic(auto)]

@@ -1,6 +1,8 @@
 // Does the record of a latch fit? The check of every clause, for any value of the type. Tickets and
 // places are the hub's to check.
 
+#![tactic(auto)]
+
 ghost use Rattle.std.specs.Prelude.{◌≡◌, ◌&&◌, ◌≤◌};
 ghost use Rattle.hub.specs.Basics.{up_to32};
 ghost use Rattle.hub.specs.Fits.{place_listed};

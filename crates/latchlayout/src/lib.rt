@@ -1,6 +1,8 @@
 // A record of a latch as 1523 bytes, and back, for the program that makes a call on any record;
 // tests/README.md lays them out.
 
+#![tactic(auto)]
+
 mod figures; // the numbers in front
 mod parties; // phases, hand-overs left and marks
 

@@ -2,6 +2,8 @@
 // a record and a call, 1525 bytes; its reply is the answer and the record that is left, 1530 bytes.
 // tests/README.md lays them out.
 
+#![tactic(auto)]
+
 use encoding::answer::{print_of, put};
 use latch::moves::LatchOp;
 use latch::record::LatchOutcome;

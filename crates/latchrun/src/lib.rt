@@ -1,6 +1,8 @@
 // Runs a whole list of calls on a latch just opened, and leaves the answers in the caller's buffer.
 // What holds of every schedule of a latch holds of these answers.
 
+#![tactic(auto)]
+
 ghost use Rattle.std.specs.Prelude.{◌≡◌};
 ghost use Rattle.latch.specs.Opening.{start_code};
 ghost use Rattle.run.specs.Bytes.{well_formed};
@@ -11,7 +13,7 @@ use latch::opening::{Start, open_latch};
 use latchbatch::answer_calls;
 
 // How a run ended. Only a run that is done writes to the buffer.
-#[derive(Drop)]
+#[derive(Clone, Copy)]
 pub enum LatchRan {
     NotOpened(Start), // 3 or 18
     Malformed, // an odd number of bytes, or a code that is none of the calls

@@ -1,6 +1,8 @@
 // A record of a hub as 1881 bytes, and back, for the program that makes a call on any record;
 // tests/README.md lays them out.
 
+#![tactic(auto)]
+
 mod figures; // the numbers in front
 mod parties; // phases and marks
 

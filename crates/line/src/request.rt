@@ -11,7 +11,7 @@ use hub::opening::Opening;
 pub const LONGEST: usize = 160;
 
 // A request in two bytes: the code of a call and its party, or one of these codes and FF.
-#[derive(Drop)]
+#[derive(Clone, Copy)]
 pub struct Header {
     pub code: u8,
     pub party: u8,

@@ -1,5 +1,7 @@
 // Opening a hub: what an opening is answered, refusals 2, 3 and 14 to 17 in their order, and the record that it makes.
 
+#![tactic(auto)]
+
 pub mod kinds; // the kind of each party
 
 ghost use Rattle.std.specs.Prelude.{◌≡◌, ◌≤◌, ◌<◌, take};

@@ -1,5 +1,7 @@
 // Runs a whole list of operations on a hub just opened, and leaves the answers in the caller's buffer.
 
+#![tactic(auto)]
+
 ghost use Rattle.std.specs.Prelude.{◌≡◌};
 ghost use Rattle.line.specs.Requests.{requested};
 ghost use Rattle.perform.specs.Bytes.{is_operation_code};

@@ -2,6 +2,8 @@
 // takes until everybody is at rest again. The steps are not walked: what they come to is stored. The record's
 // arrays and figures are locals meanwhile, altered in place, as in the crate batch; and no record is checked.
 
+#![tactic(auto)]
+
 mod wire; // answers as bytes
 
 ghost use Rattle.std.specs.Prelude.{◌≡◌, true, ◌*◌, ◌/◌, ◌≤◌, length};

@@ -1,5 +1,7 @@
 // What is asked of a phase, and of a place.
 
+#![tactic(auto)]
+
 ghost use Rattle.std.specs.Prelude.{◌≡◌, true, false};
 ghost use Rattle.hub.specs.Phases.{at_rest, by_ticket, has_radio, of_radios, place_rank, ticket_of};
 

@@ -2,6 +2,8 @@
 // woken party, steps; and between them is what the record shows.
 // The expected output, beside this program, was written by hand from the paper.
 
+#![tactic(auto)]
+
 use board::call_on_board;
 use boardrest::operate_on_board;
 use caselines::{answer_line, put_text};

@@ -1,5 +1,7 @@
 // What an operation comes to on a hub at rest, laid out flat: it is stored without asking of which kind it is.
 
+#![tactic(auto)]
+
 ghost use Rattle.std.specs.Prelude.{◌≡◌, cond, eqb, leb, ◌+◌, ◌%◌, ◌<◌, ◌≤◌};
 ghost use Rattle.hub.specs.Answers.{printed};
 ghost use Rattle.hub.specs.Phases.{by_waiter, is_free, is_holding, is_waiting};
@@ -20,7 +22,7 @@ use phases::ticket;
 use pool::moving::move_radio;
 
 // What an operation looks at.
-#[derive(Drop)]
+#[derive(Clone, Copy)]
 pub struct Seen {
     pub party: u8,
     pub kind: u8,
@@ -31,7 +33,7 @@ pub struct Seen {
 }
 
 // What was seen and does not change is in it, too.
-#[derive(Drop)]
+#[derive(Clone, Copy)]
 pub struct Plan {
     pub code: u8, // 20, or the refusal
     pub woken: u32, // the party that becomes holding; FF if nobody does

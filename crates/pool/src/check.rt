@@ -13,7 +13,7 @@ use openhub::{radio_index, radios_differ};
 use phases::{has_radio, place_rank};
 
 // The radios met, in order. A hub has 32 at most: 33 are too many, and past them none is noted.
-#[derive(Drop)]
+#[derive(Clone, Copy)]
 pub struct Met {
     pub radios: [u8; 33],
     pub count: usize,

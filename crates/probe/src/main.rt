@@ -2,6 +2,8 @@
 // record and a call, 1883 bytes; its reply is the answer and the record that is left, 1888 bytes.
 // tests/README.md lays them out.
 
+#![tactic(auto)]
+
 use encoding::answer::{print_of, put};
 use hub::moves::Op;
 use hub::record::Outcome;

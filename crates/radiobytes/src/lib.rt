@@ -1,6 +1,8 @@
 // What a record was opened with, and its radios: whether there are radios, those of the opening, those
 // with parties, at places and stored; at the record's end the kinds. A reply shows a radio only where one is, and the store in order.
 
+#![tactic(auto)]
+
 ghost use Rattle.std.specs.Prelude.{◌+◌, ◌<◌, ◌≤◌, cond, ◌≡◌, length};
 ghost use Rattle.cells.specs.Bytes.{bytes_at};
 ghost use Rattle.radiobytes.specs.Read.{opening_of_bytes, pool_in, rotated};

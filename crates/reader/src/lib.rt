@@ -1,5 +1,7 @@
 // Lines out of pieces: a line may be cut anywhere.
 
+#![tactic(auto)]
+
 ghost use Rattle.std.specs.Prelude.{◌≡◌, ◌*◌, ◌≤◌, length};
 ghost use Rattle.encoding.specs.Tables.{Values};
 ghost use Rattle.reader.specs.Reading.{KEPT, asked, header_bytes, past, requests_written};
@@ -11,14 +13,14 @@ use line::values::call_by;
 pub const KEPT: usize = LONGEST + 1;
 
 // The line that is being read.
-#[derive(Drop)]
+#[derive(Clone, Copy)]
 pub struct Reader {
     pub line: [u8; KEPT],
     pub len: usize,
 }
 
 // The reader past a piece, and how many lines ended in it.
-#[derive(Drop)]
+#[derive(Clone, Copy)]
 pub struct Read {
     pub reader: Reader,
     pub count: usize,

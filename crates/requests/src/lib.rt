@@ -1,6 +1,8 @@
 // Requests of an open hub answered on a whole record: its parts are handed to the loop of `batch`, and the record made of
 // those that are left.
 
+#![tactic(auto)]
+
 ghost use Rattle.std.specs.Prelude.{◌≡◌, ◌*◌, ◌≤◌, length};
 ghost use Rattle.encoding.specs.Form.{form_of, reply_size};
 ghost use Rattle.line.specs.Program.{after};

@@ -1,6 +1,8 @@
 // The tidying of a ring of places. It is handed on apart from its record, of which nothing else is copied; both loops
 // are one function, since each that is called by itself copies the ring again.
 
+#![tactic(auto)]
+
 ghost use Rattle.std.specs.Prelude.{◌≡◌, ◌≤◌};
 ghost use Rattle.transition.specs.Tidied.{reclaimed_by};
 ghost use Rattle.ring.specs.Code.{ring_in};
@@ -10,7 +12,7 @@ use hub::slots::{empty_seat, with_place};
 use transition::tidy::{can_retire, can_skip};
 
 // What the tidying looks at and moves.
-#[derive(Drop)]
+#[derive(Clone, Copy)]
 pub struct PlaceRing {
     pub resumed: u32, // the next ticket to resume
     pub oldest: u32, // the first ticket that has a place

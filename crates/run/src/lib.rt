@@ -1,6 +1,8 @@
 // Runs a whole list of calls on a hub just opened, and leaves the answers in the caller's buffer.
 // What the third demand says of schedules it says of these answers.
 
+#![tactic(auto)]
+
 ghost use Rattle.std.specs.Prelude.{◌≡◌};
 ghost use Rattle.hub.specs.Opening.{opening};
 ghost use Rattle.encoding.specs.Frame.{is_call};
@@ -17,7 +19,7 @@ use requests::answer_requests;
 use writer::form::BYTES;
 
 // How a run ended. Only a run that is done writes to the buffer.
-#[derive(Drop)]
+#[derive(Clone, Copy)]
 pub enum Ran {
     BadOpening, // the opening's frame is malformed
     NotOpened(Refusal), // 2, 3 or 14 to 17

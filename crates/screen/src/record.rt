@@ -5,7 +5,7 @@ ghost use Rattle.screen.specs.Line.{opened_line};
 
 use hub::{Answer, Opening};
 
-#[derive(Drop)]
+#[derive(Clone, Copy)]
 pub struct Line {
     pub permits: u8, // links, K
     pub parties: u8, // n
@@ -35,7 +35,7 @@ impl Line {
 }
 
 // The clerks' operations: ask (10), give up (12), give back (13).
-#[derive(Drop)]
+#[derive(Clone, Copy)]
 pub enum Operation {
     Acquire,
     Cancel,
@@ -43,7 +43,7 @@ pub enum Operation {
 }
 
 // What an opening or an operation answers, and the line that it leaves.
-#[derive(Drop)]
+#[derive(Clone, Copy)]
 pub struct Moved {
     pub answer: Answer,
     pub line: Line,

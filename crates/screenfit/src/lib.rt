@@ -1,5 +1,7 @@
 // Is a line one that its moves reach?
 
+#![tactic(auto)]
+
 ghost use Rattle.std.specs.Prelude.{◌≡◌, true, ◌&&◌, ◌≤◌, eqb, leb, ltb, drop};
 ghost use Rattle.hub.specs.Basics.{all_pass, implies};
 ghost use Rattle.hub.specs.Radios.{differ};

@@ -1,6 +1,8 @@
 // The moves by value: a line in, the answer and the line out, for every line and every party byte. A refusal
 // hands the line back as it came.
 
+#![tactic(auto)]
+
 mod queue; // those who wait
 
 ghost use Rattle.std.specs.Prelude.{◌≡◌, true, ◌<◌};

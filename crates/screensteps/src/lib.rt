@@ -1,5 +1,7 @@
 // What the hub does for a move, told from the line alone.
 
+#![tactic(auto)]
+
 ghost use Rattle.std.specs.Prelude.{◌≡◌};
 ghost use Rattle.screen.specs.Steps.{own_steps, steps_to_rest, to_counter};
 

@@ -1,3 +1,5 @@
 // The calls of the hub, record in and record out, on any record and any party byte.
 
+#![tactic(auto)]
+
 pub mod calls; // the calls

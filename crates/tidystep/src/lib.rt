@@ -1,6 +1,8 @@
 // One turn of the tidying, its two loops made one: it skips first, then it retires. What is stored and what is left is
 // decided here, so that a loop in place has one way through its body and one way out.
 
+#![tactic(auto)]
+
 ghost use Rattle.std.specs.Prelude.{◌≡◌, ◌<◌, ◌≤◌};
 ghost use Rattle.tidystep.specs.Step.{may_skip, tidy_step};
 
@@ -9,7 +11,7 @@ use hub::slots::{empty_seat, with_place};
 use transition::tidy::{can_retire, can_skip};
 
 // What a turn stores, and what is left after it.
-#[derive(Drop)]
+#[derive(Clone, Copy)]
 pub struct TidyStep {
     pub ticket: u32, // whose place is stored
     pub seat: PlaceSlot,

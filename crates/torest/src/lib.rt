@@ -1,5 +1,7 @@
 // One whole operation by value, on any record: the call, then the party's steps until it is at rest.
 
+#![tactic(auto)]
+
 ghost use Rattle.std.specs.Prelude.{◌≡◌, cond, eqb};
 ghost use Rattle.hub.specs.Answers.{printed};
 ghost use Rattle.hub.specs.Calm.{rests};
@@ -15,7 +17,7 @@ use phases::at_rest;
 use step::calls::{call, step};
 
 // What steps come to.
-#[derive(Drop)]
+#[derive(Clone, Copy)]
 pub struct Walked {
     pub woken: u32, // FF if nobody was
     pub steps: u32,

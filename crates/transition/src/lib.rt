@@ -2,6 +2,8 @@
 // flat, and what is left to tidy. Every way of calling the hub goes through here; how the record is
 // held is theirs.
 
+#![tactic(auto)]
+
 pub mod sight; // what a call looks at
 pub mod effect; // what the table decides
 pub mod room; // refusal 7
