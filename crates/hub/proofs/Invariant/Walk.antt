@@ -85,19 +85,19 @@ module _ (k : ℕ) (m : Queue) (p : ℕ) (l : p < m.opening.parties) (inv : Inv 
       phase-row k m p l inv _ issued f
       (omega (arith, inv.tickets.at issued, took-above m.figures.counter e, ap bit n))
       (omega (arith, took-above m.figures.counter e))
-      (names-kept k m p l inv issued _ _ f (omega arith))
+      (names-kept k m p l inv issued _ Fetching f (omega arith))
       (omega arith) (refl, rw n, refl, refl) (λ xs a. a)
   asked true false e n f =
       phase-row k m p l inv _ issued f
       (omega (arith, inv.tickets.at issued, took-above m.figures.counter e))
       (omega (arith, took-above m.figures.counter e))
-      (names-kept k m p l inv issued _ _ f (omega arith))
+      (names-kept k m p l inv issued _ Holding f (omega arith))
       (omega arith) (refl, rw n, refl, refl) (λ xs a. a)
   asked false v e n f =
       phase-row k m p l inv _ issued f
       (omega (arith, inv.tickets.at issued, took-below m.figures.counter e))
       (omega (arith, took-below m.figures.counter e))
-      (names-kept k m p l inv issued _ _ f (omega arith))
+      (names-kept k m p l inv issued _ Suspending f (omega arith))
       (omega arith) (refl, refl, refl, refl) (λ xs a. a)
 
   asked-marked : (u v : Bool) → above_zero m.figures.counter ≡ u → m.opening.named ≡ v
@@ -108,19 +108,19 @@ module _ (k : ℕ) (m : Queue) (p : ℕ) (l : p < m.opening.parties) (inv : Inv 
       phase-row k m p l inv _ issued f
       (omega (arith, inv.tickets.at issued, took-above m.figures.counter e, ap bit n))
       (omega (arith, took-above m.figures.counter e))
-      (names-kept k m p l inv issued _ _ f (omega arith))
+      (names-kept k m p l inv issued _ Fetching f (omega arith))
       (omega arith) (refl, rw n, refl, refl) (λ xs a. a)
   asked-marked true false e n f =
       phase-row k m p l inv _ issued f
       (omega (arith, inv.tickets.at issued, took-above m.figures.counter e))
       (omega (arith, took-above m.figures.counter e))
-      (names-kept k m p l inv issued _ _ f (omega arith))
+      (names-kept k m p l inv issued _ Holding f (omega arith))
       (omega arith) (refl, rw n, refl, refl) (λ xs a. a)
   asked-marked false v e n f =
       phase-row k m p l inv _ issued f
       (omega (arith, inv.tickets.at issued, took-below m.figures.counter e))
       (omega (arith, took-below m.figures.counter e))
-      (names-kept k m p l inv issued _ _ f (omega arith))
+      (names-kept k m p l inv issued _ SuspendingMarked f (omega arith))
       (omega arith) (refl, refl, refl, refl) (λ xs a. a)
 
   giving-back : (u v : Bool) → below_zero m.figures.counter ≡ u → m.opening.named ≡ v
@@ -131,19 +131,19 @@ module _ (k : ℕ) (m : Queue) (p : ℕ) (l : p < m.opening.parties) (inv : Inv 
       phase-row k m p l inv _ issued f
       (omega (arith, inv.tickets.at issued, gave-below m.figures.counter e))
       (omega (arith, gave-below m.figures.counter e))
-      (names-kept k m p l inv issued _ _ f (omega arith))
+      (names-kept k m p l inv issued _ Resuming f (omega arith))
       (omega arith) (refl, refl, refl, refl) (λ xs a. a)
   giving-back false true e n f =
       phase-row k m p l inv _ issued f
       (omega (arith, inv.tickets.at issued, gave-above m.figures.counter e, ap bit n))
       (omega (arith, gave-above m.figures.counter e))
-      (names-kept k m p l inv issued _ _ f (omega arith))
+      (names-kept k m p l inv issued _ Storing f (omega arith))
       (omega arith) (refl, rw n, refl, refl) (λ xs a. a)
   giving-back false false e n f =
       phase-row k m p l inv _ issued f
       (omega (arith, inv.tickets.at issued, gave-above m.figures.counter e))
       (omega (arith, gave-above m.figures.counter e))
-      (names-kept k m p l inv issued _ _ f (omega arith))
+      (names-kept k m p l inv issued _ Free f (omega arith))
       (omega arith) (refl, rw n, refl, refl) (λ xs a. a)
 
   -- Rows on a radio: no permit moves.
@@ -193,7 +193,7 @@ module _ (k : ℕ) (m : Queue) (p : ℕ) (l : p < m.opening.parties) (inv : Inv 
         numbers = λ u z. (omega (arith, lt-suc u issued), refl);
         order = λ u j h. omega (arith, lt_yes u issued h);
       })
-      (names-kept k m p l inv issued _ _ f (omega arith))
+      (names-kept k m p l inv issued _ (Ticketed issued) f (omega arith))
       (omega arith) (refl, refl, refl, refl) (λ xs a. a)
 
   unnumbered-marked : phase_in (phases m) p ≡ SuspendingMarked
@@ -212,7 +212,7 @@ module _ (k : ℕ) (m : Queue) (p : ℕ) (l : p < m.opening.parties) (inv : Inv 
         numbers = λ u z. (omega (arith, lt-suc u issued), refl);
         order = λ u j h. omega (arith, lt_yes u issued h);
       })
-      (names-kept k m p l inv issued _ _ f (omega arith))
+      (names-kept k m p l inv issued _ (TicketedMarked issued) f (omega arith))
       (omega arith) (refl, refl, refl, refl) (λ xs a. a)
 
   carrying : phase_in (phases m) p ≡ Resuming
@@ -230,7 +230,7 @@ module _ (k : ℕ) (m : Queue) (p : ℕ) (l : p < m.opening.parties) (inv : Inv 
         numbers = λ u z. (refl, omega (arith, lt-suc u resumed));
         order = λ u j h. omega arith;
       })
-      (names-kept k m p l inv resumed _ _ f (omega arith))
+      (names-kept k m p l inv resumed _ (ResumingAt resumed) f (omega arith))
       (omega arith) (refl, refl, refl, refl)
       (λ xs a. all_more resumed (resumed + 1) (omega arith) xs a)
 
@@ -349,7 +349,7 @@ module _ (k : ℕ) (m : Queue) (p : ℕ) (l : p < m.opening.parties) (inv : Inv 
         numbers = λ v y. (refl, refl);
         order = λ v h j. omega (arith, lt-le v t, gave-below m.figures.counter c);
       })
-      (names-kept k m p l inv t _ _ e (omega arith)) (omega arith) (refl, refl, refl, refl)
+      (names-kept k m p l inv t _ (Cancelling t) e (omega arith)) (omega arith) (refl, refl, refl, refl)
       (λ xs a. a)
   giving-up t false c e =
       phase-row k m p l inv _ t e
@@ -358,7 +358,7 @@ module _ (k : ℕ) (m : Queue) (p : ℕ) (l : p < m.opening.parties) (inv : Inv 
         numbers = λ v y. (refl, refl);
         order = λ v h j. omega (arith, lt-le v t, gave-above m.figures.counter c);
       })
-      (names-kept k m p l inv t _ _ e (omega arith)) (omega arith) (refl, refl, refl, refl)
+      (names-kept k m p l inv t _ (Refusing t) e (omega arith)) (omega arith) (refl, refl, refl, refl)
       (λ xs a. a)
 
   -- Rows of a hand-over. The party owns no ticket; the owner's stage is what the cell allows.
@@ -645,7 +645,7 @@ module _ (k : ℕ) (m : Queue) (p : ℕ) (l : p < m.opening.parties) (inv : Inv 
       let j = leb-false MAX_BEGUN m.figures.begun i in
       let f = is-of Free (one_of Free phase e) in
       phase-row k m p l inv _ issued f (omega (arith, inv.tickets.at issued))
-      (omega arith) (names-kept k m p l inv issued _ _ f (omega arith)) (omega arith)
+      (omega arith) (names-kept k m p l inv issued _ Acquiring f (omega arith)) (omega arith)
       (refl, refl, refl, refl) (λ xs a. a)
 
   -- A wait is given up; before it the give-up is remembered.
@@ -658,12 +658,12 @@ module _ (k : ℕ) (m : Queue) (p : ℕ) (l : p < m.opening.parties) (inv : Inv 
       can-cancel GivesUp
       (λ t f. phase-row k m p l inv _ t f
       (omega (arith, same_self t, known t _ f (owns t) _ refl, least-le (places m t)))
-      (omega arith) (names-kept k m p l inv t _ _ f (omega arith)) (omega arith)
+      (omega arith) (names-kept k m p l inv t _ (Aborting t) f (omega arith)) (omega arith)
       (refl, refl, refl, refl) (λ xs a. a))
       (λ f. still-row k m p l inv _ f (λ t. refl) refl (omega arith) (refl, refl, refl, refl) (λ xs a. a))
       (λ f. still-row k m p l inv _ f (λ t. refl) refl (omega arith) (refl, refl, refl, refl) (λ xs a. a))
       (λ t f. phase-row k m p l inv _ t f (omega (arith, same_self t, known t _ f (owns t) _ refl))
-      (omega arith) (names-kept k m p l inv t _ _ f (omega arith)) (omega arith)
+      (omega arith) (names-kept k m p l inv t _ (TicketedMarked t) f (omega arith)) (omega arith)
       (refl, refl, refl, refl) (λ xs a. a))
 
   cancel-good : (a b : Bool) → can_cancel phase ≡ a
