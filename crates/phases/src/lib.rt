@@ -8,6 +8,7 @@ ghost use Rattle.hub.specs.Phases.{at_rest, by_ticket, has_radio, of_radios, pla
 use hub::record::{Phase, Place};
 
 // Free, holding or waiting.
+#[tactic(auto, unfolding(hub::specs::Phases::is_one_of))]
 pub fn at_rest(phase: Phase) -> bool
     ensures { result ≡ at_rest phase }
 {
@@ -49,6 +50,7 @@ pub fn has_ticket(phase: Phase) -> bool
 }
 
 // Has a party of this phase a radio, on a hub with radios?
+#[tactic(auto, unfolding(hub::specs::Phases::is_one_of))]
 pub fn has_radio(phase: Phase) -> bool
     ensures { result ≡ has_radio phase }
 {
@@ -63,6 +65,7 @@ pub fn has_radio(phase: Phase) -> bool
 }
 
 // Is it a phase of a hub with radios alone?
+#[tactic(auto, unfolding(hub::specs::Phases::is_one_of))]
 pub fn of_radios(phase: Phase) -> bool
     ensures { result ≡ of_radios phase }
 {
