@@ -34,7 +34,7 @@ asks ps = map (λ p. record { operation = Operation.Acquire; party = p }) ps
 after-append : (l : Line) (a b : List DeskRequest) → line_after l (a ++ b) ≡ line_after (line_after l a) b
 unfolding line_after
 after-append l [] b = refl
-after-append l (r ∷ a) b = after-append _ a b
+after-append l (r ∷ a) b = after-append (line_move l r.operation r.party).line a b
 
 after_one : (l : Line) (r : DeskRequest) (rs : List DeskRequest) (m : Line)
     → (line_move l r.operation r.party).line ≡ m

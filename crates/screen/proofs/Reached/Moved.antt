@@ -118,7 +118,7 @@ move-sound l o p s = go (dec_le (suc p) l.parties)
 pub after-sound : (l : Line) (rs : List DeskRequest) → Sound l → Sound (line_after l rs)
 unfolding line_after
 after-sound l [] s = s
-after-sound l (r ∷ rs) s = after-sound _ rs (move-sound l r.operation r.party s)
+after-sound l (r ∷ rs) s = after-sound (line_move l r.operation r.party).line rs (move-sound l r.operation r.party s)
 
 pub opened-sound : (o : Opening) → (opening o).answer ≡ Answer.Opened → Sound (opened_line o)
 unfolding opened_line padded
