@@ -29,6 +29,7 @@ pub fn phase_named(name: u8, t: u32) -> Phase
 }
 
 // A mark stands elsewhere, and a phase with one has the name of the phase without. A phase that has no name is written as asked.
+#[tactic(auto, unfolding(hub::specs::Phases::is_one_of))]
 pub fn phase_name(phase: Phase) -> u8
     ensures { result ≡ phase_name phase }
 {
@@ -65,6 +66,7 @@ pub fn marked(phase: Phase, mark: u8) -> Phase
     }
 }
 
+#[tactic(auto, unfolding(hub::specs::Phases::is_one_of))]
 pub fn mark_of(phase: Phase) -> u8
     ensures { result ≡ mark_of phase }
 {
