@@ -10,8 +10,7 @@ use mir.Facts.{to_z-of_z}
 use mir.Syntax.{w32}
 use mir.Val.{SFits}
 use Rattle.hub.specs.Fits.{counter_fits}
-use Rattle.clauses.proofs.counter_fits.Statement.{statement}
-use Rattle.clauses.proofs.counter_fits.Tie as tie
+use Rattle.clauses.proofs.counter_fits.Goals as goal
 
 low : (z : ℤ) → lt_z z (negsuc 31) ≡ true → false ≡ counter_fits z
 unfolding counter_fits
@@ -23,17 +22,13 @@ unfolding counter_fits
 high (pos n) e = refl
 high (negsuc n) e = sym (lt-ltb n 32 (omega (arith, ltb-false 31 n e)))
 
--- A signed number is read back from its bits.
-bits : (c : tie.Start) → SFits w32 c.args.figures.counter
-bits c = search rules
+pub returns-then-figures-ltminus32 : goal.returns-then-figures-ltminus32
+returns-then-figures-ltminus32 c =
+    -- a signed number is read back from its bits
+    let bits : SFits w32 c.args.figures.counter = search rules in
+    low _ (rw (to_z-of_z bits) at c.if-figures-ltminus32.true)
 
-returns : tie.Need-returns
-returns c = low _ (rw (to_z-of_z (bits c.before.before.before)) at c.if1.true)
-
-returns-2 : tie.Need-returns-2
-returns-2 c =
-    let f = bits c.before.before.before.before.before in
-    rw (to_z-of_z f) (high _ (rw (to_z-of_z f) at c.before.before.if1.false))
-
-pub counter-fits-spec : {M : Type 1} → statement M
-counter-fits-spec = tie.close (tie.spec returns returns-2)
+pub returns : goal.returns
+returns c =
+    let bits : SFits w32 c.args.figures.counter = search rules in
+    rw (to_z-of_z bits) (high _ (rw (to_z-of_z bits) at c.if-figures-ltminus32.false))
