@@ -1,0 +1,11 @@
+-- `is_opening` meets its contract: the bytes of a line are asked as the line is.
+use mathlib.Core.Path.{ap, ◌∙◌}
+use Rattle.line.specs.Requests.{is_opening}
+use Rattle.line.proofs.Laws.Decoding.{as_line}
+use Rattle.line.proofs.request.is_opening.Goals as goal
+
+pub returns : goal.returns
+returns c =
+    let d = c.decode-total in
+    c.is_opening_frame.ensures
+    ∙ ap is_opening (as_line _ d.new.bytes d.result d.ensures.value.1)
