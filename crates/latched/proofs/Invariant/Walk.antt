@@ -126,12 +126,12 @@ module _ (m : Queue) (p : ℕ) (l : p < m.parties) (inv : Inv m) where
   asks true u d r e =
       phase-row m p l inv _ issued (in-phase Acquiring e)
       (omega (arith, inv.tickets.at issued, load_of Acquiring e, borne-most)) (omega arith)
-      (names-kept m p l inv issued _ _ (phase-is Acquiring e) (omega arith))
+      (names-kept m p l inv issued _ Free (phase-is Acquiring e) (omega arith))
       (omega (arith, eqb-true m.figures.count 0 d)) (refl, refl, refl, refl)
   asks false false d r e =
       phase-row m p l inv _ issued (in-phase Acquiring e)
       (omega (arith, inv.tickets.at issued, load_of Acquiring e, borne-most)) (omega arith)
-      (names-kept m p l inv issued _ _ (phase-is Acquiring e) (omega arith))
+      (names-kept m p l inv issued _ Acquiring (phase-is Acquiring e) (omega arith))
       (omega arith) (refl, rw r, omega (arith, ap bit r), refl)
   asks false true d r e =
       let c = not_done m.figures.count d in
@@ -146,7 +146,7 @@ module _ (m : Queue) (p : ℕ) (l : p < m.parties) (inv : Inv m) where
         one_more Acquiring e (omega arith) c,
       ))
       (omega arith)
-      (names-kept m p l inv issued _ _ (phase-is Acquiring e) (omega arith))
+      (names-kept m p l inv issued _ Suspending (phase-is Acquiring e) (omega arith))
       (omega arith) (refl, rw r, rw r, refl)
 
   asks-marked : (d u : Bool) → done m.figures ≡ d → own-slot.raising ≡ u → own-slot.phase ≡ AcquiringMarked
@@ -155,12 +155,12 @@ module _ (m : Queue) (p : ℕ) (l : p < m.parties) (inv : Inv m) where
   asks-marked true u d r e =
       phase-row m p l inv _ issued (in-phase AcquiringMarked e)
       (omega (arith, inv.tickets.at issued, load_of AcquiringMarked e, borne-most)) (omega arith)
-      (names-kept m p l inv issued _ _ (phase-is AcquiringMarked e) (omega arith))
+      (names-kept m p l inv issued _ Free (phase-is AcquiringMarked e) (omega arith))
       (omega (arith, eqb-true m.figures.count 0 d)) (refl, refl, refl, refl)
   asks-marked false false d r e =
       phase-row m p l inv _ issued (in-phase AcquiringMarked e)
       (omega (arith, inv.tickets.at issued, load_of AcquiringMarked e, borne-most)) (omega arith)
-      (names-kept m p l inv issued _ _ (phase-is AcquiringMarked e) (omega arith))
+      (names-kept m p l inv issued _ AcquiringMarked (phase-is AcquiringMarked e) (omega arith))
       (omega arith) (refl, rw r, omega (arith, ap bit r), refl)
   asks-marked false true d r e =
       let c = not_done m.figures.count d in
@@ -175,7 +175,7 @@ module _ (m : Queue) (p : ℕ) (l : p < m.parties) (inv : Inv m) where
         one_more AcquiringMarked e (omega arith) c,
       ))
       (omega arith)
-      (names-kept m p l inv issued _ _ (phase-is AcquiringMarked e) (omega arith))
+      (names-kept m p l inv issued _ SuspendingMarked (phase-is AcquiringMarked e) (omega arith))
       (omega arith) (refl, rw r, rw r, refl)
 
   giving-back : (b : Bool) → brings_to_zero m.figures ≡ b → own-slot.phase ≡ Releasing
@@ -196,7 +196,7 @@ module _ (m : Queue) (p : ℕ) (l : p < m.parties) (inv : Inv m) where
         due-open m.figures.count m.figures.waiters (omega arith),
       ))
       (omega arith)
-      (names-kept m p l inv issued _ _ (phase-is Releasing e) (omega arith))
+      (names-kept m p l inv issued _ Resuming (phase-is Releasing e) (omega arith))
       (omega arith) (refl, refl, refl, refl)
   giving-back false b e =
       phase-row m p l inv _ issued (in-phase Releasing e)
@@ -208,7 +208,7 @@ module _ (m : Queue) (p : ℕ) (l : p < m.parties) (inv : Inv m) where
         due-lower m.figures.count m.figures.waiters b,
       ))
       (omega arith)
-      (names-kept m p l inv issued _ _ (phase-is Releasing e) (omega arith))
+      (names-kept m p l inv issued _ Free (phase-is Releasing e) (omega arith))
       (omega arith) (refl, refl, refl, refl)
 
   -- A new ticket: nobody owned it, and its cell is empty or has a hand-over.
@@ -248,7 +248,7 @@ module _ (m : Queue) (p : ℕ) (l : p < m.parties) (inv : Inv m) where
         borne-most,
       ))
       (λ u z. (omega (arith, lt-suc u issued), refl))
-      (names-kept m p l inv issued _ _ (phase-is Suspending e) (omega arith))
+      (names-kept m p l inv issued _ (Ticketed issued) (phase-is Suspending e) (omega arith))
       (omega arith) (refl, refl, refl, refl)
 
   unnumbered-marked : own-slot.phase ≡ SuspendingMarked → Good Step p m SuspendingMarked (step_suspending TicketedMarked (look m p))
@@ -265,7 +265,7 @@ module _ (m : Queue) (p : ℕ) (l : p < m.parties) (inv : Inv m) where
         borne-most,
       ))
       (λ u z. (omega (arith, lt-suc u issued), refl))
-      (names-kept m p l inv issued _ _ (phase-is SuspendingMarked e) (omega arith))
+      (names-kept m p l inv issued _ (TicketedMarked issued) (phase-is SuspendingMarked e) (omega arith))
       (omega arith) (refl, refl, refl, refl)
 
   carrying : own-slot.phase ≡ Resuming → Good Step p m Resuming (step_resuming (look m p))
@@ -281,7 +281,7 @@ module _ (m : Queue) (p : ℕ) (l : p < m.parties) (inv : Inv m) where
         borne-most,
       ))
       (λ u z. (refl, omega (arith, lt-suc u resumed)))
-      (names-kept m p l inv resumed _ _ (phase-is Resuming e) (omega arith))
+      (names-kept m p l inv resumed _ (ResumingAt resumed) (phase-is Resuming e) (omega arith))
       (omega arith) (refl, refl, refl, refl)
 
   -- Rows on the cell of the party's own ticket t. Where the table lists none, the owner's stage
@@ -422,7 +422,7 @@ module _ (m : Queue) (p : ℕ) (l : p < m.parties) (inv : Inv m) where
         due-done m.figures.count (m.figures.waiters - 1) c,
       ))
       (omega arith)
-      (names-kept m p l inv t _ _ (phase-is _ e) (omega arith)) (omega arith) (refl, refl, refl, refl)
+      (names-kept m p l inv t _ (Refusing t) (phase-is _ e) (omega arith)) (omega arith) (refl, refl, refl, refl)
   giving-up t false d e =
       let c = not_done m.figures.count d in
       phase-row m p l inv _ t (in-phase _ e)
@@ -436,7 +436,7 @@ module _ (m : Queue) (p : ℕ) (l : p < m.parties) (inv : Inv m) where
         one_in inv.tickets live p (Aborting t) refl (phase-is _ e),
       ))
       (omega arith)
-      (names-kept m p l inv t _ _ (phase-is _ e) (omega arith)) (omega arith) (refl, refl, refl, refl)
+      (names-kept m p l inv t _ (Cancelling t) (phase-is _ e) (omega arith)) (omega arith) (refl, refl, refl, refl)
 
   -- Rows of a hand-over. The party owns no ticket; the owner's stage is what the cell allows.
   module _ (t : ℕ) (e : own-slot.phase ≡ ResumingAt t) where
@@ -801,7 +801,7 @@ module _ (m : Queue) (p : ℕ) (l : p < m.parties) (inv : Inv m) where
       let f = one_of Free phase e in
       phase-row m p l inv _ issued (in-phase Free f)
       (omega (arith, inv.tickets.at issued, load_of Free f, borne-most)) (omega arith)
-      (names-kept m p l inv issued _ _ (phase-is Free f) (omega arith)) (omega arith)
+      (names-kept m p l inv issued _ Acquiring (phase-is Free f) (omega arith)) (omega arith)
       (refl, refl, refl, refl)
 
   -- A wait is given up; before it the give-up is remembered.
@@ -814,19 +814,19 @@ module _ (m : Queue) (p : ℕ) (l : p < m.parties) (inv : Inv m) where
       can-cancel GivesUp
       (λ t f. phase-row m p l inv _ t (in-phase _ f)
       (omega (arith, same_self t, known t _ f (owns t) _ refl, least-le (places m t)))
-      (omega arith) (names-kept m p l inv t _ _ (phase-is _ f) (omega arith)) (omega arith)
+      (omega arith) (names-kept m p l inv t _ (Aborting t) (phase-is _ f) (omega arith)) (omega arith)
       (refl, refl, refl, refl))
       (λ f. phase-row m p l inv _ issued (in-phase _ f)
       (omega (arith, inv.tickets.at issued, load_of _ f, borne-most)) (omega arith)
-      (names-kept m p l inv issued _ _ (phase-is _ f) (omega arith)) (omega arith)
+      (names-kept m p l inv issued _ AcquiringMarked (phase-is _ f) (omega arith)) (omega arith)
       (refl, refl, refl, refl))
       (λ f. phase-row m p l inv _ issued (in-phase _ f)
       (omega (arith, inv.tickets.at issued, load_of _ f, borne-most)) (omega arith)
-      (names-kept m p l inv issued _ _ (phase-is _ f) (omega arith)) (omega arith)
+      (names-kept m p l inv issued _ SuspendingMarked (phase-is _ f) (omega arith)) (omega arith)
       (refl, refl, refl, refl))
       (λ t f. phase-row m p l inv _ t (in-phase _ f)
       (omega (arith, same_self t, known t _ f (owns t) _ refl)) (omega arith)
-      (names-kept m p l inv t _ _ (phase-is _ f) (omega arith)) (omega arith)
+      (names-kept m p l inv t _ (TicketedMarked t) (phase-is _ f) (omega arith)) (omega arith)
       (refl, refl, refl, refl))
 
   cancel-good : (a b : Bool) → can_cancel phase ≡ a
@@ -843,7 +843,7 @@ module _ (m : Queue) (p : ℕ) (l : p < m.parties) (inv : Inv m) where
       let f = one_of Free phase e in
       phase-row m p l inv _ issued (in-phase Free f)
       (omega (arith, inv.tickets.at issued, load_of Free f, borne-most)) (omega arith)
-      (names-kept m p l inv issued _ _ (phase-is Free f) (omega arith)) (omega arith)
+      (names-kept m p l inv issued _ Releasing (phase-is Free f) (omega arith)) (omega arith)
       (refl, refl, refl, refl)
 
   pub decide-good : (o : LatchOp) → Good o p m (look m p).slot.phase (decide o false (look m p))
