@@ -1,7 +1,9 @@
 -- A refusal, 37 and 39 leave the record: the table gives those answers where it changes nothing, and they move no radio.
 use Prim.Native.Nat.{ℕ}
-use mathlib.Core.Path.{◌≡◌, refl, sym}
+use mathlib.Core.Path.{◌≡◌, refl, sym, ap, ◌∙◌}
 use mathlib.Core.Bool.{Bool, true, false, not}
+use borrow.Author.Tests.{ne_eqb}
+use lib.Dec.{eqb}
 use Rattle.hub.specs.declared.moves.Op.{Op}
 use Rattle.hub.specs.declared.moves.Sight.{Sight}
 use Rattle.hub.specs.declared.record.Hub.{Hub}
@@ -12,11 +14,10 @@ use Rattle.hub.specs.Fits.{fits}
 use Rattle.claims.specs.LeavesRecord.{LeavesRecord, leaves_all}
 use Rattle.hub.specs.Look.{look}
 use Rattle.hub.specs.Moves.{Move, Refuse, Tell, Act, Put, Wake}
-use Rattle.hub.specs.Radios.{pool_after}
+use Rattle.hub.specs.Radios.{moved, pool_after}
 use Rattle.hub.specs.Record.{with_pool}
 use Rattle.hub.specs.Table.{acquire, cancel, decide, release, tell_radio}
 use Rattle.hub.proofs.Laws.Bools.{never}
-use Rattle.hub.proofs.Laws.Radios.{still}
 use Rattle.hub.proofs.Laws.Rows.{calls-alike, open_row}
 
 -- Does a move change nothing, or answer otherwise?
@@ -49,6 +50,25 @@ applied h s (Tell y) e f = refl
 applied h s (Act c) e f = not-both _ e f
 applied h s (Put a c) e f = not-both _ e f
 applied h s (Wake q x a c) e f = not-both _ e f
+
+-- An answer that leaves the record moves no radio.
+still : (y : Printed) (p : ℕ) (q : Pool) → leaves_all y.code ≡ true → moved y p q ≡ q
+unfolding moved
+still y p q e =
+    rw (
+      other 0x36 refl,
+      other 0x38 refl,
+      other 0x2D refl,
+      other 0x29 refl,
+      other 0x2B refl,
+      other 0x25 refl,
+      other 0x31 refl,
+      other 0x2A refl,
+      other 0x33 refl,
+    ) refl
+  where
+    other : (k : ℕ) → leaves_all k ≡ false → eqb y.code k ≡ false
+    other k f = ne_eqb y.code k (λ i. never (sym e ∙ ap leaves_all i ∙ f))
 
 pool-stays : (named : Bool) (y : Printed) (p : ℕ) (q : Pool) → leaves_all y.code ≡ true → pool_after named y p q ≡ q
 unfolding pool_after
