@@ -76,7 +76,8 @@ ledger-more : (e : Ledger) (h : Hub) (cs : List Call) (c : Call)
     ≡ enter (ledger e (entries h cs)) (record { call = c; answer = printed (called (run h cs) c).answer })
 unfolding ledger entries run
 ledger-more e h [] c = refl
-ledger-more e h (x ∷ cs) c = ledger-more _ (called h x).hub cs c
+ledger-more e h (x ∷ cs) c =
+    ledger-more (enter e (record { call = x; answer = printed (called h x).answer })) (called h x).hub cs c
 
 module _ (o : Opening) (e : (opening o).answer ≡ Answer.Opened) where
   abbrev ReachedBy : Hub → Type 0

@@ -133,7 +133,7 @@ module _ (o : Opening) (e : (opening o).answer ≡ Answer.Opened) where
   every h l [] x n = (refl, x)
   every h l (r ∷ rs) x n =
       let m = same_move h l x r n.0 in
-      let y = every _ _ rs (pair-on h l x r n.0) n.1 in
+      let y = every (operated h (call_for r)).hub (line_move l r.operation r.party).line rs (pair-on h l x r n.0) n.1 in
       (ap₂ ◌∷◌ (λ i. record { answer = m.answer i; woken = m.woken i; steps = m.steps i }) y.0, y.1)
 
   first-pair : Pair first first_line
