@@ -1,0 +1,24 @@
+-- `put_phases` meets its contract: the phases so far are written.
+use borrow.Author.Rules.{rules}
+use Prim.Native.Nat.{◌-◌}
+use mathlib.Core.Path.{ap, ◌∙◌}
+use mathlib.Core.List.{◌∷◌}
+use lib.ListN.{length}
+use Rattle.latch.specs.Record.{free_slot}
+use Rattle.cells.specs.Bytes.{four_of}
+use Rattle.cells.proofs.Laws.Cells.{no_cell, cell-more}
+use Rattle.latchlayout.specs.Written.{name_of}
+use Rattle.latchlayout.proofs.parties.put_phases.Goals as goal
+
+pub loop-p-init : goal.loop-p-init
+loop-p-init c = no_cell _ _ _ _ (search rules) c.requires
+
+pub loop-p-preserved : goal.loop-p-preserved
+loop-p-preserved c =
+    let l = c in
+    let put = c.put_cell in
+    let name = c.name_of.ensures in
+    let number = c.ticket.ensures in
+    cell-more _ _ _ _ _ free_slot put.new.out l.loop-p.invariant
+    c.loop-p-test.true
+    (put.ensures ∙ (λ j. name j ∷ four_of (number j))) (ap length put.ensures)
