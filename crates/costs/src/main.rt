@@ -11,6 +11,7 @@ use hub::answers::Answer;
 use hub::moves::Op;
 use hub::record::{Hub, Outcome};
 use openhub::sized;
+use std::io::Read;
 
 // The record after an ask and three steps: with the permit held, the party waits.
 fn waits(hub: Hub, party: u8) -> Hub {
@@ -62,16 +63,15 @@ fn measured(letter: u8) -> Outcome {
     }
 }
 
-fn main() {
+fn main(rt: HostRuntime) {
     let mut input = [b'.'; 1];
-    libc::read(0, &mut input);
+    let _ = rt.stdin().read(&mut input);
     let o = measured(input[0]);
     // the answer and the record are both printed, so that neither can be left out
     let answer = o.answer;
     let p = print_of(answer);
-    io::print_decimal(1, p.code as u64);
-    io::write_all(1, b" ");
+    let _ = rt.print(p.code);
+    let _ = rt.print(' ');
     let c = counts(o.hub);
-    io::print_decimal(1, c.held as u64);
-    io::write_all(1, b"\n");
+    let _ = rt.println(c.held);
 }

@@ -9,7 +9,7 @@ use latch::moves::LatchOp;
 use latch::record::LatchOutcome;
 use latchlayout::{record_bytes, record_of};
 use latchstep::calls::call;
-use libc::{STDIN_FILENO, STDOUT_FILENO};
+use std::io::Read;
 
 fn op_of(byte: u8) -> LatchOp {
     let name = byte % 4;
@@ -22,39 +22,37 @@ fn op_of(byte: u8) -> LatchOp {
 }
 
 // Whether all of the reply was written.
-fn print_reply(party: u8, o: LatchOutcome) -> bool {
+fn print_reply(rt: &HostRuntime, party: u8, o: LatchOutcome) -> bool {
     let answer = o.answer;
     let mut line = [0u8; 7];
     put(&mut line, party, print_of(answer));
-    if !io::write_all(STDOUT_FILENO, &line) {
+    if rt.write_all(&line).is_err() {
         return false;
     }
     let record = record_bytes(o.latch);
-    io::write_all(STDOUT_FILENO, &record)
+    rt.write_all(&record).is_ok()
 }
 
 // False where the input ends, or writing fails.
-fn answer_one() -> bool {
+fn answer_one(rt: &HostRuntime) -> bool {
     let mut record = [0u8; 1523];
-    if io::read_full(STDIN_FILENO, &mut record) < 1523 {
+    if rt.stdin().read_exact(&mut record).is_err() {
         return false;
     }
     let mut asked = [0u8; 2];
-    if io::read_full(STDIN_FILENO, &mut asked) < 2 {
+    if rt.stdin().read_exact(&mut asked).is_err() {
         return false;
     }
     let party = asked[1];
     let o = call(record_of(&record), op_of(asked[0]), party);
-    print_reply(party, o)
+    print_reply(rt, party, o)
 }
 
-// A proved loop has to end, so the cases are counted down from a number that no input uses up.
-fn main() {
-    let mut turns = u64::MAX;
-    while 0 < turns {
-        if !answer_one() {
+// A proved loop has to end, so the cases are counted up to a number that no input reaches.
+fn main(rt: HostRuntime) {
+    for _ in 0..u64::MAX {
+        if !answer_one(&rt) {
             return;
         }
-        turns -= 1;
     }
 }

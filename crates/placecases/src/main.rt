@@ -13,17 +13,27 @@ use hub::moves::Op;
 use hub::record::{Figures, Hub};
 use openhub::sized;
 
+// Prints characters. Where that fails there is nobody to tell.
+fn put(rt: &HostRuntime, text: &[u8]) {
+    let _ = rt.write_all(text);
+}
+
+// A number, in decimal.
+fn put_number(rt: &HostRuntime, n: u64) {
+    let _ = rt.print(n);
+}
+
 // What a record shows: held, at the counter, on the way, waiting.
-fn print_counts(hub: Hub) {
+fn print_counts(rt: &HostRuntime, hub: Hub) {
     let c = counts(hub);
-    io::print_decimal(1, c.held as u64);
-    io::write_all(1, b" held, ");
-    io::print_decimal(1, c.available as u64);
-    io::write_all(1, b" at the counter, ");
-    io::print_decimal(1, c.onway as u64);
-    io::write_all(1, b" on the way, ");
-    io::print_decimal(1, c.waiting as u64);
-    io::write_all(1, b" waiting\n");
+    put_number(rt, c.held as u64);
+    put(rt, b" held, ");
+    put_number(rt, c.available as u64);
+    put(rt, b" at the counter, ");
+    put_number(rt, c.onway as u64);
+    put(rt, b" on the way, ");
+    put_number(rt, c.waiting as u64);
+    put(rt, b" waiting\n");
 }
 
 // A hub just opened.
@@ -42,16 +52,16 @@ fn op_of(code: u8) -> Op {
 }
 
 // A call in place.
-fn call(hub: Hub, code: u8, party: u8) -> Hub {
+fn call(rt: &HostRuntime, hub: Hub, code: u8, party: u8) -> Hub {
     let o = call_on_board(hub, op_of(code), party);
     let answer = o.answer;
     let line = answer_line(party, answer);
-    io::write_all(1, &line);
+    put(rt, &line);
     o.hub
 }
 
 // A whole operation in place.
-fn operate(hub: Hub, code: u8, party: u8) -> Hub {
+fn operate(rt: &HostRuntime, hub: Hub, code: u8, party: u8) -> Hub {
     let o = operate_on_board(hub, op_of(code), party);
     let answer = o.answer;
     let told = [
@@ -62,29 +72,29 @@ fn operate(hub: Hub, code: u8, party: u8) -> Hub {
     ];
     let mut line = [0u8; 9];
     put_text(&mut line, &told);
-    io::write_all(1, &line);
+    put(rt, &line);
     o.hub
 }
 
 // One entry of a list: 00 shows the record, 10 to 14 is a call, 50, 52 and 53 are whole operations.
-fn enter(hub: Hub, code: u8, party: u8) -> Hub {
+fn enter(rt: &HostRuntime, hub: Hub, code: u8, party: u8) -> Hub {
     if code == 0 {
-        print_counts(hub);
+        print_counts(rt, hub);
         return hub;
     }
     if 0x40 <= code {
-        return operate(hub, code - 0x40, party);
+        return operate(rt, hub, code - 0x40, party);
     }
-    call(hub, code, party)
+    call(rt, hub, code, party)
 }
 
 // A list of entries, each its code and its party.
-fn play(hub: Hub, list: &[u8]) {
+fn play(rt: &HostRuntime, hub: Hub, list: &[u8]) {
     let total = list.len() / 2;
     let mut h = hub;
     let mut i: usize = 0;
     while i < total {
-        let next = enter(h, list[2 * i], list[2 * i + 1]);
+        let next = enter(rt, h, list[2 * i], list[2 * i + 1]);
         h = next;
         i += 1;
     }
@@ -92,8 +102,9 @@ fn play(hub: Hub, list: &[u8]) {
 
 // Two of three parties take both permits, and the third waits. One gives back, and its permit is on the way to the
 // third; which gives up, once, and refuses it. The one that gave back comes to rest.
-fn in_place() {
+fn in_place(rt: &HostRuntime) {
     play(
+        rt,
         opened(2, 3),
         b"\x00\x00\
           \x10\x00\x11\x00\x10\x01\x11\x01\x10\x02\x11\x02\x11\x02\x11\x02\x00\x00\
@@ -105,8 +116,9 @@ fn in_place() {
 
 // One holds, and two wait; one of them gives up and waits again, and the other is served; the one that gave up is served
 // last. Then nothing changes.
-fn to_rest() {
+fn to_rest(rt: &HostRuntime) {
     play(
+        rt,
         opened(1, 3),
         b"\x50\x00\x50\x01\x50\x02\x00\x00\
           \x52\x01\x50\x01\x53\x00\x00\x00\
@@ -115,25 +127,26 @@ fn to_rest() {
 }
 
 // The waits of party 30 stay.
-fn built_in_kinds() {
-    play(opened(1, 31), b"\x50\x00\x50\x1E\x52\x1E\x00\x00");
+fn built_in_kinds(rt: &HostRuntime) {
+    play(rt, opened(1, 31), b"\x50\x00\x50\x1E\x52\x1E\x00\x00");
 }
 
 // Where party 0 is of kind 3 and party 30 a door, the waits of 0 stay and those of 30 do not.
-fn own_kinds() {
+fn own_kinds(rt: &HostRuntime) {
     let mut kinds = [0u8; 32];
     kinds[0] = 3;
     kinds[30] = 1;
     let mut o = sized(1, 31);
     o.kinds = kinds;
     play(
+        rt,
         Hub::open(o),
         b"\x50\x01\x50\x00\x50\x1E\x52\x00\x52\x1E\x00\x00",
     );
 }
 
 // Party 0 asks on a hub of so many permits with these figures.
-fn asked_at(permits: u8, counter: i32, issued: u32, begun: u32) {
+fn asked_at(rt: &HostRuntime, permits: u8, counter: i32, issued: u32, begun: u32) {
     let mut h = opened(permits, 3);
     let figures = Figures {
         counter,
@@ -144,38 +157,39 @@ fn asked_at(permits: u8, counter: i32, issued: u32, begun: u32) {
     let mut control = h.control;
     control.figures = figures;
     h.control = control;
-    play(h, b"\x50\x00\x00\x00");
+    play(rt, h, b"\x50\x00\x00\x00");
 }
 
 // Kinds that were not 32 in number do not fit.
-fn miscounted() {
+fn miscounted(rt: &HostRuntime) {
     let mut h = opened(1, 3);
     h.control.opening.counted = false;
-    play(h, b"\x53\x00\x00\x00");
+    play(rt, h, b"\x53\x00\x00\x00");
 }
 
 // A party that has asked: one more ask is refused and makes no step of the first; a give-up is remembered, and forgotten
 // with the permit that the next step gets. Where there is none an early give-up takes five steps; three are made, and a
 // second is refused.
-fn asked_before() {
+fn asked_before(rt: &HostRuntime) {
     play(
+        rt,
         opened(1, 3),
         b"\x10\x00\x00\x00\x50\x00\x00\x00\x52\x00\x00\x00\
           \x10\x01\x00\x00\x52\x01\x52\x01\x00\x00",
     );
 }
 
-fn main() {
-    in_place();
-    io::write_all(1, b"\n");
-    to_rest();
-    built_in_kinds();
-    own_kinds();
-    io::write_all(1, b"\n");
+fn main(rt: HostRuntime) {
+    in_place(&rt);
+    put(&rt, b"\n");
+    to_rest(&rt);
+    built_in_kinds(&rt);
+    own_kinds(&rt);
+    put(&rt, b"\n");
     // a record that does not fit, a million asks begun, 256 tickets issued
-    asked_at(32, 33, 0, 0);
-    asked_at(1, 1, 0, 1000000);
-    asked_at(1, 1, 256, 0);
-    miscounted();
-    asked_before();
+    asked_at(&rt, 32, 33, 0, 0);
+    asked_at(&rt, 1, 1, 0, 1000000);
+    asked_at(&rt, 1, 1, 256, 0);
+    miscounted(&rt);
+    asked_before(&rt);
 }

@@ -8,7 +8,7 @@ use encoding::answer::{print_of, put};
 use hub::moves::Op;
 use hub::record::Outcome;
 use layout::{record_bytes, record_of};
-use libc::{STDIN_FILENO, STDOUT_FILENO};
+use std::io::Read;
 use step::calls::call;
 
 fn op_of(byte: u8) -> Op {
@@ -23,39 +23,37 @@ fn op_of(byte: u8) -> Op {
 }
 
 // Whether all of the reply was written.
-fn print_reply(party: u8, o: Outcome) -> bool {
+fn print_reply(rt: &HostRuntime, party: u8, o: Outcome) -> bool {
     let answer = o.answer;
     let mut line = [0u8; 7];
     put(&mut line, party, print_of(answer));
-    if !io::write_all(STDOUT_FILENO, &line) {
+    if rt.write_all(&line).is_err() {
         return false;
     }
     let record = record_bytes(o.hub);
-    io::write_all(STDOUT_FILENO, &record)
+    rt.write_all(&record).is_ok()
 }
 
 // False where the input ends, or writing fails.
-fn answer_one() -> bool {
+fn answer_one(rt: &HostRuntime) -> bool {
     let mut record = [0u8; 1881];
-    if io::read_full(STDIN_FILENO, &mut record) < 1881 {
+    if rt.stdin().read_exact(&mut record).is_err() {
         return false;
     }
     let mut asked = [0u8; 2];
-    if io::read_full(STDIN_FILENO, &mut asked) < 2 {
+    if rt.stdin().read_exact(&mut asked).is_err() {
         return false;
     }
     let party = asked[1];
     let o = call(record_of(&record), op_of(asked[0]), party);
-    print_reply(party, o)
+    print_reply(rt, party, o)
 }
 
-// A proved loop has to end, so the cases are counted down from a number that no input uses up.
-fn main() {
-    let mut turns = u64::MAX;
-    while 0 < turns {
-        if !answer_one() {
+// A proved loop has to end, so the cases are counted up to a number that no input reaches.
+fn main(rt: HostRuntime) {
+    for _ in 0..u64::MAX {
+        if !answer_one(&rt) {
             return;
         }
-        turns -= 1;
     }
 }

@@ -7,7 +7,7 @@ ghost use Rattle.frame.specs.Session.{Sound};
 
 use closing::finish;
 use frame::session::{Session, begin, feed};
-use libc::{STDERR_FILENO, STDIN_FILENO, STDOUT_FILENO};
+use std::io::Read;
 
 // The session past a piece. Without more there is nothing to read; a run is whole as long as
 // every piece was read and every answer written.
@@ -19,51 +19,49 @@ pub struct Taken {
 }
 
 // Writes the lines that stand at the start of a buffer, of fifteen characters each.
-fn print(out: &[u8], lines: usize) -> bool {
+fn print(rt: &HostRuntime, out: &[u8], lines: usize) -> bool {
     if out.len() / 15 < lines {
         return false;
     }
     let end = 15 * lines;
-    if !io::write_all(STDOUT_FILENO, &out[0..end]) {
-        io::write_all(
-            STDERR_FILENO,
-            b"schedule: standard output could not be written\n",
-        );
+    if rt.write_all(&out[0..end]).is_err() {
+        let _ = rt.eprintln("schedule: standard output could not be written");
         return false;
     }
     true
 }
 
 // Reads once, answers the lines that end in what came, and writes the answers.
-fn take_piece(session: Session, piece: &mut [u8], requests: &mut [u8], out: &mut [u8]) -> Taken
+fn take_piece(
+    rt: &HostRuntime,
+    session: Session,
+    piece: &mut [u8],
+    requests: &mut [u8],
+    out: &mut [u8],
+) -> Taken
     requires sound { Sound session }
     requires piece_in_bounds { 2 * length piece.old ≤ length requests.old }
     requires piece_in_bounds_2 { 15 * length piece.old ≤ length out.old }
     ensures { Sound result.session }
 {
-    let got = libc::read(STDIN_FILENO, piece);
-    if got < 0 {
-        io::write_all(
-            STDERR_FILENO,
-            b"schedule: standard input could not be read\n",
-        );
+    let Ok(n) = rt.stdin().read(piece) else {
+        let _ = rt.eprintln("schedule: standard input could not be read");
         return Taken {
             session,
             more: false,
             whole: false,
         };
-    }
-    if got == 0 {
+    };
+    if n == 0 {
         return Taken {
             session,
             more: false,
             whole: true,
         };
     }
-    let n = io::count(got, piece);
     let fed = feed(session, &piece[0..n], requests, out);
     let past = fed.session;
-    let written = print(out, fed.lines);
+    let written = print(rt, out, fed.lines);
     Taken {
         session: past,
         more: written,
@@ -72,31 +70,29 @@ fn take_piece(session: Session, piece: &mut [u8], requests: &mut [u8], out: &mut
 }
 
 // Answers a last line without its end mark, and closes.
-fn close(session: Session)
+fn close(rt: &HostRuntime, session: Session)
     requires { Sound session }
 {
     let mut out = [0u8; 30];
     let lines = finish(session, &mut out);
-    print(&out, lines);
+    print(rt, &out, lines);
 }
 
-// Piece after piece. A proved loop has to end, so they are counted down from a number that no
-// input uses up.
-fn take_all(piece: &mut [u8], requests: &mut [u8], out: &mut [u8]) -> Taken
+// Piece after piece. A proved loop has to end, so they are counted up to a number that no input
+// reaches.
+fn take_all(rt: &HostRuntime, piece: &mut [u8], requests: &mut [u8], out: &mut [u8]) -> Taken
     requires piece_in_bounds { 2 * length piece.old ≤ length requests.old }
     requires piece_in_bounds_2 { 15 * length piece.old ≤ length out.old }
     ensures { Sound result.session }
 {
     let mut session = begin();
-    let mut turns = u64::MAX;
-    while 0 < turns {
-        let taken = take_piece(session, piece, requests, out);
+    for _ in 0..u64::MAX {
+        let taken = take_piece(rt, session, piece, requests, out);
         if !taken.more {
             return taken;
         }
         let past = taken.session;
         session = past;
-        turns -= 1;
     }
     Taken {
         session,
@@ -107,13 +103,13 @@ fn take_all(piece: &mut [u8], requests: &mut [u8], out: &mut [u8]) -> Taken
 
 // Where reading or writing fails the program has said so, and the closing line is left out: what was
 // printed is not whole.
-fn main() {
+fn main(rt: HostRuntime) {
     let mut piece = [0u8; 4096];
     let mut requests = [0u8; 8192];
     let mut out = [0u8; 61440];
-    let taken = take_all(&mut piece, &mut requests, &mut out);
+    let taken = take_all(&rt, &mut piece, &mut requests, &mut out);
     if taken.whole {
         let session = taken.session;
-        close(session);
+        close(&rt, session);
     }
 }
