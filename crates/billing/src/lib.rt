@@ -269,8 +269,7 @@ fn put_shares(out: &mut [u8], parties: u8, shares: [u32; 32])
 
 // For C and Rust: the shares of parties 0 to n−1, four bytes each. Gives the answer's code, or 255
 // if it is handed no such buffer; unless it gives 0 nothing is written.
-#[unsafe(no_mangle)]
-pub extern "C" fn bill_shares(parties: u8, fee: u32, lines: &[u8], shares: &mut [u8]) -> u8
+pub fn bill_shares(parties: u8, fee: u32, lines: &[u8], shares: &mut [u8]) -> u8
     ensures { (result ≡ bill_code parties fee lines.now shares.old)
         × (shares.new ≡ bill_bytes parties fee lines.now shares.old) }
 {

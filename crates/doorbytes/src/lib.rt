@@ -63,8 +63,7 @@ fn enter_in(book: &mut [u8], frame: &[u8]) -> Answer
 
 // For C and Rust: a book is 800 bytes, and 800 bytes of 0 are the empty one. Gives the answer's
 // code, or 255, with nothing written, if it is handed no book.
-#[unsafe(no_mangle)]
-pub extern "C" fn book_enter(book: &mut [u8], frame: &[u8]) -> u8
+pub fn book_enter(book: &mut [u8], frame: &[u8]) -> u8
     ensures { (result ≡ enter_code book.old frame.now)
         × (book.new ≡ enter_bytes book.old frame.now) }
 {
@@ -75,8 +74,7 @@ pub extern "C" fn book_enter(book: &mut [u8], frame: &[u8]) -> u8
 }
 
 // The lock at a door: 0 if none, if the door is above 199, or if it is handed no book.
-#[unsafe(no_mangle)]
-pub extern "C" fn book_lock(book: &[u8], door: u8) -> u32
+pub fn book_lock(book: &[u8], door: u8) -> u32
     ensures { result ≡ lock_in book.now door }
 {
     if book.len() != 800 {

@@ -89,8 +89,7 @@ fn ran_code(ran: LatchRan) -> u8
 
 // The same for C and Rust, which see a number: 0 done, 3 or 18 not opened, 254 malformed calls, 255 no
 // room.
-#[unsafe(no_mangle)]
-pub extern "C" fn latch_run(count: u8, parties: u8, calls: &[u8], out: &mut [u8]) -> u8
+pub fn latch_run(count: u8, parties: u8, calls: &[u8], out: &mut [u8]) -> u8
     ensures { (result ≡ ran_code (run_of count parties calls.now out.old).ran)
         × (out.new ≡ (run_of count parties calls.now out.old).out) }
 {

@@ -45,8 +45,7 @@ fn well_formed(operations: &[u8]) -> bool
 
 // Opens a hub, and performs the operations if they are well formed and there is room for the answers: 0 done, 12 a
 // malformed opening, 2, 3 or 14 to 17 not opened, 254 malformed operations, 255 no room.
-#[unsafe(no_mangle)]
-pub extern "C" fn hub_operate(opening: &[u8], operations: &[u8], out: &mut [u8]) -> u8
+pub fn hub_operate(opening: &[u8], operations: &[u8], out: &mut [u8]) -> u8
     ensures { (result
         ≡ (operated_framed (requested opening.now) operations.now out.old).result)
         × (out.new

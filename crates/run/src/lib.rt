@@ -98,8 +98,7 @@ fn run_framed(opening: &[u8], calls: &[u8], out: &mut [u8]) -> Ran
 
 // The same for C and Rust, which see a number: 0 done, 12 a malformed opening, 2, 3 or 14 to 17 not
 // opened, 254 malformed calls, 255 no room.
-#[unsafe(no_mangle)]
-pub extern "C" fn hub_run(opening: &[u8], calls: &[u8], out: &mut [u8]) -> u8
+pub fn hub_run(opening: &[u8], calls: &[u8], out: &mut [u8]) -> u8
     ensures { (result ≡ (framed_run (requested opening.now) calls.now out.old).result)
         × (out.new ≡ (framed_run (requested opening.now) calls.now out.old).out) }
 {

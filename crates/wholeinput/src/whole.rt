@@ -80,8 +80,7 @@ pub fn answer_input(input: &[u8], out: &mut [u8]) -> usize
 }
 
 // The same for C and Rust.
-#[unsafe(no_mangle)]
-pub extern "C" fn hub_schedule(input: &[u8], out: &mut [u8]) -> usize
+pub fn hub_schedule(input: &[u8], out: &mut [u8]) -> usize
     ensures { (result ≡ size input.now out.old)
         × (out.new ≡ filled input.now out.old) }
 {
