@@ -28,7 +28,7 @@ told_bytes [] = []
 told_bytes (x ∷ xs) = (printed x.answer).code ∷ x.woken ∷ x.steps ∷ told_bytes xs
 
 -- For every opening that is accepted, every list of operations and every buffer with room for the answers, as long
--- as no ask meets 6 or 7. `operatedFrom` is what `hub_operate` promises for the opening's frame.
+-- as no ask meets 6 or 7. `operated_from` is what `hub_operate` promises for the opening's frame.
 unfoldable pub WritesShown : Type 0
 WritesShown =
     (o : Opening) → (opening o).answer ≡ Answer.Opened → (operations out : List ℕ)

@@ -33,7 +33,7 @@ hub_told h (r ∷ rs) =
     let x = operated h (call_for r) in
     told_of x ∷ hub_told x.hub rs
 
--- What the screen tells of each, from its line alone; `lineAfter` is the line that they leave.
+-- What the screen tells of each, from its line alone; `line_after` is the line that they leave.
 unfoldable pub line_told : Line → List DeskRequest → List Told
 line_told l [] = []
 line_told l (r ∷ rs) =
