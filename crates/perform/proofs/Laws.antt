@@ -4,3 +4,4 @@ pub mod Plans
 pub mod Rested
 pub mod Comes
 pub mod Answers
+pub mod Turn
