@@ -33,7 +33,7 @@ start-sound =
 left-printable : (l : Line) (qs : List Request) → Printable l → Printable (left l qs)
 unfolding left
 left-printable l [] p = p
-left-printable l (q ∷ qs) p = left-printable _ qs (printable l (asked_by q) p)
+left-printable l (q ∷ qs) p = left-printable (reply_to l (asked_by q)).line qs (printable l (asked_by q) p)
 
 pub fed-sound : (s : Session) (piece : List ℕ) → Sound s → Sound (fed s piece)
 unfolding fed
