@@ -351,7 +351,13 @@ module _ (o : Opening) (a : (opening o).answer ≡ Answer.Opened) where
       → weight worth_in (entries h cs) + e.gave ≡ (ledger e (entries h cs)).gave
   unfolding weight entries ledger
   all-given s [] = omega arith
-  all-given s (c ∷ cs) = omega (arith, line-worth s c, all-given (onward s c) cs)
+  all-given {h = h} {e = e} s (c ∷ cs) =
+      omega (
+        arith,
+        line-worth s c,
+        all-given {h = (called h c).hub} {e = enter e (record { call = c; answer = printed (called h c).answer })}
+            (onward s c) cs,
+      )
 
 -- And what the ledger has taken is what the 26 and 27 are worth; no refusal is.
 pub takes_low : (c : ℕ) → c < 0x20 → takes c ≡ 0
