@@ -6,9 +6,9 @@ use mathlib.Core.List.{[], ◌∷◌, ◌++◌, List}
 use mathlib.Core.Option
 use lib.Dec.{T as Holds}
 use seplogic.Ra.Ura.{Ura}
-use seplogic.Ra.TreeShare.{full_share}
+use base.Fraction.{full_share}
 use mir.Syntax.{
-  Name,
+  Callee,
   Ty,
   Fn,
   ty_int,
@@ -20,6 +20,9 @@ use mir.Syntax.{
   ty_unit,
   ty_struct,
   ty_enum,
+  ty_param,
+  ty_const,
+  ty_array_p,
   ty_named,
   Body,
   Opd as Operand,
@@ -44,7 +47,6 @@ use prog.Memory.{field_of}
 use prog.Wp.{Heap, Env, Spot, Calls, Loops, WpFn, spot_of}
 use types.Logic.{Logic, sem}
 use types.Kit.{
-  Given,
   Item,
   Goal,
   Go,
@@ -138,7 +140,10 @@ module _ {M : Type 1} {𝓤 : Ura M} (𝓛 : Logic 𝓤) where
   part_of (ty_array σ n) k τ d b o vs e = absurd (Option.none-ne-some (τ, d) e)
   part_of ty_unit k τ d b o vs e = absurd (Option.none-ne-some (τ, d) e)
   part_of (ty_enum ν τss) k τ d b o vs e = absurd (Option.none-ne-some (τ, d) e)
-  part_of (ty_named ν) k τ d b o vs e = absurd (Option.none-ne-some (τ, d) e)
+  part_of (ty_param ι) k τ d b o vs e = absurd (Option.none-ne-some (τ, d) e)
+  part_of (ty_const ι) k τ d b o vs e = absurd (Option.none-ne-some (τ, d) e)
+  part_of (ty_array_p υ ι) k τ d b o vs e = absurd (Option.none-ne-some (τ, d) e)
+  part_of (ty_named ν θ) k τ d b o vs e = absurd (Option.none-ne-some (τ, d) e)
 
   -- field k of the record that local i holds, which entry n says
   pub field_in :
@@ -163,7 +168,7 @@ reads_all m [] i k rest = rest
 reads_all m (τ ∷ τs) i k rest = reads m i k (reads_all m τs (suc i) (suc k) rest)
 
 -- all go to the locals from the fifth on, and with x and y before them to the function called key, which answers into local d
-abbrev pub handing : Ty → List Ty → Name → Operand → Operand → ℕ → Body → Body
+abbrev pub handing : Ty → List Ty → Callee → Operand → Operand → ℕ → Body → Body
 handing m τs key x y d rest =
     reads_all m τs 5 0 (seq (call key (x ∷ y ∷ copies τs 5) (place d [])) rest)
 
@@ -195,6 +200,8 @@ abbrev pub shell_of : ℕ → Types → Body → Fn
 shell_of p t b = record {
   lifetimes = 1;
   outlives = [];
+  ty_params = [];
+  givens = 0;
   params = p;
   locals =
       local t.t0 value_local
@@ -291,7 +298,7 @@ module _ {M : Type 1} {𝓤 : Ura M} (𝓛 : Logic 𝓤) (C : Calls 𝓤 𝓛.H)
         pub hands-over :
             FmC 𝓤 H 𝓛.laws C → Lie 𝓤 H (env 𝓤 H t s) t.fields s.fields 5 → Fields m t.fields 0
             → OfTys t.fields 0
-            → (key : Name) (x y : Operand) (d : ℕ) (rest : Body) (q : Post 𝓤 H) (u w : Val) (pre : SProp 𝓤)
+            → (key : Callee) (x y : Operand) (d : ℕ) (rest : Body) (q : Post 𝓤 H) (u w : Val) (pre : SProp 𝓤)
             (Q : Val → SProp 𝓤)
             → ent 𝓤 (sem 𝓛 ftrue) pre
             → ent 𝓤 pre (C key (u ∷ w ∷ values vs t.fields 0) Q)

@@ -4,7 +4,7 @@ use mathlib.Core.Path.{refl, subst}
 use Prim.Native.Nat.{ℕ}
 use mathlib.Core.List.{[], ◌∷◌, List}
 use seplogic.Ra.Ura.{Ura}
-use seplogic.Ra.TreeShare.{full_share}
+use base.Fraction.{full_share}
 use mir.Syntax.{named}
 use mir.Val.{Val, vptr}
 use base.Logic.{SProp, ent, sep, ex, emp, guard, id⊢}
@@ -13,7 +13,6 @@ use types.Logic.{Logic, sem}
 use contract.Lifetimes.{Lfts}
 use contract.Monad.{fact}
 use types.Kit.{
-  Given,
   ‵,
   raw,
   some,
@@ -124,9 +123,9 @@ module _ {M : Type 1} {𝓤 : Ura M} (𝓛 : Logic 𝓤) (k : Kind) (l : ℕ) (h
       ⊛ raw (fact 𝓤 (Does k d r ws.0)))) (id⊢ 𝓤 _) $
       pick ! (λ ws. split ! $ move ! (1 ∷ []) $
       heard ! (Does k d r ws.0) (λ e.
-      fsplit ! $ move ! (2 ∷ []) $ split ! $ split ! $
-      -- [the token; true; what is told; the last value; those of the rest; the loan]
-      lft_end ! tt $ move ! (0 ∷ 5 ∷ 3 ∷ []) $
+      fsplit ! $ fsplit ! $ move ! (3 ∷ []) $ split ! $ split ! $
+      -- [the token; true; what is told; the last value; the borrow, closed; those of the rest; the loan]
+      lft_end ! tt $ move ! (0 ∷ 6 ∷ 3 ∷ []) $
       use3 𝓛 (later (‵ ((mem T.the_row).own_at ws.0 l 0)))
       (ref_back 𝓛 T.the_row (α ∷ []) γ ws.0 l 0) $ await ! tt $
       rewrite ! 0 (λ (z : Hub). ‵ ((mem T.the_row).own_at z l 0)) e.2 refl $ fpick ! (λ us. fsplit ! $
@@ -134,7 +133,7 @@ module _ {M : Type 1} {𝓤 : Ura M} (𝓛 : Logic 𝓤) (k : Kind) (l : ℕ) (h
       (LL.tells T.the_type T'.the_laws) full_share (k.hub d) us l 0 $
       use1 𝓛 (‵ (fat full_share T'.mir l 0 (hub_val (k.hub d))))
       (𝓛.laws.raw_at full_share T'.mir l 0 (hub_val (k.hub d))) $
-      -- [the record; what it owns; true; what is told; those of the rest]
+      -- [the record; what it owns; true; what is told; the borrow; those of the rest]
       move ! (1 ∷ []) $ facts ! T.the_row (Is T.the_row) (shows 𝓛 T.the_row) (k.hub d) _ (λ is.
       move ! (2 ∷ []) $ facts ! k.Told (Is k.Told) (shows 𝓛 k.Told) r (v ∷ []) (λ is'.
       at_once ! $ check ! (subst (λ (z : k.Told.Denot). Is k.Told z (v ∷ [])) e.0 is', is) $

@@ -4,7 +4,7 @@ use mathlib.Core.Path.{◌≡◌, refl, subst, sym, ◌∙◌}
 use Prim.Native.Nat.{ℕ, suc}
 use mathlib.Core.List.{[], ◌∷◌, ◌++◌, List, append-nil}
 use seplogic.Ra.Ura.{Ura}
-use seplogic.Ra.TreeShare.{full_share}
+use base.Fraction.{full_share}
 use mir.Syntax.{Ty, Local, Opd as Operand, local, value_local, place, copy}
 use mir.Fields.{get_v}
 use mir.Val.{Val, Vals}
@@ -13,7 +13,6 @@ use base.Fml.{fat, fdies, froom}
 use prog.Wp.{Heap, Env, Spot, spot_of}
 use types.Logic.{Logic}
 use types.Kit.{
-  Given,
   Item,
   Goal,
   Go,

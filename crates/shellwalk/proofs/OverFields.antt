@@ -1,8 +1,7 @@
 -- The function that a shell calls, with an operation, a party and the record's fields, whatever it answers.
-use mathlib.Core.Path.{◌≡◌, refl, sym, ◌∙◌}
+use mathlib.Core.Path.{◌≡◌, refl}
 use Prim.Native.Nat.{ℕ, ◌<◌, ◌^◌}
-use mathlib.Core.List.{[], ◌∷◌, List, map}
-use lib.ListN.{length-map}
+use mathlib.Core.List.{[], ◌∷◌, List}
 use seplogic.Ra.Ura.{Ura}
 use mir.Syntax.{w8}
 use mir.Val.{Val, Vals, of_list, vint}
@@ -12,7 +11,6 @@ use types.Logic.{Logic, sem}
 use contract.Monad.{fact}
 use contract.Notation as Notation
 use types.Kit.{
-  Given,
   Item,
   Goal,
   Soaks,
@@ -38,17 +36,16 @@ use types.Kit.{
   done,
 }
 use denote.RattleType.{RattleType, Valss, flat, mirs}
-use denote.Shadow.{shadow}
 use denote.Laws.{Is, Typed, shows, valss}
 use denote.Plain.{uint_Makes}
-use denote.Array.{Array, each, Array-Makes}
+use denote.Array.{Array, Array-Makes}
 use denote.Builtin.{u8, ArrayOf}
 use denote.Exit.{yes}
 use denote.Signature.{Signature, plain}
 use denote.Steps.{facts, heard, owned, nothing}
-use denote.Struct.Declared.{Declared, fields, shape, row}
+use denote.Struct.Declared.{fields}
 use denote.Struct.Laws as LL
-use denote.Struct.Struct.{Struct, typeds}
+use denote.Struct.Struct.{typeds}
 use denote.Enum.Laws as EL
 use denote.Triple.Statement.{Contract}
 use denote.Triple.Clauses.{Clauses, Ended, ensured, lasts, closing}
@@ -86,22 +83,6 @@ ended R = record {
   signature = signature R;
   kept = (yes, (yes, (yes, (yes, (yes, tt)))));
 }
-
--- an array of records, from the array of their tuples that a field holds
-each-record :
-    (D : Declared) (xs : List D.D) (us : List Val)
-    → shadow (each (Struct (shape D)).Denot (Struct (shape D)).own_val (map D.to xs) us)
-    → shadow (each (row D).Denot (row D).own_val xs us)
-each-record D [] [] s = s
-each-record D [] (u ∷ us) s = s
-each-record D (x ∷ xs) [] s = s
-each-record D (x ∷ xs) (u ∷ us) s = (s.0, each-record D xs us s.1)
-
-of-records :
-    (D : Declared) (n : ℕ) (xs : List D.D) (vs : List Val)
-    → Is (Array (Struct (shape D)) n) (map D.to xs) vs → Is (Array (row D) n) xs vs
-of-records D n xs vs p =
-    (p.0, ((p.1.0.0, sym (length-map xs D.to) ∙ p.1.0.1), each-record D xs p.0 p.1.1))
 
 -- the machine's value of a record, and those of its fields
 abbrev pub hub_val : Hub → Val
@@ -162,10 +143,10 @@ module _ {M : Type 1} {𝓤 : Ura M} (𝓛 : Logic 𝓤) (R : RattleType)
       h.control _ e.1.1.0 $ fjoin ! $
       owned ! (Array PartySlot.the_row 32) (Is (Array PartySlot.the_row 32))
       (Array-Makes 𝓛 PartySlot.the_row (LL.makes PartySlot.the_type PartySlot'.the_plain 𝓛) 32)
-      h.slots _ (of-records PartySlot.the_type 32 h.slots _ e.1.0) $ fjoin ! $
+      h.slots _ e.1.0 $ fjoin ! $
       owned ! (Array PlaceSlot.the_row 256) (Is (Array PlaceSlot.the_row 256))
       (Array-Makes 𝓛 PlaceSlot.the_row (LL.makes PlaceSlot.the_type PlaceSlot'.the_plain 𝓛) 256)
-      h.places _ (of-records PlaceSlot.the_type 256 h.places _ e.0) $ fjoin ! $
+      h.places _ e.0 $ fjoin ! $
       owned ! u8 (Is u8) (uint_Makes 𝓛 w8) n _ (refl, fits) $ fjoin ! $
       owned ! O.the_row (Is O.the_row) (EL.makes O.the_type O'.the_plain 𝓛) a _ is-op $ fjoin ! $
       nothing ! $ join ! $ frame ! $ done !

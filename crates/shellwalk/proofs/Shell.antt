@@ -4,8 +4,8 @@ use mathlib.Core.Path.{◌≡◌, refl, ap}
 use Prim.Native.Nat.{ℕ, ◌<◌, ◌^◌}
 use mathlib.Core.List.{[], ◌∷◌, List}
 use seplogic.Ra.Ura.{Ura}
-use seplogic.Ra.TreeShare.{full_share}
-use mir.Syntax.{Name, Ty, Body, Opd as Operand, named, mut, w8, ty_ref, ty_array, place}
+use base.Fraction.{full_share}
+use mir.Syntax.{Callee, Ty, Body, Opd as Operand, named, mut, w8, ty_ref, ty_array, place}
 use mir.Val.{Val, vint, vptr}
 use base.Logic.{SProp, ent, emp, via, fst∗}
 use base.Stored.{Gv}
@@ -16,7 +16,6 @@ use contract.Lifetimes.{Lfts}
 use contract.Monad.{Fun, Mono}
 use contract.Notation as Notation
 use types.Kit.{
-  Given,
   Item,
   Goal,
   Go,
@@ -200,7 +199,7 @@ module _ {M : Type 1} {𝓤 : Ura M} (𝓛 : Logic 𝓤) (C : Calls 𝓤 𝓛.H)
     t = local_types τ₀ τ₂ τ₃ τ₄
 
     pub over-fields :
-        FmC 𝓤 H 𝓛.laws C → (key : Name) → Triple 𝓤 (C key) (Core 𝓛 R D)
+        FmC 𝓤 H 𝓛.laws C → (key : Callee) → Triple 𝓤 (C key) (Core 𝓛 R D)
         → (x y : Operand) (d : ℕ) (rest : Body) (q : Post 𝓤 H) (h : Hub) (a : Op) (u : Val) (n : ℕ)
         → Is T.the_row h (hub_val h ∷ []) → Is O.the_row a (u ∷ []) → n < 2 ^ 8
         → Opd (Go {0}) 𝓛
@@ -267,6 +266,6 @@ module _ {M : Type 1} {𝓤 : Ura M} (𝓛 : Logic 𝓤) (k : Kind) where
       (λ κs qs bounds y g are. via 𝓤 _ (fst∗ 𝓤 _ (emp 𝓤))
       (qed 𝓛 ((‵ (flft κs.0 qs.0) ⊛ ‵ ftrue)
       ∷ ‵ (owns (MutRef (named 0) κs.0 T.the_row ∷ types_at k.slots κs) y
-      (vptr y.0.ptr.0 y.0.ptr.1 ∷ [], valss (types_at k.slots κs) (sp κs) y.1)) ∷ []) ∵
+      (vptr y.0.ref_ptr.0 y.0.ref_ptr.1 ∷ [], valss (types_at k.slots κs) (sp κs) y.1)) ∷ []) ∵
       split ! $ move ! (2 ∷ []) $ fsplit ! $ fsplit3 ! $ keep ! (1 ∷ 2 ∷ 4 ∷ []) $
       walk κs.0 qs.0 y.0.ref_ptr.0 y.0.ref_ptr.1 y.0.ghost_name y.0.now y.1 are.1)))

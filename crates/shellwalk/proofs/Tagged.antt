@@ -4,8 +4,8 @@ use Prim.Native.Nat.{ℕ, ◌<◌, ◌^◌}
 use mathlib.Core.List.{[], ◌∷◌}
 use lib.Dec.{T as Holds, ltb}
 use seplogic.Ra.Ura.{Ura}
-use seplogic.Ra.TreeShare.{full_share}
-use mir.Syntax.{Name, Fn, w8, ty_int, place, field, copy, int, rv_opd, aggregate, assign, seq}
+use base.Fraction.{full_share}
+use mir.Syntax.{Callee, Fn, w8, ty_int, place, field, copy, int, rv_opd, aggregate, assign, seq}
 use mir.Val.{Val, Vals, of_list, vint, vptr, vstruct}
 use base.Fml.{GName, Lft, Share, fat, fbor, flft, fobs, froom}
 use prog.Model.{Model}
@@ -68,7 +68,7 @@ use Rattle.shellwalk.proofs.Shell.{
 }
 
 -- the MIR of the shell over the function called key, for the call whose tag is k
-abbrev pub shell_fn : Name → ℕ → Fn
+abbrev pub shell_fn : Callee → ℕ → Fn
 shell_fn key k =
     shell_of 2 (local_types P'.mir (ty_int w8) R'.mir O'.mir)
     (seq (assign (place 4 []) (aggregate (int w8 k ∷ [])))
@@ -129,7 +129,7 @@ tagged Op.Radio = EL.owes O.the_type O'.the_laws Op.Radio tt
 
 module _ {M : Type 1} {𝓤 : Ura M} (𝓛 : Logic 𝓤)
     (D : Hub → Op → ℕ → Outcome) (a : Op) (k : ℕ) (is-op : Is O.the_row a (tag_val k ∷ []))
-    (small : Holds (ltb k (2 ^ 8))) (key : Name) (C : Calls 𝓤 𝓛.H) (Λ : Loops 𝓤 𝓛.H) (fm : FmC 𝓤 𝓛.H 𝓛.laws C)
+    (small : Holds (ltb k (2 ^ 8))) (key : Callee) (C : Calls 𝓤 𝓛.H) (Λ : Loops 𝓤 𝓛.H) (fm : FmC 𝓤 𝓛.H 𝓛.laws C)
     (known : Triple 𝓤 (C key) (Core 𝓛 R.the_row D)) where
   open 𝓛 use {H}
 
@@ -183,7 +183,7 @@ module _ {M : Type 1} {𝓤 : Ura M} (𝓛 : Logic 𝓤)
 -- hands over is read off its code, and must be the operation's
 pub shell-spec :
     {M : Type 1} {𝓤 : Ura M} (𝓛 : Logic 𝓤) (𝓜 : Model 𝓤 𝓛.H) (𝓡 : Running 𝓤 𝓛.H 𝓜)
-    (D : Hub → Op → ℕ → Outcome) (a : Op) (env : Env) (own key : Name) (routine : Routine) {k : ℕ}
+    (D : Hub → Op → ℕ → Outcome) (a : Op) (env : Env) (own key : Callee) (routine : Routine) {k : ℕ}
     → Closed 𝓤 𝓛.H (tables 𝓤 𝓛.H 𝓜 𝓡 env).C (tables 𝓤 𝓛.H 𝓜 𝓡 env).Λ own (shell_fn key k)
     → Is O.the_row a (tag_val k ∷ []) → Holds (ltb k (2 ^ 8)) → env key ≡ routine
     → Meets 𝓛 (core.signature R.the_row) (𝓡.run routine)
