@@ -1,0 +1,29 @@
+-- `well_formed` meets its contract: what is left of the pairs, from any turn on, says the same.
+use Prim.Native.Nat.{◌-◌}
+use Rattle.run.proofs.Laws.Pairs.{odd, bad, good, all}
+use Rattle.latchrun.specs.Bytes.{is_call}
+use Rattle.latchrun.proofs.Laws.Codes.{under, over, a-code}
+use Rattle.latchrun.proofs.well_formed.Goals as goal
+
+pub returns-then-calls-eq1 : goal.returns-then-calls-eq1
+returns-then-calls-eq1 c = odd is_call _ c.if-calls-eq1.true
+
+pub returns-then-code-lt16 : goal.returns-then-code-lt16
+returns-then-code-lt16 c =
+    bad is_call _ _ c.loop-i.invariant c.loop-i-test.true
+    (under _ c.if-code-lt16.true)
+
+pub returns-then-code-gt19 : goal.returns-then-code-gt19
+returns-then-code-gt19 c =
+    bad is_call _ _ c.loop-i.invariant
+    c.loop-i-test.true
+    (over _ c.if-code-gt19.true)
+
+pub loop-i-preserved : goal.loop-i-preserved
+loop-i-preserved c =
+    good is_call _ _ c.loop-i.invariant
+    c.loop-i-test.true
+    (a-code _ c.if-code-lt16.false c.if-code-gt19.false)
+
+pub returns : goal.returns
+returns c = all is_call _ _ c.loop-i.invariant c.if-calls-eq1.false c.loop-i-test.false
