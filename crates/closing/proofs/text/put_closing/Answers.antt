@@ -1,0 +1,11 @@
+-- `put_closing` meets its contract: what it writes is made of the record's counts.
+use mathlib.Core.Path.{◌∙◌}
+use Rattle.closing.proofs.Laws.Closing.{shown}
+use Rattle.closing.proofs.text.put_closing.Goals as goal
+
+pub returns : goal.returns
+returns c =
+    let k = c in
+    c.put_line.ensures
+    ∙ shown k.args.hub k.counts-c.result
+    k.counts-c.ensures.value _ k.counter_number.ensures
