@@ -1,5 +1,4 @@
 -- `call` meets its contract: 1, 4, then the operation's own.
-use borrow.Author.Tests.{not-false, not-true}
 use mathlib.Core.Path.{sym, ap, ◌∙◌}
 use Rattle.screen.specs.declared.record.Operation.{Operation}
 use Rattle.screen.specs.Moves.{line_move}
@@ -9,28 +8,27 @@ use Rattle.screenmove.proofs.call.Goals as goal
 
 pub returns-then-not-line_fits : goal.returns-then-not-line_fits
 returns-then-not-line_fits c = with-printed (c.refused_move.ensures ∙ sym (unfit _ _ _ (sym c.line_fits.ensures
-    ∙ not-true _ c.if-not-line_fits.true-raw)))
+    ∙ c.if-not-line_fits.true)))
 
 pub returns-then-line-party : goal.returns-then-line-party
 returns-then-line-party c =
     with-printed (c.refused_move-then-line-party.ensures
-    ∙ sym (no-party _ _ _ (sym c.line_fits.ensures ∙ not-false _
-    c.if-not-line_fits.false-raw) c.if-line-party.true))
+    ∙ sym (no-party _ _ _ (sym c.line_fits.ensures ∙ c.if-not-line_fits.false) c.if-line-party.true))
 
 pub returns-in-Acquire : goal.returns-in-Acquire
 returns-in-Acquire c =
     with-printed (c.acquire_on.ensures
-    ∙ sym (own _ _ _ (sym c.line_fits.ensures ∙ not-false _ c.if-not-line_fits.false-raw) c.if-line-party.false)
+    ∙ sym (own _ _ _ (sym c.line_fits.ensures ∙ c.if-not-line_fits.false) c.if-line-party.false)
     ∙ ap (λ (o : Operation). line_move c.args.line o c.args.party) (sym c.in-Acquire.is))
 
 pub returns-in-Cancel : goal.returns-in-Cancel
 returns-in-Cancel c =
     with-printed (c.cancel_on.ensures
-    ∙ sym (own _ _ _ (sym c.line_fits.ensures ∙ not-false _ c.if-not-line_fits.false-raw) c.if-line-party.false)
+    ∙ sym (own _ _ _ (sym c.line_fits.ensures ∙ c.if-not-line_fits.false) c.if-line-party.false)
     ∙ ap (λ (o : Operation). line_move c.args.line o c.args.party) (sym c.in-Cancel.is))
 
 pub returns-in-Release : goal.returns-in-Release
 returns-in-Release c =
     with-printed (c.release_on.ensures
-    ∙ sym (own _ _ _ (sym c.line_fits.ensures ∙ not-false _ c.if-not-line_fits.false-raw) c.if-line-party.false)
+    ∙ sym (own _ _ _ (sym c.line_fits.ensures ∙ c.if-not-line_fits.false) c.if-line-party.false)
     ∙ ap (λ (o : Operation). line_move c.args.line o c.args.party) (sym c.in-Release.is))

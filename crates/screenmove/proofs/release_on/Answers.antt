@@ -1,6 +1,5 @@
 -- `release_on` meets its contract: its tests, in order, are those of the definition.
 use borrow.Author.Rules.{rules}
-use borrow.Author.Tests.{not-false, not-true}
 use mathlib.Core.Path.{◌≡◌, sym, ◌∙◌}
 use lib.ListN.{length}
 use Rattle.screen.proofs.Laws.Fit.{fit}
@@ -15,11 +14,11 @@ bounds-holding-p c =
 
 pub returns-then-not-holding-p : goal.returns-then-not-holding-p
 returns-then-not-holding-p c =
-    c.refused_move.ensures ∙ sym (holds_not _ _ (not-true _ c.if-not-holding-p.true-raw))
+    c.refused_move.ensures ∙ sym (holds_not _ _ c.if-not-holding-p.true)
 
 pub returns-then-line-lt1 : goal.returns-then-line-lt1
 returns-then-line-lt1 c =
-    c.accepted_move.ensures ∙ sym (gives_back _ _ (not-false _ c.if-not-holding-p.false-raw)
+    c.accepted_move.ensures ∙ sym (gives_back _ _ c.if-not-holding-p.false
     c.if-line-lt1.true)
 
 pub bounds-next-first : goal.bounds-next-first
@@ -31,4 +30,4 @@ bounds-next-first c =
 pub returns : goal.returns
 returns c =
     c.accepted_move-2.ensures
-    ∙ handed-over _ _ _ (not-false _ c.if-not-holding-p.false-raw) c.if-line-lt1.false c.leave-next.ensures
+    ∙ handed-over _ _ _ c.if-not-holding-p.false c.if-line-lt1.false c.leave-next.ensures

@@ -1,6 +1,5 @@
 -- `put_holders` meets its contract: those written and those still to come are all that hold.
 use borrow.Author.Rules.{rules}
-use borrow.Author.Tests.{not-false, not-true}
 use native.Mathlib.Omega.{arith}
 use Prim.Native.Nat.{◌-◌}
 use Rattle.screen.specs.Line.{holders}
@@ -15,12 +14,12 @@ loop-p-init c = listed-none _ _ _ (search rules)
 pub loop-p-preserved-then-not-holding-party : goal.loop-p-preserved-then-not-holding-party
 loop-p-preserved-then-not-holding-party c =
     listed-skip c.loop-p.invariant (omega arith)
-    (next-free _ _ (search rules) (not-true _ c.if-not-holding-party.true-raw))
+    (next-free _ _ (search rules) c.if-not-holding-party.true)
 
 pub loop-p-preserved : goal.loop-p-preserved
 loop-p-preserved c =
     listed-one c.loop-p.invariant (omega arith)
-    (next-holds _ _ (search rules) (not-false _ c.if-not-holding-party.false-raw))
+    (next-holds _ _ (search rules) c.if-not-holding-party.false)
     c.put_number-end.ensures.0 c.put_number-end.ensures.1
 
 pub returns : goal.returns
