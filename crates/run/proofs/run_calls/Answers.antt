@@ -1,5 +1,4 @@
 -- `run_calls` meets its contract: its tests, in order, are those of the definition.
-use borrow.Author.Tests.{not-true, not-false}
 use mathlib.Core.Path.{sym, ◌∙◌}
 use native.Mathlib.Omega.{arith}
 use Rattle.run.proofs.Laws.Endings.{refused, malformed, no_room, reachable, done}
@@ -18,7 +17,7 @@ returns-then-not-well_formed c =
     let o = w in
     let a = o.args in
     malformed a.o _ _ _ o.open_hub-opened.ensures.0 (opened_keys w.in_default.in_default-own.keys2)
-    (sym w.well_formed-2.ensures ∙ not-true _ c.if-not-well_formed.true-raw)
+    (sym w.well_formed-2.ensures ∙ c.if-not-well_formed.true)
 
 pub returns-then-out-total : goal.returns-then-out-total
 returns-then-out-total c =
@@ -26,7 +25,7 @@ returns-then-out-total c =
     let o = w in
     let a = o.args in
     no_room a.o _ _ _ o.open_hub-opened.ensures.0 (opened_keys w.in_default.in_default-own.keys2)
-    (sym w.well_formed-2.ensures ∙ not-false _ c.if-not-well_formed.false-raw) c.if-out-total.true
+    (sym w.well_formed-2.ensures ∙ c.if-not-well_formed.false) c.if-out-total.true
 
 pub answer_requests-requires : goal.answer_requests-requires
 answer_requests-requires c =
@@ -47,5 +46,5 @@ returns c =
     let o = w in
     let a = o.args in
     done a.o _ _ _ o.open_hub-opened.ensures.0 (opened_keys w.in_default.in_default-own.keys2) _
-    (sym w.well_formed-2.ensures ∙ not-false _ e.if-not-well_formed.false-raw) e.if-out-total.false
+    (sym w.well_formed-2.ensures ∙ e.if-not-well_formed.false) e.if-out-total.false
     c.answer_requests.ensures.1

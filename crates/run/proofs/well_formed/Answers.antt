@@ -1,5 +1,4 @@
 -- `well_formed` meets its contract: what is left of the pairs, from any turn on, says the same.
-use Prim.Native.Nat.{◌-◌}
 use Rattle.encoding.specs.Frame.{is_call}
 use Rattle.line.proofs.Laws.Codes.{under, over, a-code}
 use Rattle.run.proofs.Laws.Pairs.{odd, bad, good, all}
