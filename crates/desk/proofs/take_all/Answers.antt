@@ -1,5 +1,5 @@
 -- A session is sound from its beginning.
-use Rattle.std.proofs.Common.{◌≡◌, refl, sym, subst}
+use Rattle.std.proofs.Common.{refl, sym, subst}
 use Rattle.deskfeed.specs.Session.{Sound}
 use Rattle.deskfeed.proofs.Laws.Sessions.{start-sound}
 use Rattle.desk.proofs.take_all.Goals as goal
