@@ -3,11 +3,11 @@
 use borrow.Author.Tests.{not-true, not-false}
 use mathlib.Core.Path.{◌≡◌, refl, sym, ap, ◌∙◌}
 use mathlib.Core.Bool.{Bool, cond}
-use mathlib.Core.List.{List, map}
+use mathlib.Core.List.{List}
 use native.Mathlib.Omega.{arith}
 use Prim.Native.Nat.{ℕ, ◌+◌, ◌*◌, ◌%◌, ◌≤◌}
 use lib.Dec.{ltb}
-use lib.ListN.{length, get_or, set, length-map}
+use lib.ListN.{length, get_or, set}
 use Rattle.hub.specs.declared.answers.Answer.{Answer}
 use Rattle.hub.specs.declared.moves.Op.{Op}
 use Rattle.hub.specs.declared.moves.Sight.{Sight}
@@ -43,12 +43,17 @@ use Rattle.batch.proofs.Laws.Answered.{Admitted, is-admitted, refused-response, 
 use Rattle.batch.proofs.Laws.Answered.{effect-asked, let-in, call-response}
 use Rattle.batch.proofs.Laws.Responses.{Upto, request_at}
 use Rattle.batch.proofs.Laws.Responses.{responded, ended}
+use Rattle.batch.specs.Batch.{Reachable}
+use Rattle.exchange.specs.declared.admission.Admission.{Admission}
+use Rattle.exchange.specs.Admission.{admission_of}
+use mathlib.Core.Bool.{true}
 use Rattle.batch.proofs.answer_in_turn.Goals as goal
 use Rattle.batch.proofs.answer_in_turn.Goals.{then-woken-lt32, else-woken-lt32, then-opening, else-opening}
 
-long-unmapped : (X Y : Type 0) (f : X → Y) (l : List X) (n : ℕ) → length (map f l) ≡ n
-    → length l ≡ n
-long-unmapped X Y f l n e = sym (length-map l f) ∙ e
+-- The party of a call that is admitted, by what is answered of it.
+let_in_by : (h : Hub) → Reachable h → (c x : ℕ) (a : Admission) → a ≡ admission_of c x h.control.opening.parties
+    → a.admitted ≡ true → LetIn h a.party
+let_in_by h r c x a e t = let-in _ _ _ r (is-admitted c x h.control.opening.parties a e t).0
 
 pub loop-i-preserved-then-not-a : goal.loop-i-preserved-then-not-a
 loop-i-preserved-then-not-a c = let u = c.loop-i.invariant.0 in (
@@ -60,120 +65,44 @@ loop-i-preserved-then-not-a c = let u = c.loop-i.invariant.0 in (
 
 pub bounds-slots-own : goal.bounds-slots-own
 bounds-slots-own c =
-    let hub : Hub =
-    of_parts c.args.opening c.loop-i.figures c.loop-i.ring c.loop-i.slots c.loop-i.pool in
-    let bytes : List ℕ =
-    c.args.requests.now in
-    let code : ℕ =
-    c.admit_at-a.result.code in
-    let party : ℕ =
-    c.admit_at-a.result.party in
-    let pass : Admitted code party hub.control.opening.parties × (request_at bytes (2 * c.loop-i.i) ≡ request_for code party) =
-    is-admitted _ _ _ _ c.admit_at-a.ensures (not-false _ c.if-not-a.false) in
-    let admitted : LetIn hub party =
-    let-in _ _ _ c.loop-i.invariant.0.reachable pass.0 in
+    let admitted = let_in_by _ c.loop-i.invariant.0.reachable _ _ _ c.admit_at-a.ensures (not-false _ c.if-not-a.false) in
     omega (arith, admitted.party)
 
 pub full_by-full-requires : goal.full_by-full-requires
 full_by-full-requires c =
-    let hub : Hub =
-    of_parts c.args.opening c.loop-i.figures c.loop-i.ring c.loop-i.slots c.loop-i.pool in
-    let bytes : List ℕ =
-    c.args.requests.now in
-    let code : ℕ =
-    c.admit_at-a.result.code in
-    let party : ℕ =
-    c.admit_at-a.result.party in
-    let pass : Admitted code party hub.control.opening.parties × (request_at bytes (2 * c.loop-i.i) ≡ request_for code party) =
-    is-admitted _ _ _ _ c.admit_at-a.ensures (not-false _ c.if-not-a.false) in
-    let admitted : LetIn hub party =
-    let-in _ _ _ c.loop-i.invariant.0.reachable pass.0 in
-    let n = admitted.counts in (n.oldest, n.issued)
+    let admitted = let_in_by _ c.loop-i.invariant.0.reachable _ _ _ c.admit_at-a.ensures (not-false _ c.if-not-a.false) in
+    (admitted.counts.oldest, admitted.counts.issued)
 
 pub bounds-kinds-own : goal.bounds-kinds-own
 bounds-kinds-own c =
-    let hub : Hub =
-    of_parts c.args.opening c.loop-i.figures c.loop-i.ring c.loop-i.slots c.loop-i.pool in
-    let bytes : List ℕ =
-    c.args.requests.now in
-    let code : ℕ =
-    c.admit_at-a.result.code in
-    let party : ℕ =
-    c.admit_at-a.result.party in
-    let pass : Admitted code party hub.control.opening.parties × (request_at bytes (2 * c.loop-i.i) ≡ request_for code party) =
-    is-admitted _ _ _ _ c.admit_at-a.ensures (not-false _ c.if-not-a.false) in
-    let admitted : LetIn hub party =
-    let-in _ _ _ c.loop-i.invariant.0.reachable pass.0 in
+    let admitted = let_in_by _ c.loop-i.invariant.0.reachable _ _ _ c.admit_at-a.ensures (not-false _ c.if-not-a.false) in
     omega (arith, admitted.party)
 
 pub bounds-pool-own : goal.bounds-pool-own
 bounds-pool-own c =
-    let hub : Hub =
-    of_parts c.args.opening c.loop-i.figures c.loop-i.ring c.loop-i.slots c.loop-i.pool in
-    let bytes : List ℕ =
-    c.args.requests.now in
-    let code : ℕ =
-    c.admit_at-a.result.code in
-    let party : ℕ =
-    c.admit_at-a.result.party in
-    let pass : Admitted code party hub.control.opening.parties × (request_at bytes (2 * c.loop-i.i) ≡ request_for code party) =
-    is-admitted _ _ _ _ c.admit_at-a.ensures (not-false _ c.if-not-a.false) in
-    let admitted : LetIn hub party =
-    let-in _ _ _ c.loop-i.invariant.0.reachable pass.0 in
+    let admitted = let_in_by _ c.loop-i.invariant.0.reachable _ _ _ c.admit_at-a.ensures (not-false _ c.if-not-a.false) in
     omega (arith, admitted.party)
 
 pub decide_for-e-requires : goal.decide_for-e-requires
 decide_for-e-requires c =
-    let hub : Hub =
-    of_parts c.args.opening c.loop-i.figures c.loop-i.ring c.loop-i.slots c.loop-i.pool in
-    let bytes : List ℕ =
-    c.args.requests.now in
-    let code : ℕ =
-    c.admit_at-a.result.code in
-    let party : ℕ =
-    c.admit_at-a.result.party in
-    let pass : Admitted code party hub.control.opening.parties × (request_at bytes (2 * c.loop-i.i) ≡ request_for code party) =
-    is-admitted _ _ _ _ c.admit_at-a.ensures (not-false _ c.if-not-a.false) in
-    let admitted : LetIn hub party =
-    let-in _ _ _ c.loop-i.invariant.0.reachable pass.0 in
+    let admitted = let_in_by _ c.loop-i.invariant.0.reachable _ _ _ c.admit_at-a.ensures (not-false _ c.if-not-a.false) in
     let n = admitted.counts in
     record { counter = n.counter; issued = n.issued; resumed = n.resumed }
 
 pub bounds-slots-own-in-loop-i : goal.bounds-slots-own-in-loop-i
 bounds-slots-own-in-loop-i c =
-    let hub : Hub =
-    of_parts c.args.opening c.loop-i.figures c.loop-i.ring c.loop-i.slots c.loop-i.pool in
-    let bytes : List ℕ =
-    c.args.requests.now in
-    let code : ℕ =
-    c.admit_at-a.result.code in
-    let party : ℕ =
-    c.admit_at-a.result.party in
-    let pass : Admitted code party hub.control.opening.parties × (request_at bytes (2 * c.loop-i.i) ≡ request_for code party) =
-    is-admitted _ _ _ _ c.admit_at-a.ensures (not-false _ c.if-not-a.false) in
-    let admitted : LetIn hub party =
-    let-in _ _ _ c.loop-i.invariant.0.reachable pass.0 in
+    let admitted = let_in_by _ c.loop-i.invariant.0.reachable _ _ _ c.admit_at-a.ensures (not-false _ c.if-not-a.false) in
     omega (arith, admitted.party)
 
 pub radios_after-pool-requires : goal.radios_after-pool-requires
 radios_after-pool-requires c =
-    let hub : Hub =
-    of_parts c.args.opening c.loop-i.figures c.loop-i.ring c.loop-i.slots c.loop-i.pool in
-    let bytes : List ℕ =
-    c.args.requests.now in
-    let code : ℕ =
-    c.admit_at-a.result.code in
-    let party : ℕ =
-    c.admit_at-a.result.party in
-    let pass : Admitted code party hub.control.opening.parties × (request_at bytes (2 * c.loop-i.i) ≡ request_for code party) =
-    is-admitted _ _ _ _ c.admit_at-a.ensures (not-false _ c.if-not-a.false) in
-    let admitted : LetIn hub party =
-    let-in _ _ _ c.loop-i.invariant.0.reachable pass.0 in
+    let admitted = let_in_by _ c.loop-i.invariant.0.reachable _ _ _ c.admit_at-a.ensures (not-false _ c.if-not-a.false) in
     admitted.store c.if-opening.true
 
 pub loop-i-preserved-then-not-is_untidy : goal.loop-i-preserved-then-not-is_untidy
 unfolding read_slot write_slot kind_in hand_of read_seat
 loop-i-preserved-then-not-is_untidy c =
+    -- The record at the head of a turn, and the request.
     let hub : Hub =
     of_parts c.args.opening c.loop-i.figures c.loop-i.ring c.loop-i.slots c.loop-i.pool in
     let bytes : List ℕ =
@@ -184,8 +113,10 @@ loop-i-preserved-then-not-is_untidy c =
     c.admit_at-a.result.code in
     let party : ℕ =
     c.admit_at-a.result.party in
+    -- The call is admitted.
     let pass : Admitted code party hub.control.opening.parties × (request_at bytes (2 * c.loop-i.i) ≡ request_for code party) =
     is-admitted _ _ _ _ c.admit_at-a.ensures (not-false _ c.if-not-a.false) in
+    -- What the code read for it.
     let place_index : ℕ =
     c.seat_index-t.result in
     let seat : PlaceSlot =
@@ -200,6 +131,7 @@ loop-i-preserved-then-not-is_untidy c =
     reads hub party _ index _ _
     c.loop-i.invariant.1 c.waiter_at-q.ensures
     (ap (λ (q : ℕ). cond (ltb q PARTIES) near free_slot) (sym c.waiter_at-q.ensures)) in
+    -- The effect is that of the call.
     let op : Op =
     op_of code in
     let full : Bool =
@@ -211,12 +143,14 @@ loop-i-preserved-then-not-is_untidy c =
     c.full_by-full.ensures in
     let move : Move =
     decide op full (look hub party) in
+    -- What the call leaves.
     let leaving : Hub =
     with_pool (radios_after hub party (answer_of move))
     (apply hub (look hub party) move) in
     let answered : respond hub (request_at bytes (2 * c.loop-i.i)) ≡ record { reply = record { party = party; answer = printed (answer_of move) }; hub = leaving } =
     ap (respond hub) pass.1
     ∙ call-response _ _ _ c.loop-i.invariant.0.reachable pass.0 in
+    -- The effect, and the record that the tidying starts from.
     let effect : Effect =
     c.decide_for-e.result in
     let untidied : Hub =
@@ -229,25 +163,30 @@ loop-i-preserved-then-not-is_untidy c =
       | else-woken-lt32 w ↦ w.slots-is
           ∙ nobody c.loop-i.slots effect.woken effect.waiter (omega (arith, c.loop-i.invariant.1, w.if-woken-lt32.false))
     ] in
+    -- The answer moved a radio, on a hub with radios.
     let moved-pool : c.if-opening.pool ≡ radios_after hub party effect.answer =
     elim c.if-opening.branch [
       | then-opening w ↦ with-radios _ _ _ _ _ w.if-opening.true (w.pool-is ∙ w.radios_after-pool.ensures)
       | else-opening w ↦ w.pool-is ∙ without-radios _ _ _ _ w.if-opening.false
     ] in
+    -- What is left, once it is tidied, is what the call leaves.
     let leaves : (u : Hub) → u ≡ tidied_by effect.turns untidied → u ≡ leaving =
     λ u e. e
     ∙ ap (λ (g : Hub). tidied_by effect.turns (with_pool untidied.control.pool g))
     (stores hub party _ index effect _ woken-slots)
     ∙ left _ _ _ _ _ reading op effect effect_is untidied.control.pool moved-pool in
+    -- The slots stay as many.
     let still-32 : length untidied.slots ≡ 32 =
     still c.loop-i.slots _ effect.woken party effect.waiter effect.slot
     woken-slots
     ∙ c.loop-i.invariant.1 in
+    -- What was written is what the call answers.
     let replied-with : c.put_answer.new.out ≡ with_reply (form_of c.args.form) (width * c.loop-i.i) (frame_of party (printed (answer_of move))) c.loop-i.out =
     c.put_answer.ensures
     ∙ ap (λ (a : Answer). with_reply (form_of c.args.form) (width * c.loop-i.i)
     (frame_of party (printed a)) c.loop-i.out)
     (said _ _ _ _ _ reading op effect effect_is) in
+    -- One more request is answered: its reply is written, and u is the record that is left.
     let one_more : (u : Hub) → u ≡ tidied_by effect.turns untidied → let a = c.args in Upto (form_of a.form) (of_parts a.opening a.figures a.ring a.slots a.pool) a.count bytes a.out.now u c.put_answer.new.out (c.loop-i.i + 1) =
     λ u e. responded _ _ _ _ _ _ _ _ c.loop-i.invariant.0 c.loop-i-test.true _ _ _
     answered replied-with (leaves u e) in
@@ -258,6 +197,7 @@ loop-i-preserved-then-not-is_untidy c =
 pub reclaim-ring-requires : goal.reclaim-ring-requires
 unfolding read_slot kind_in hand_of
 reclaim-ring-requires c =
+    -- The record at the head of a turn, and the request.
     let hub : Hub =
     of_parts c.args.opening c.loop-i.figures c.loop-i.ring c.loop-i.slots c.loop-i.pool in
     let bytes : List ℕ =
@@ -266,10 +206,12 @@ reclaim-ring-requires c =
     c.admit_at-a.result.code in
     let party : ℕ =
     c.admit_at-a.result.party in
+    -- The call is admitted.
     let pass : Admitted code party hub.control.opening.parties × (request_at bytes (2 * c.loop-i.i) ≡ request_for code party) =
     is-admitted _ _ _ _ c.admit_at-a.ensures (not-false _ c.if-not-a.false) in
     let admitted : LetIn hub party =
     let-in _ _ _ c.loop-i.invariant.0.reachable pass.0 in
+    -- What the code read for it.
     let place_index : ℕ =
     c.seat_index-t.result in
     let seat : PlaceSlot =
@@ -278,6 +220,7 @@ reclaim-ring-requires c =
     get_or c.loop-i.slots (c.waiter_at-q.result % PARTIES) free_slot in
     let waiter : PartySlot =
     waiter_by seat near in
+    -- The effect is that of the call.
     let op : Op =
     op_of code in
     let full : Bool =
@@ -297,6 +240,7 @@ reclaim-ring-requires c =
 pub loop-i-preserved : goal.loop-i-preserved
 unfolding read_slot write_slot kind_in hand_of
 loop-i-preserved c =
+    -- The record at the head of a turn, and the request.
     let hub : Hub =
     of_parts c.args.opening c.loop-i.figures c.loop-i.ring c.loop-i.slots c.loop-i.pool in
     let bytes : List ℕ =
@@ -307,8 +251,10 @@ loop-i-preserved c =
     c.admit_at-a.result.code in
     let party : ℕ =
     c.admit_at-a.result.party in
+    -- The call is admitted.
     let pass : Admitted code party hub.control.opening.parties × (request_at bytes (2 * c.loop-i.i) ≡ request_for code party) =
     is-admitted _ _ _ _ c.admit_at-a.ensures (not-false _ c.if-not-a.false) in
+    -- What the code read for it.
     let place_index : ℕ =
     c.seat_index-t.result in
     let seat : PlaceSlot =
@@ -323,6 +269,7 @@ loop-i-preserved c =
     reads hub party _ index _ _
     c.loop-i.invariant.1 c.waiter_at-q.ensures
     (ap (λ (q : ℕ). cond (ltb q PARTIES) near free_slot) (sym c.waiter_at-q.ensures)) in
+    -- The effect is that of the call.
     let op : Op =
     op_of code in
     let full : Bool =
@@ -334,12 +281,14 @@ loop-i-preserved c =
     c.full_by-full.ensures in
     let move : Move =
     decide op full (look hub party) in
+    -- What the call leaves.
     let leaving : Hub =
     with_pool (radios_after hub party (answer_of move))
     (apply hub (look hub party) move) in
     let answered : respond hub (request_at bytes (2 * c.loop-i.i)) ≡ record { reply = record { party = party; answer = printed (answer_of move) }; hub = leaving } =
     ap (respond hub) pass.1
     ∙ call-response _ _ _ c.loop-i.invariant.0.reachable pass.0 in
+    -- The effect, and the record that the tidying starts from.
     let effect : Effect =
     c.decide_for-e.result in
     let untidied : Hub =
@@ -352,25 +301,30 @@ loop-i-preserved c =
       | else-woken-lt32 w ↦ w.slots-is
           ∙ nobody c.loop-i.slots effect.woken effect.waiter (omega (arith, c.loop-i.invariant.1, w.if-woken-lt32.false))
     ] in
+    -- The answer moved a radio, on a hub with radios.
     let moved-pool : c.if-opening.pool ≡ radios_after hub party effect.answer =
     elim c.if-opening.branch [
       | then-opening w ↦ with-radios _ _ _ _ _ w.if-opening.true (w.pool-is ∙ w.radios_after-pool.ensures)
       | else-opening w ↦ w.pool-is ∙ without-radios _ _ _ _ w.if-opening.false
     ] in
+    -- What is left, once it is tidied, is what the call leaves.
     let leaves : (u : Hub) → u ≡ tidied_by effect.turns untidied → u ≡ leaving =
     λ u e. e
     ∙ ap (λ (g : Hub). tidied_by effect.turns (with_pool untidied.control.pool g))
     (stores hub party _ index effect _ woken-slots)
     ∙ left _ _ _ _ _ reading op effect effect_is untidied.control.pool moved-pool in
+    -- The slots stay as many.
     let still-32 : length untidied.slots ≡ 32 =
     still c.loop-i.slots _ effect.woken party effect.waiter effect.slot
     woken-slots
     ∙ c.loop-i.invariant.1 in
+    -- What was written is what the call answers.
     let replied-with : c.put_answer.new.out ≡ with_reply (form_of c.args.form) (width * c.loop-i.i) (frame_of party (printed (answer_of move))) c.loop-i.out =
     c.put_answer.ensures
     ∙ ap (λ (a : Answer). with_reply (form_of c.args.form) (width * c.loop-i.i)
     (frame_of party (printed a)) c.loop-i.out)
     (said _ _ _ _ _ reading op effect effect_is) in
+    -- One more request is answered: its reply is written, and u is the record that is left.
     let one_more : (u : Hub) → u ≡ tidied_by effect.turns untidied → let a = c.args in Upto (form_of a.form) (of_parts a.opening a.figures a.ring a.slots a.pool) a.count bytes a.out.now u c.put_answer.new.out (c.loop-i.i + 1) =
     λ u e. responded _ _ _ _ _ _ _ _ c.loop-i.invariant.0 c.loop-i-test.true _ _ _
     answered replied-with (leaves u e) in

@@ -1,7 +1,6 @@
 -- `padded` meets its contract: one byte of the part after the other is copied.
 use borrow.Author.Rules.{rules}
 use mathlib.Core.Path.{refl}
-use Prim.Native.Nat.{◌-◌}
 use Rattle.line.proofs.Laws.Openings.{none, one_more, full}
 use Rattle.line.proofs.openings.padded.Goals as goal
 

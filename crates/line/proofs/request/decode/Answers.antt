@@ -1,6 +1,6 @@
 -- `decode` meets its contract: the bytes written and those that the rest spells are the line's.
 use borrow.Author.Rules.{rules}
-use Prim.Native.Nat.{◌*◌, ◌-◌}
+use Prim.Native.Nat.{◌*◌}
 use mathlib.Core.Path.{ap, ◌∙◌}
 use lib.ListN.{length}
 use Rattle.encoding.specs.Hex.{byte_of}

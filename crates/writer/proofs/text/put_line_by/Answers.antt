@@ -3,7 +3,7 @@ use native.Mathlib.Omega.{arith}
 use Rattle.encoding.proofs.Laws.Filled.{all_set}
 use Rattle.encoding.proofs.Laws.Tables.{line-by-pairs}
 use Rattle.encoding.specs.Frame.{paper}
-use mathlib.Core.Path.{◌≡◌, ◌∙◌}
+use mathlib.Core.Path.{◌∙◌}
 use Rattle.writer.proofs.text.put_line_by.Goals as goal
 
 pub returns : goal.returns
