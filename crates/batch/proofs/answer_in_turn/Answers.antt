@@ -48,7 +48,7 @@ use Rattle.exchange.specs.declared.admission.Admission.{Admission}
 use Rattle.exchange.specs.Admission.{admission_of}
 use mathlib.Core.Bool.{true}
 use Rattle.batch.proofs.answer_in_turn.Goals as goal
-use Rattle.batch.proofs.answer_in_turn.Goals.{then-woken-lt32, else-woken-lt32, then-opening, else-opening}
+use Rattle.batch.proofs.answer_in_turn.Goals.{After-is_untidy, then-woken-lt32, else-woken-lt32, then-opening, else-opening}
 
 -- The party of a call that is admitted, by what is answered of it.
 let_in_by : (h : Hub) → Reachable h → (c x : ℕ) (a : Admission) → a ≡ admission_of c x h.control.opening.parties
@@ -99,236 +99,175 @@ radios_after-pool-requires c =
     let admitted = let_in_by _ c.loop-i.invariant.0.reachable _ _ _ c.admit_at-a.ensures (not-false _ c.if-not-a.false) in
     admitted.store c.if-opening.true
 
-pub loop-i-preserved-then-not-is_untidy : goal.loop-i-preserved-then-not-is_untidy
-unfolding read_slot write_slot kind_in hand_of read_seat
-loop-i-preserved-then-not-is_untidy c =
-    -- The record at the head of a turn, and the request.
-    let hub : Hub =
-    of_parts c.args.opening c.loop-i.figures c.loop-i.ring c.loop-i.slots c.loop-i.pool in
-    let bytes : List ℕ =
-    c.args.requests.now in
-    let width : ℕ =
-    reply_size (form_of c.args.form) in
-    let code : ℕ =
-    c.admit_at-a.result.code in
-    let party : ℕ =
-    c.admit_at-a.result.party in
-    -- The call is admitted.
-    let pass : Admitted code party hub.control.opening.parties × (request_at bytes (2 * c.loop-i.i) ≡ request_for code party) =
-    is-admitted _ _ _ _ c.admit_at-a.ensures (not-false _ c.if-not-a.false) in
-    -- What the code read for it.
-    let place_index : ℕ =
-    c.seat_index-t.result in
-    let seat : PlaceSlot =
-    get_or hub.places place_index empty_seat in
-    let near : PartySlot =
-    get_or c.loop-i.slots (c.waiter_at-q.result % PARTIES) free_slot in
-    let waiter : PartySlot =
-    waiter_by seat near in
-    let index : place_index ≡ ticket_of (read_slot hub.slots party).phase % PLACES =
-    c.seat_index-t.ensures in
-    let reading : Reads hub party seat c.waiter_at-q.result waiter =
-    reads hub party _ index _ _
+-- Once `is_untidy` has answered, a turn ends in one of two ways: there is nothing to tidy, or
+-- `reclaim` tidies. What holds before they part is said here once, of that place in the code, and
+-- both cite it.
+
+-- The record at the head of a turn, and the request.
+abbrev hub : After-is_untidy → Hub
+hub c = of_parts c.args.opening c.loop-i.figures c.loop-i.ring c.loop-i.slots c.loop-i.pool
+
+abbrev hub₀ : After-is_untidy → Hub
+hub₀ c = let a = c.args in of_parts a.opening a.figures a.ring a.slots a.pool
+
+abbrev bytes : After-is_untidy → List ℕ
+bytes c = c.args.requests.now
+
+abbrev code : After-is_untidy → ℕ
+code c = c.admit_at-a.result.code
+
+abbrev party : After-is_untidy → ℕ
+party c = c.admit_at-a.result.party
+
+-- The call is admitted.
+pass : (c : After-is_untidy)
+    → Admitted (code c) (party c) (hub c).control.opening.parties
+    × (request_at (bytes c) (2 * c.loop-i.i) ≡ request_for (code c) (party c))
+pass c = is-admitted _ _ _ _ c.admit_at-a.ensures (not-false _ c.if-not-a.false)
+
+-- What the code read for it is what the party sees.
+abbrev place_index : After-is_untidy → ℕ
+place_index c = c.seat_index-t.result
+
+abbrev seat : After-is_untidy → PlaceSlot
+seat c = get_or (hub c).places (place_index c) empty_seat
+
+abbrev near : After-is_untidy → PartySlot
+near c = get_or c.loop-i.slots (c.waiter_at-q.result % PARTIES) free_slot
+
+abbrev waiter : After-is_untidy → PartySlot
+waiter c = waiter_by (seat c) (near c)
+
+index : (c : After-is_untidy) → place_index c ≡ ticket_of (read_slot (hub c).slots (party c)).phase % PLACES
+unfolding read_slot
+index c = c.seat_index-t.ensures
+
+reading : (c : After-is_untidy) → Reads (hub c) (party c) (seat c) c.waiter_at-q.result (waiter c)
+unfolding read_slot
+reading c =
+    reads (hub c) (party c) _ (index c) _ _
     c.loop-i.invariant.1 c.waiter_at-q.ensures
-    (ap (λ (q : ℕ). cond (ltb q PARTIES) near free_slot) (sym c.waiter_at-q.ensures)) in
-    -- The effect is that of the call.
-    let op : Op =
-    op_of code in
-    let full : Bool =
-    is_full c.loop-i.ring.oldest c.loop-i.figures.issued c.loop-i.slots in
-    let sight : Sight =
-    sight_of hub party seat waiter in
-    let effect_is : c.decide_for-e.result ≡ effect_of (decide op full sight) sight =
-    effect-asked op full _ sight _ c.decide_for-e.ensures
-    c.full_by-full.ensures in
-    let move : Move =
-    decide op full (look hub party) in
-    -- What the call leaves.
-    let leaving : Hub =
-    with_pool (radios_after hub party (answer_of move))
-    (apply hub (look hub party) move) in
-    let answered : respond hub (request_at bytes (2 * c.loop-i.i)) ≡ record { reply = record { party = party; answer = printed (answer_of move) }; hub = leaving } =
-    ap (respond hub) pass.1
-    ∙ call-response _ _ _ c.loop-i.invariant.0.reachable pass.0 in
-    -- The effect, and the record that the tidying starts from.
-    let effect : Effect =
-    c.decide_for-e.result in
-    let untidied : Hub =
-    of_fields (set c.loop-i.ring.places place_index effect.seat)
-    (write_slot c.if-woken-lt32.slots party effect.slot)
-    (control_of hub.control.opening effect.figures c.loop-i.ring.oldest c.if-opening.pool) in
-    let woken-slots : c.if-woken-lt32.slots ≡ write_slot c.loop-i.slots effect.woken effect.waiter =
+    (ap (λ (q : ℕ). cond (ltb q PARTIES) (near c) free_slot) (sym c.waiter_at-q.ensures))
+
+-- The effect is that of the call.
+abbrev op : After-is_untidy → Op
+op c = op_of (code c)
+
+abbrev full : After-is_untidy → Bool
+full c = is_full c.loop-i.ring.oldest c.loop-i.figures.issued c.loop-i.slots
+
+abbrev sight : After-is_untidy → Sight
+sight c = sight_of (hub c) (party c) (seat c) (waiter c)
+
+abbrev effect : After-is_untidy → Effect
+effect c = c.decide_for-e.result
+
+effect_is : (c : After-is_untidy) → effect c ≡ effect_of (decide (op c) (full c) (sight c)) (sight c)
+unfolding read_slot kind_in hand_of
+effect_is c = effect-asked (op c) (full c) _ (sight c) _ c.decide_for-e.ensures c.full_by-full.ensures
+
+turns-most : (c : After-is_untidy) → (effect c).turns ≤ 256
+turns-most c = few-turns (decide (op c) (full c) (sight c)) (sight c) (effect c) (effect_is c)
+
+-- What the call answers, and the record that it leaves.
+abbrev move : After-is_untidy → Move
+move c = decide (op c) (full c) (look (hub c) (party c))
+
+abbrev leaving : After-is_untidy → Hub
+leaving c =
+    with_pool (radios_after (hub c) (party c) (answer_of (move c)))
+    (apply (hub c) (look (hub c) (party c)) (move c))
+
+answered : (c : After-is_untidy)
+    → respond (hub c) (request_at (bytes c) (2 * c.loop-i.i))
+    ≡ record {
+      reply = record { party = party c; answer = printed (answer_of (move c)) };
+      hub = leaving c;
+    }
+answered c =
+    ap (respond (hub c)) (pass c).1
+    ∙ call-response _ _ _ c.loop-i.invariant.0.reachable (pass c).0
+
+-- The record that the tidying starts from.
+abbrev untidied : After-is_untidy → Hub
+untidied c =
+    of_fields (set c.loop-i.ring.places (place_index c) (effect c).seat)
+    (write_slot c.if-woken-lt32.slots (party c) (effect c).slot)
+    (control_of (hub c).control.opening (effect c).figures c.loop-i.ring.oldest c.if-opening.pool)
+
+woken-slots : (c : After-is_untidy)
+    → c.if-woken-lt32.slots ≡ write_slot c.loop-i.slots (effect c).woken (effect c).waiter
+unfolding write_slot
+woken-slots c =
     elim c.if-woken-lt32.branch [
       | then-woken-lt32 w ↦ w.slots-is
-      | else-woken-lt32 w ↦ w.slots-is
-          ∙ nobody c.loop-i.slots effect.woken effect.waiter (omega (arith, c.loop-i.invariant.1, w.if-woken-lt32.false))
-    ] in
-    -- The answer moved a radio, on a hub with radios.
-    let moved-pool : c.if-opening.pool ≡ radios_after hub party effect.answer =
+      | else-woken-lt32 w ↦
+          w.slots-is
+          ∙ nobody c.loop-i.slots (effect c).woken (effect c).waiter
+          (omega (arith, c.loop-i.invariant.1, w.if-woken-lt32.false))
+    ]
+
+-- The answer moved a radio, on a hub with radios.
+moved-pool : (c : After-is_untidy) → c.if-opening.pool ≡ radios_after (hub c) (party c) (effect c).answer
+moved-pool c =
     elim c.if-opening.branch [
       | then-opening w ↦ with-radios _ _ _ _ _ w.if-opening.true (w.pool-is ∙ w.radios_after-pool.ensures)
       | else-opening w ↦ w.pool-is ∙ without-radios _ _ _ _ w.if-opening.false
-    ] in
-    -- What is left, once it is tidied, is what the call leaves.
-    let leaves : (u : Hub) → u ≡ tidied_by effect.turns untidied → u ≡ leaving =
-    λ u e. e
-    ∙ ap (λ (g : Hub). tidied_by effect.turns (with_pool untidied.control.pool g))
-    (stores hub party _ index effect _ woken-slots)
-    ∙ left _ _ _ _ _ reading op effect effect_is untidied.control.pool moved-pool in
-    -- The slots stay as many.
-    let still-32 : length untidied.slots ≡ 32 =
-    still c.loop-i.slots _ effect.woken party effect.waiter effect.slot
-    woken-slots
-    ∙ c.loop-i.invariant.1 in
-    -- What was written is what the call answers.
-    let replied-with : c.put_answer.new.out ≡ with_reply (form_of c.args.form) (width * c.loop-i.i) (frame_of party (printed (answer_of move))) c.loop-i.out =
+    ]
+
+-- What is left, once it is tidied, is what the call leaves.
+leaves : (c : After-is_untidy) (u : Hub) → u ≡ tidied_by (effect c).turns (untidied c) → u ≡ leaving c
+unfolding read_slot
+leaves c u e =
+    e
+    ∙ ap (λ (g : Hub). tidied_by (effect c).turns (with_pool (untidied c).control.pool g))
+    (stores (hub c) (party c) _ (index c) (effect c) _ (woken-slots c))
+    ∙ left _ _ _ _ _ (reading c) (op c) (effect c) (effect_is c) (untidied c).control.pool (moved-pool c)
+
+-- The slots stay as many.
+still-32 : (c : After-is_untidy) → length (untidied c).slots ≡ 32
+still-32 c =
+    still c.loop-i.slots _ (effect c).woken (party c) (effect c).waiter (effect c).slot (woken-slots c)
+    ∙ c.loop-i.invariant.1
+
+-- What was written is what the call answers.
+abbrev with_answer : After-is_untidy → Answer → List ℕ
+with_answer c a =
+    let form = form_of c.args.form in
+    with_reply form (reply_size form * c.loop-i.i) (frame_of (party c) (printed a)) c.loop-i.out
+
+replied-with : (c : After-is_untidy) → c.put_answer.new.out ≡ with_answer c (answer_of (move c))
+replied-with c =
     c.put_answer.ensures
-    ∙ ap (λ (a : Answer). with_reply (form_of c.args.form) (width * c.loop-i.i)
-    (frame_of party (printed a)) c.loop-i.out)
-    (said _ _ _ _ _ reading op effect effect_is) in
-    -- One more request is answered: its reply is written, and u is the record that is left.
-    let one_more : (u : Hub) → u ≡ tidied_by effect.turns untidied → let a = c.args in Upto (form_of a.form) (of_parts a.opening a.figures a.ring a.slots a.pool) a.count bytes a.out.now u c.put_answer.new.out (c.loop-i.i + 1) =
-    λ u e. responded _ _ _ _ _ _ _ _ c.loop-i.invariant.0 c.loop-i-test.true _ _ _
-    answered replied-with (leaves u e) in
+    ∙ ap (with_answer c) (said _ _ _ _ _ (reading c) (op c) (effect c) (effect_is c))
+
+-- One more request is answered: its reply is written, and u is the record that is left.
+one_more : (c : After-is_untidy) (u : Hub) → u ≡ tidied_by (effect c).turns (untidied c)
+    → Upto (form_of c.args.form) (hub₀ c) c.args.count (bytes c) c.args.out.now u c.put_answer.new.out
+    (c.loop-i.i + 1)
+one_more c u e =
+    responded _ _ _ _ _ _ _ _ c.loop-i.invariant.0 c.loop-i-test.true _ _ _
+    (answered c) (replied-with c) (leaves c u e)
+
+pub loop-i-preserved-then-not-is_untidy : goal.loop-i-preserved-then-not-is_untidy
+unfolding read_seat write_slot
+loop-i-preserved-then-not-is_untidy c =
+    let s = (goal.at.loop-i-preserved-then-not-is_untidy c).After-is_untidy in
     let nothing =
-    tidy effect.turns (ring_of untidied) (sym c.is_untidy.ensures ∙ c.if-not-is_untidy.true) in
-    (one_more _ (ap (with_ring untidied) nothing), still-32)
+    tidy (effect s).turns (ring_of (untidied s)) (sym s.is_untidy.ensures ∙ c.if-not-is_untidy.true) in
+    (one_more s _ (ap (with_ring (untidied s)) nothing), still-32 s)
 
 pub reclaim-ring-requires : goal.reclaim-ring-requires
-unfolding read_slot kind_in hand_of
 reclaim-ring-requires c =
-    -- The record at the head of a turn, and the request.
-    let hub : Hub =
-    of_parts c.args.opening c.loop-i.figures c.loop-i.ring c.loop-i.slots c.loop-i.pool in
-    let bytes : List ℕ =
-    c.args.requests.now in
-    let code : ℕ =
-    c.admit_at-a.result.code in
-    let party : ℕ =
-    c.admit_at-a.result.party in
-    -- The call is admitted.
-    let pass : Admitted code party hub.control.opening.parties × (request_at bytes (2 * c.loop-i.i) ≡ request_for code party) =
-    is-admitted _ _ _ _ c.admit_at-a.ensures (not-false _ c.if-not-a.false) in
-    let admitted : LetIn hub party =
-    let-in _ _ _ c.loop-i.invariant.0.reachable pass.0 in
-    -- What the code read for it.
-    let place_index : ℕ =
-    c.seat_index-t.result in
-    let seat : PlaceSlot =
-    get_or hub.places place_index empty_seat in
-    let near : PartySlot =
-    get_or c.loop-i.slots (c.waiter_at-q.result % PARTIES) free_slot in
-    let waiter : PartySlot =
-    waiter_by seat near in
-    -- The effect is that of the call.
-    let op : Op =
-    op_of code in
-    let full : Bool =
-    is_full c.loop-i.ring.oldest c.loop-i.figures.issued c.loop-i.slots in
-    let sight : Sight =
-    sight_of hub party seat waiter in
-    let effect_is : c.decide_for-e.result ≡ effect_of (decide op full sight) sight =
-    effect-asked op full _ sight _ c.decide_for-e.ensures
-    c.full_by-full.ensures in
-    let low : c.loop-i.ring.oldest ≤ 1000000 =
-    omega (arith, admitted.counts.oldest) in
-    let turns-most : c.decide_for-e.result.turns ≤ 256 =
-    let s = sight in
-    few-turns (decide op full s) s c.decide_for-e.result effect_is in
-    (low, turns-most)
+    let s = (goal.at.reclaim-ring-requires c).After-is_untidy in
+    let admitted = let-in _ _ _ s.loop-i.invariant.0.reachable (pass s).0 in
+    (admitted.counts.oldest, turns-most s)
 
 pub loop-i-preserved : goal.loop-i-preserved
-unfolding read_slot write_slot kind_in hand_of
+unfolding write_slot
 loop-i-preserved c =
-    -- The record at the head of a turn, and the request.
-    let hub : Hub =
-    of_parts c.args.opening c.loop-i.figures c.loop-i.ring c.loop-i.slots c.loop-i.pool in
-    let bytes : List ℕ =
-    c.args.requests.now in
-    let width : ℕ =
-    reply_size (form_of c.args.form) in
-    let code : ℕ =
-    c.admit_at-a.result.code in
-    let party : ℕ =
-    c.admit_at-a.result.party in
-    -- The call is admitted.
-    let pass : Admitted code party hub.control.opening.parties × (request_at bytes (2 * c.loop-i.i) ≡ request_for code party) =
-    is-admitted _ _ _ _ c.admit_at-a.ensures (not-false _ c.if-not-a.false) in
-    -- What the code read for it.
-    let place_index : ℕ =
-    c.seat_index-t.result in
-    let seat : PlaceSlot =
-    get_or hub.places place_index empty_seat in
-    let near : PartySlot =
-    get_or c.loop-i.slots (c.waiter_at-q.result % PARTIES) free_slot in
-    let waiter : PartySlot =
-    waiter_by seat near in
-    let index : place_index ≡ ticket_of (read_slot hub.slots party).phase % PLACES =
-    c.seat_index-t.ensures in
-    let reading : Reads hub party seat c.waiter_at-q.result waiter =
-    reads hub party _ index _ _
-    c.loop-i.invariant.1 c.waiter_at-q.ensures
-    (ap (λ (q : ℕ). cond (ltb q PARTIES) near free_slot) (sym c.waiter_at-q.ensures)) in
-    -- The effect is that of the call.
-    let op : Op =
-    op_of code in
-    let full : Bool =
-    is_full c.loop-i.ring.oldest c.loop-i.figures.issued c.loop-i.slots in
-    let sight : Sight =
-    sight_of hub party seat waiter in
-    let effect_is : c.decide_for-e.result ≡ effect_of (decide op full sight) sight =
-    effect-asked op full _ sight _ c.decide_for-e.ensures
-    c.full_by-full.ensures in
-    let move : Move =
-    decide op full (look hub party) in
-    -- What the call leaves.
-    let leaving : Hub =
-    with_pool (radios_after hub party (answer_of move))
-    (apply hub (look hub party) move) in
-    let answered : respond hub (request_at bytes (2 * c.loop-i.i)) ≡ record { reply = record { party = party; answer = printed (answer_of move) }; hub = leaving } =
-    ap (respond hub) pass.1
-    ∙ call-response _ _ _ c.loop-i.invariant.0.reachable pass.0 in
-    -- The effect, and the record that the tidying starts from.
-    let effect : Effect =
-    c.decide_for-e.result in
-    let untidied : Hub =
-    of_fields (set c.loop-i.ring.places place_index effect.seat)
-    (write_slot c.if-woken-lt32.slots party effect.slot)
-    (control_of hub.control.opening effect.figures c.loop-i.ring.oldest c.if-opening.pool) in
-    let woken-slots : c.if-woken-lt32.slots ≡ write_slot c.loop-i.slots effect.woken effect.waiter =
-    elim c.if-woken-lt32.branch [
-      | then-woken-lt32 w ↦ w.slots-is
-      | else-woken-lt32 w ↦ w.slots-is
-          ∙ nobody c.loop-i.slots effect.woken effect.waiter (omega (arith, c.loop-i.invariant.1, w.if-woken-lt32.false))
-    ] in
-    -- The answer moved a radio, on a hub with radios.
-    let moved-pool : c.if-opening.pool ≡ radios_after hub party effect.answer =
-    elim c.if-opening.branch [
-      | then-opening w ↦ with-radios _ _ _ _ _ w.if-opening.true (w.pool-is ∙ w.radios_after-pool.ensures)
-      | else-opening w ↦ w.pool-is ∙ without-radios _ _ _ _ w.if-opening.false
-    ] in
-    -- What is left, once it is tidied, is what the call leaves.
-    let leaves : (u : Hub) → u ≡ tidied_by effect.turns untidied → u ≡ leaving =
-    λ u e. e
-    ∙ ap (λ (g : Hub). tidied_by effect.turns (with_pool untidied.control.pool g))
-    (stores hub party _ index effect _ woken-slots)
-    ∙ left _ _ _ _ _ reading op effect effect_is untidied.control.pool moved-pool in
-    -- The slots stay as many.
-    let still-32 : length untidied.slots ≡ 32 =
-    still c.loop-i.slots _ effect.woken party effect.waiter effect.slot
-    woken-slots
-    ∙ c.loop-i.invariant.1 in
-    -- What was written is what the call answers.
-    let replied-with : c.put_answer.new.out ≡ with_reply (form_of c.args.form) (width * c.loop-i.i) (frame_of party (printed (answer_of move))) c.loop-i.out =
-    c.put_answer.ensures
-    ∙ ap (λ (a : Answer). with_reply (form_of c.args.form) (width * c.loop-i.i)
-    (frame_of party (printed a)) c.loop-i.out)
-    (said _ _ _ _ _ reading op effect effect_is) in
-    -- One more request is answered: its reply is written, and u is the record that is left.
-    let one_more : (u : Hub) → u ≡ tidied_by effect.turns untidied → let a = c.args in Upto (form_of a.form) (of_parts a.opening a.figures a.ring a.slots a.pool) a.count bytes a.out.now u c.put_answer.new.out (c.loop-i.i + 1) =
-    λ u e. responded _ _ _ _ _ _ _ _ c.loop-i.invariant.0 c.loop-i-test.true _ _ _
-    answered replied-with (leaves u e) in
-    (one_more _ (ap (with_ring untidied) c.reclaim-ring.ensures), still-32)
+    let s = (goal.at.loop-i-preserved c).After-is_untidy in
+    (one_more s _ (ap (with_ring (untidied s)) c.reclaim-ring.ensures), still-32 s)
 
 pub returns : goal.returns
 returns c =
