@@ -1,34 +1,47 @@
 -- The links counted over a schedule's lines are its 26 and 27 lines and the holders at its end: the
 -- ledger of the third demand counts the same, and what it has given and not taken is held.
-use Prim.Native.Nat.{ℕ, ◌+◌, ◌≤◌, ◌<◌}
-use mathlib.Core.Path.{◌≡◌, refl, ap, ◌∙◌}
+use Prim.Native.Nat.{ℕ, ◌+◌, ◌*◌, ◌/◌, ◌≤◌, ◌<◌}
+use mathlib.Core.Path.{◌≡◌, refl, sym, ap, subst, ◌∙◌}
 use mathlib.Core.Bool.{Bool, true, false, cond, ◌&&◌, ◌||◌}
 use mathlib.Core.List.{List, [], ◌∷◌, map}
 use native.Mathlib.Omega.{arith}
 use borrow.Author.Tests.{le-ltb, eqb-true, ltb-true}
-use lib.Dec.{eqb, ltb}
+use lib.Dec.{eqb, leb, ltb}
+use lib.ListN.{length, take, drop}
+use lib.Seq.{take_at}
 use Rattle.hub.specs.declared.answers.Answer.{Answer}
 use Rattle.hub.specs.declared.moves.Call.{Call}
 use Rattle.hub.specs.declared.opening.Opening.{Opening}
+use Rattle.hub.specs.declared.record.Hub.{Hub}
+use Rattle.hub.specs.declared.record.Outcome.{Outcome}
 use Rattle.hub.specs.declared.record.Phase.{Phase}
+use Rattle.hub.specs.Answers.{printed, refusal_code}
 use Rattle.hub.specs.Basics.{among, bit, count, weight}
+use Rattle.hub.specs.Calls.{called}
 use Rattle.hub.specs.Demand3.{Demand3}
 use Rattle.hub.specs.Ledger.{opened}
-use Rattle.hub.specs.Opening.{fresh, opening}
+use Rattle.hub.specs.Opening.{fresh, opening, tests}
 use Rattle.hub.specs.Phases.{is_one_of, holds}
 use Rattle.hub.specs.Record.{PARTIES, phases_of}
-use Rattle.hub.specs.Schedule.{entries}
+use Rattle.hub.specs.Schedule.{entries, run}
 use Rattle.hub.proofs.Demand3.{in-range, demand3}
 use Rattle.hub.proofs.Laws.Bools.{first, second}
 use Rattle.hub.proofs.Laws.Lists.{weight-map, weight-replicate}
+use Rattle.hub.proofs.Laws.Opening.{Ends, ends, opened as accepted, refused}
+use Rattle.hub.proofs.Laws.Printed.{no-refusal}
 use Rattle.encoding.specs.Form.{as_bytes}
+use Rattle.encoding.specs.Frame.{is_call, op_of}
 use Rattle.line.specs.Program.{unopened, Reply, reply_of, replies, rendered, lines_of}
-use Rattle.line.specs.Requests.{request_of}
+use Rattle.line.specs.Requests.{request_of, to_open}
+use Rattle.run.specs.Bytes.{calls_of, frames_of, well_formed}
+use Rattle.run.specs.Run.{OwnNumbers, end_if, framed_run, written}
+use Rattle.run.specs.declared.Ran.{Ran}
+use Rattle.run.proofs.Numbers.{own-numbers}
 use Rattle.outputs.specs.Schedule.{Schedule, unstarted, started, replies_of, left_by, Holds, schedule_of}
 use Rattle.outputs.specs.Schedule.{left_out, left_out_codes, kept, EveryInput}
 use Rattle.outputs.proofs.Laws.Every.{every-input}
-use Rattle.billing.specs.Counting.{receiver_of}
-use Rattle.billing.specs.Promises.{parties_of, Balanced, EverySchedule, EveryOutput}
+use Rattle.billing.specs.Counting.{grants_of, receiver_of, sum}
+use Rattle.billing.specs.Promises.{parties_of, Balanced, EveryOutput, EveryRun, EverySchedule, returns}
 use Rattle.billing.proofs.Laws.Counting.{to-nobody}
 use Rattle.billing.proofs.Laws.Holders.{start, all-given, all-returned, takes_low}
 use Rattle.billing.proofs.Laws.Lines.{worth_of, tally-replies, granting, returning, grants-tally}
@@ -58,9 +71,10 @@ module _ (o : Opening) (a : (opening o).answer ≡ Answer.Opened) (cs : List Cal
   abbrev s : Schedule
   s = started o cs
 
-  even : Even s (replies_of s)
-  unfolding weight receiver_of Demand3
-  even =
+  -- Without the line of the opening.
+  even-calls : Even s (map reply_of (entries (opening o).hub cs))
+  unfolding Demand3
+  even-calls =
       let h = (opening o).hub in
       let d = demand3 o a cs in
       omega (
@@ -69,11 +83,15 @@ module _ (o : Opening) (a : (opening o).answer ≡ Answer.Opened) (cs : List Cal
         all-returned (opened o) (entries h cs),
         weight-map (worth_of (granting o.parties)) reply_of (entries h cs),
         weight-map (worth_of returning) reply_of (entries h cs),
-        bit-false (le-ltb 0xFF o.parties (omega (arith, (in-range o a).parties.1))),
         d.holders,
         d.held_whole,
         ap (count holds) d.phases,
       )
+
+  -- The line of the opening gives nobody a link.
+  even : Even s (replies_of s)
+  unfolding weight receiver_of
+  even = omega (arith, even-calls, bit-false (le-ltb 0xFF o.parties (omega (arith, (in-range o a).parties.1))))
 
 pub every-schedule : EverySchedule
 unfolding EverySchedule
@@ -142,3 +160,42 @@ every-output input =
       k (worth_of returning),
       even-kept s f.2,
     ))
+
+-- A run writes seven bytes for each call.
+frames-length : (calls : List ℕ) (h : Hub) → length (frames_of h (calls_of calls)) ≡ 7 * (length calls / 2)
+unfolding calls_of entries rendered
+frames-length [] h = refl
+frames-length (c ∷ []) h = refl
+frames-length (c ∷ p ∷ l) h = omega (arith, frames-length l (called h (record { op = op_of c; party = p })).hub)
+
+-- A run that is done was opened, and left what it writes.
+done-opened : (o : Opening) (b : Bool) (x : Outcome) → Ends o b x → (w m : Bool) (out done : List ℕ)
+    → let c = (printed x.answer).code in
+    (end_if (eqb c 0x1F) w m c out done).result ≡ 0
+    → (x.answer ≡ Answer.Opened) × ((end_if (eqb c 0x1F) w m c out done).out ≡ done)
+unfolding end_if OwnNumbers
+done-opened o false x (refused r) w m out done e =
+    let n : refusal_code r ≡ 0 = rw (no-refusal r 0x1F (omega arith)) at e in
+    let z : Ran.NotOpened r ≡ Ran.Done = own-numbers (Ran.NotOpened r) Ran.Done n in
+    let y : ◌≡◌ {A = ℕ} 0 1 = cc in let v : ⊥ = omega arith in absurd v
+done-opened o true x accepted false m out done e = absurd (omega (arith, e))
+done-opened o true x accepted true false out done e = absurd (omega (arith, e))
+done-opened o true x accepted true true out done e = (refl, refl)
+
+pub every-run : EveryRun
+unfolding EveryRun
+every-run o calls out e =
+    let h = (opening o).hub in
+    let rest = drop (7 * (length calls / 2)) out in
+    let d =
+    done-opened o _ _ (ends o (tests o)) (well_formed is_call calls) (leb (length calls / 2) (length out / 7)) out
+    (written h calls out) e in
+    let same : take (7 * (length calls / 2)) (framed_run (to_open o) calls out).out ≡ frames_of h (calls_of calls) =
+    ap (take (7 * (length calls / 2))) d.1
+    ∙ take_at (frames_of h (calls_of calls)) rest (7 * (length calls / 2)) (frames-length calls h) in
+    subst
+    (λ (l : List ℕ). sum (grants_of l) o.parties
+    ≡ returns l + count holds (phases_of (run h (calls_of calls)).slots))
+    (sym same)
+    (in_bytes_lem (started o (calls_of calls)) (map reply_of (entries h (calls_of calls)))
+    (even-calls o d.0 (calls_of calls)))

@@ -1,5 +1,5 @@
--- What holds of every bill, and of the lines of every schedule.
-use Rattle.std.specs.Prelude.{ℕ, ◌+◌, ◌*◌, ◌≤◌, ◌<◌, ◌≡◌, Bool, List, [], ◌∷◌, map}
+-- What holds of every bill, of the lines of every schedule, and of the bytes of every run.
+use Rattle.std.specs.Prelude.{ℕ, ◌+◌, ◌*◌, ◌/◌, ◌≤◌, ◌<◌, ◌≡◌, Bool, List, [], ◌∷◌, length, map, take}
 use Rattle.hub.specs.declared.answers.Answer.{Answer}
 use Rattle.hub.specs.declared.moves.Call.{Call}
 use Rattle.hub.specs.declared.opening.Opening.{Opening}
@@ -7,9 +7,12 @@ use Rattle.hub.specs.Basics.{among, count}
 use Rattle.hub.specs.Opening.{opening}
 use Rattle.hub.specs.Phases.{holds}
 use Rattle.hub.specs.Record.{phases_of}
+use Rattle.hub.specs.Schedule.{run}
 use Rattle.encoding.specs.Form.{as_bytes}
 use Rattle.line.specs.Program.{unopened, Reply, replies, rendered, lines_of}
-use Rattle.line.specs.Requests.{request_of}
+use Rattle.line.specs.Requests.{request_of, to_open}
+use Rattle.run.specs.Bytes.{calls_of}
+use Rattle.run.specs.Run.{framed_run}
 use Rattle.outputs.specs.Schedule.{Schedule, unstarted, started, replies_of, left_by, schedule_of}
 use Rattle.billing.specs.declared.Terms.{Terms}
 use Rattle.billing.specs.Counting.{sum, count_below, lines_in, code_at, grants_of}
@@ -55,3 +58,13 @@ EveryOutput =
     (input : List ℕ)
     → let rs = map request_of (lines_of input) in
     Balanced (schedule_of rs) (replies unopened rs)
+
+-- And of the bytes that `hub_run` writes, seven for each call: the run is done, so that its opening was accepted.
+unfoldable pub EveryRun : Type 0
+EveryRun =
+    (o : Opening) (calls out : List ℕ)
+    → let e = framed_run (to_open o) calls out in
+    e.result ≡ 0
+    → let l = take (7 * (length calls / 2)) e.out in
+    sum (grants_of l) o.parties
+    ≡ returns l + count holds (phases_of (run (opening o).hub (calls_of calls)).slots)

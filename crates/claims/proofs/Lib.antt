@@ -1,3 +1,4 @@
 -- Why they hold.
 pub mod EarlyCancel
 pub mod LeavesRecord
+pub mod FilledInOrder

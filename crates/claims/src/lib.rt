@@ -1,3 +1,3 @@
-// Two claims over every record: there is no code here, only what is claimed, and why it holds.
+// Claims of calls and openings: there is no code here, only what is claimed, and why it holds.
 
 #![tactic(auto)]
