@@ -8,6 +8,7 @@ use crate::record::{Latch, LatchFigures, LatchSlot};
 use hub::record::Phase;
 use hub::slots::empty_seat;
 use openhub::up_to_32;
+use phases::slot::Slot;
 
 #[derive(Clone, Copy)]
 pub enum Start {
@@ -30,6 +31,20 @@ pub fn free_slot() -> LatchSlot
         phase: Phase::Free,
         raising: false,
         left: 0,
+    }
+}
+
+impl Slot for LatchSlot {
+    ghost phase_of = { λ s. s.phase };
+
+    ghost nobody = { free_slot };
+
+    fn phase(&self) -> Phase {
+        self.phase
+    }
+
+    fn free() -> LatchSlot {
+        free_slot()
     }
 }
 

@@ -2,6 +2,8 @@
 
 #![tactic(auto)]
 
+pub mod slot; // what a record keeps of a party
+
 ghost use Rattle.std.specs.Prelude.{◌≡◌, true, false};
 ghost use Rattle.hub.specs.Phases.{at_rest, by_ticket, has_radio, of_radios, place_rank, ticket_of};
 
