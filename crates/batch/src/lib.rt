@@ -5,7 +5,7 @@
 #![tactic(auto)]
 
 ghost use Rattle.std.specs.Prelude.{◌≡◌, ◌*◌, ◌≤◌, length};
-ghost use Rattle.encoding.specs.Form.{form_of, reply_size};
+ghost use Rattle.encoding.specs.Form.{reply_size};
 ghost use Rattle.encoding.specs.Tables.{Pairs};
 ghost use Rattle.line.specs.Program.{after};
 ghost use Rattle.batch.specs.Batch.{Reachable, of_parts, replied, requests_in};
@@ -17,6 +17,7 @@ use hub::record::{Figures, Hub, PartySlot, Pool};
 use ring::{PlaceRing, reclaim};
 use transition::sight::{seat_index, waiter_at};
 use transition::tidy::is_untidy;
+use writer::form::Form;
 
 // What the requests leave of a record; its opening stays as it was.
 #[derive(Clone, Copy)]
@@ -29,7 +30,7 @@ pub struct Parts {
 
 // Answers the first `count` requests, of two bytes each, in a form. A record's parts are its
 // parameters, so that nothing but the loop is in the function, which is dear to prove.
-pub fn answer_in_turn(
+pub fn answer_in_turn<F: Form>(
     opening: Opening,
     mut figures: Figures,
     mut ring: PlaceRing,
@@ -38,17 +39,16 @@ pub fn answer_in_turn(
     pairs: &[u16; 256],
     requests: &[u8],
     count: usize,
-    form: bool,
     out: &mut [u8],
 ) -> Parts
     requires reachable { Reachable (of_parts opening figures ring slots pool) }
     requires pairs { Pairs pairs.now }
     requires count_in_bounds { 2 * count ≤ length requests.now }
-    requires count_in_bounds_2 { reply_size (form_of form) * count ≤ length out.old }
+    requires count_in_bounds_2 { reply_size F.form * count ≤ length out.old }
     ensures { (of_parts opening result.figures result.ring result.slots result.pool
         ≡ after (of_parts opening figures ring slots pool) (requests_in count requests.now))
         × (out.new
-        ≡ replied (form_of form) (of_parts opening figures ring slots pool) count requests.now
+        ≡ replied F.form (of_parts opening figures ring slots pool) count requests.now
         out.old) }
 {
     let kinds = opening.kinds;
@@ -56,7 +56,7 @@ pub fn answer_in_turn(
     while i < count {
         let a = admit_at(requests, i, opening.parties);
         if !a.admitted {
-            put_refusal(pairs, out, i, form, a);
+            put_refusal::<F>(pairs, out, i, a);
             i += 1;
             continue;
         }
@@ -90,7 +90,7 @@ pub fn answer_in_turn(
         figures = e.figures;
         let put = e.seat;
         ring.places[t] = put;
-        put_answer(pairs, out, i, form, party, e);
+        put_answer::<F>(pairs, out, i, party, e);
         i += 1;
         if opening.named {
             pool = radios_after(e, party, pool);

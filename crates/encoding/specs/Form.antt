@@ -1,16 +1,11 @@
 -- The two forms in which a reply is written: the program's are lines of text, those of a list of
 -- calls bytes.
-use Rattle.std.specs.Prelude.{ℕ, Bool, true, false, List}
+use Rattle.std.specs.Prelude.{ℕ, List}
 use Rattle.encoding.specs.Hex.{text_of}
 
 pub data Form : Type 0 where
   as_text : Form
   as_bytes : Form
-
--- The code says it by a bool, TEXT or BYTES.
-abbrev pub form_of : Bool → Form
-form_of true = as_text
-form_of false = as_bytes
 
 abbrev pub reply_size : Form → ℕ
 reply_size as_text = 15

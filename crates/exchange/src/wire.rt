@@ -2,7 +2,7 @@
 
 ghost use Rattle.std.specs.Prelude.{◌≡◌, ◌+◌, ◌*◌, ◌≤◌, length, slice_index};
 ghost use Rattle.hub.specs.Answers.{plain, printed};
-ghost use Rattle.encoding.specs.Form.{form_of, reply_size};
+ghost use Rattle.encoding.specs.Form.{reply_size};
 ghost use Rattle.encoding.specs.Frame.{frame_of, paper};
 ghost use Rattle.encoding.specs.Tables.{Pairs};
 ghost use Rattle.exchange.specs.Admission.{admission_of};
@@ -11,7 +11,7 @@ ghost use Rattle.exchange.specs.Wire.{with_reply};
 use crate::admission::{Admission, admit};
 use effects::effect::Effect;
 use encoding::answer::{Print, plain, print_of};
-use writer::form::{put_reply, reply_size};
+use writer::form::Form;
 
 // The code of request i.
 pub fn code_at(requests: &[u8], i: usize) -> u8
@@ -39,37 +39,34 @@ pub fn admit_at(requests: &[u8], i: usize, parties: u8) -> Admission
 }
 
 // The reply to request i, behind those before it.
-fn put_reply_at(pairs: &[u16; 256], out: &mut [u8], i: usize, form: bool, party: u8, print: Print)
+fn put_reply_at<F: Form>(pairs: &[u16; 256], out: &mut [u8], i: usize, party: u8, print: Print)
     requires pairs { Pairs pairs.now }
-    requires form_in_bounds { reply_size (form_of form) * i + reply_size (form_of form) ≤ length out.old }
+    requires form_in_bounds { reply_size F.form * i + reply_size F.form ≤ length out.old }
     ensures { out.new
-        ≡ with_reply (form_of form) (reply_size (form_of form) * i) (frame_of party (paper print)) out.old }
+        ≡ with_reply F.form (reply_size F.form * i) (frame_of party (paper print)) out.old }
 {
-    let width = reply_size(form);
-    let at = width * i;
-    let end = at + width;
-    put_reply(pairs, &mut out[at..end], form, party, print);
+    let at = F::SIZE * i;
+    F::put_reply(pairs, &mut out[at..at + F::SIZE], party, print);
 }
 
 // What a request is answered that was not admitted.
-pub fn put_refusal(pairs: &[u16; 256], out: &mut [u8], i: usize, form: bool, a: Admission)
+pub fn put_refusal<F: Form>(pairs: &[u16; 256], out: &mut [u8], i: usize, a: Admission)
     requires pairs { Pairs pairs.now }
-    requires form_in_bounds { reply_size (form_of form) * i + reply_size (form_of form) ≤ length out.old }
+    requires form_in_bounds { reply_size F.form * i + reply_size F.form ≤ length out.old }
     ensures { out.new
-        ≡ with_reply (form_of form) (reply_size (form_of form) * i) (frame_of a.party (plain a.code))
+        ≡ with_reply F.form (reply_size F.form * i) (frame_of a.party (plain a.code))
         out.old }
 {
-    put_reply_at(pairs, out, i, form, a.party, plain(a.code));
+    put_reply_at::<F>(pairs, out, i, a.party, plain(a.code));
 }
 
 // What a call is answered.
-pub fn put_answer(pairs: &[u16; 256], out: &mut [u8], i: usize, form: bool, party: u8, e: Effect)
+pub fn put_answer<F: Form>(pairs: &[u16; 256], out: &mut [u8], i: usize, party: u8, e: Effect)
     requires pairs { Pairs pairs.now }
-    requires form_in_bounds { reply_size (form_of form) * i + reply_size (form_of form) ≤ length out.old }
+    requires form_in_bounds { reply_size F.form * i + reply_size F.form ≤ length out.old }
     ensures { out.new
-        ≡ with_reply (form_of form) (reply_size (form_of form) * i) (frame_of party (printed e.answer))
+        ≡ with_reply F.form (reply_size F.form * i) (frame_of party (printed e.answer))
         out.old }
 {
-    let answer = e.answer;
-    put_reply_at(pairs, out, i, form, party, print_of(answer));
+    put_reply_at::<F>(pairs, out, i, party, print_of(e.answer));
 }

@@ -12,7 +12,7 @@ use line::values;
 use openhub::sized;
 use reader::{KEPT, Reader, read_piece};
 use requests::answer_requests;
-use writer::form::TEXT;
+use writer::form::Text;
 
 // The record, and the line that is being read.
 #[derive(Clone, Copy)]
@@ -62,7 +62,7 @@ fn feed_open(session: Session, piece: &[u8], requests: &mut [u8], out: &mut [u8]
     let read = read_piece(&table, reader, piece, requests);
     let lines = read.count;
     let before = session.hub;
-    let hub = answer_requests(before, requests, lines, TEXT, out);
+    let hub = answer_requests::<Text>(before, requests, lines, out);
     let past = read.reader;
     Fed {
         session: Session { hub, reader: past },

@@ -4,7 +4,7 @@
 #![tactic(auto)]
 
 ghost use Rattle.std.specs.Prelude.{◌≡◌, ◌*◌, ◌≤◌, length};
-ghost use Rattle.encoding.specs.Form.{form_of, reply_size};
+ghost use Rattle.encoding.specs.Form.{reply_size};
 ghost use Rattle.line.specs.Program.{after};
 ghost use Rattle.batch.specs.Batch.{Reachable, replied, requests_in};
 
@@ -12,15 +12,16 @@ use batch::answer_in_turn;
 use encoding::pairs;
 use hub::record::{Control, Hub};
 use ring::PlaceRing;
+use writer::form::Form;
 
 // Answers the first `count` requests, of two bytes each, in a form.
-pub fn answer_requests(hub: Hub, requests: &[u8], count: usize, form: bool, out: &mut [u8]) -> Hub
+pub fn answer_requests<F: Form>(hub: Hub, requests: &[u8], count: usize, out: &mut [u8]) -> Hub
     requires reachable { Reachable hub }
     requires count_in_bounds { 2 * count ≤ length requests.now }
-    requires count_in_bounds_2 { reply_size (form_of form) * count ≤ length out.old }
+    requires count_in_bounds_2 { reply_size F.form * count ≤ length out.old }
     ensures { (result ≡ after hub (requests_in count requests.now))
         × (out.new
-        ≡ replied (form_of form) hub count requests.now out.old) }
+        ≡ replied F.form hub count requests.now out.old) }
 {
     let opening = hub.control.opening;
     let figures = hub.control.figures;
@@ -33,8 +34,8 @@ pub fn answer_requests(hub: Hub, requests: &[u8], count: usize, form: bool, out:
     let slots = hub.slots;
     let pool = hub.control.pool;
     let pairs = pairs::table();
-    let left = answer_in_turn(
-        opening, figures, ring, slots, pool, &pairs, requests, count, form, out,
+    let left = answer_in_turn::<F>(
+        opening, figures, ring, slots, pool, &pairs, requests, count, out,
     );
     let figures = left.figures;
     let ring = left.ring;

@@ -16,7 +16,7 @@ use hub::opening::Opening;
 use line::openings::{is_opening_frame, opening_in};
 use openhub::open_hub;
 use requests::answer_requests;
-use writer::form::BYTES;
+use writer::form::Bytes;
 
 // How a run ended. Only a run that is done writes to the buffer.
 #[derive(Clone, Copy)]
@@ -69,7 +69,7 @@ pub fn run_calls(o: Opening, calls: &[u8], out: &mut [u8]) -> Ran
         return Ran::NoRoom;
     }
     let hub = opened.hub;
-    answer_requests(hub, calls, total, BYTES, out);
+    answer_requests::<Bytes>(hub, calls, total, out);
     Ran::Done
 }
 

@@ -3,15 +3,14 @@
 use mathlib.Core.Path.{◌≡◌}
 use Prim.Native.Nat.{◌-◌}
 use lib.ListN.{length}
-use Rattle.encoding.specs.Form.{form_of}
 use Rattle.batch.specs.Batch.{of_parts}
 use Rattle.batch.proofs.Laws.Responses.{Upto}
 use Rattle.batch.proofs.answer_in_turn.Given as goal
 
 abbrev pub invariant-loop-i : goal.invariant-loop-i
-invariant-loop-i l = Upto (form_of l.form) (of_parts l.opening l.initial.figures l.initial.ring l.initial.slots l.initial.pool) l.count l.requests l.initial.out
+invariant-loop-i g l = Upto g.F.Form.form (of_parts l.opening l.initial.figures l.initial.ring l.initial.slots l.initial.pool) l.count l.requests l.initial.out
     (of_parts l.opening l.figures l.ring l.slots l.pool) l.out l.i
     × (length l.slots ≡ 32)
 
 abbrev pub decreases-loop-i : goal.decreases-loop-i
-decreases-loop-i l = l.count - l.i
+decreases-loop-i g l = l.count - l.i
