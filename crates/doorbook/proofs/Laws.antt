@@ -1,4 +1,2 @@
 pub mod Answers
 pub mod Bytes
-pub mod Entry
-pub mod Search

@@ -9,7 +9,8 @@ use native.Mathlib.Omega.{arith}
 use lib.Dec.{ltb, eqb}
 use lib.ListN.{length, get_or, set, replicate, length-set, length-replicate, get_or-replicate}
 use lib.Seq.{get_or-set_same, get_or-set_other}
-use Rattle.doorbook.specs.declared.Answer.{Answer}
+use Rattle.std.specs.Prelude.{Ok, Err}
+use Rattle.doorbook.specs.declared.Refusal.{Refusal}
 use Rattle.doorbook.specs.Book.{empty_book, lock_at, stands, answer_to, code_of, is_accepted, after}
 use Rattle.doorbook.specs.Bytes.{locks_of, fitted_at, bytes_after, enter_bytes}
 use Rattle.doorbook.specs.Frame.{is_frame, door_of, new_lock, superseded}
@@ -61,8 +62,8 @@ module _ (book f : List ℕ) where
     where
       go : (w d n o : Bool)
           → is_accepted
-          (cond (not w) Answer.Malformed (cond d Answer.NoSuchDoor (cond n Answer.NotNew
-          (cond (not o) Answer.NotThere Answer.Entered))))
+          (cond (not w) (Err Refusal.Malformed) (cond d (Err Refusal.NoSuchDoor) (cond n (Err Refusal.NotNew)
+          (cond (not o) (Err Refusal.NotThere) (Ok tt)))))
           ≡ true
           → (d ≡ false) × (n ≡ false)
       go false d n o e = (cc, cc)

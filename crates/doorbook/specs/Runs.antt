@@ -1,7 +1,7 @@
 -- "After every run of frames from an empty book, a door's lock is the new one of its last accepted
 -- frame, 0 without one, and no lock other than 0 stands at two doors."
-use Rattle.std.specs.Prelude.{ℕ, ◌≡◌, cond, ◌&&◌, List, [], ◌∷◌, eqb, replicate}
-use Rattle.doorbook.specs.declared.Answer.{Answer}
+use Rattle.std.specs.Prelude.{ℕ, ◌≡◌, cond, ◌&&◌, List, [], ◌∷◌, eqb, replicate, Result}
+use Rattle.doorbook.specs.declared.Refusal.{Refusal}
 use Rattle.doorbook.specs.Book.{empty_book, lock_at, answer_to, code_of, is_accepted, after}
 use Rattle.doorbook.specs.Bytes.{locks_of, enter_code, enter_bytes, lock_in}
 use Rattle.doorbook.specs.Frame.{door_of, new_lock}
@@ -14,7 +14,7 @@ after_run book (f ∷ fs) = after_run (after book f) fs
 -- A frame and its answer, all that the locks are counted from.
 pub record Answered : Type 0 where
   pub frame : List ℕ
-  pub answer : Answer
+  pub answer : Result (Unit {0}) Refusal
 
 unfoldable pub answered : List ℕ → List (List ℕ) → List Answered
 answered book [] = []

@@ -1,15 +1,16 @@
 -- The locks in a book of bytes, four bytes each.
 use Prim.Native.Nat.{ℕ, zero, suc, ◌+◌, ◌*◌, ◌/◌, ◌≤◌}
 use mathlib.Core.Path.{◌≡◌, refl, ap, ◌∙◌}
-use mathlib.Core.Bool.{false}
 use mathlib.Core.List.{List, [], ◌∷◌, ◌++◌}
 use native.Mathlib.Omega.{arith}
 use lib.ListN.{length, get_or, set, take, drop, length-append, length-take, length-drop}
-use lib.Seq.{sets-eq}
-use Rattle.doorbook.specs.declared.Answer.{Answer}
-use Rattle.doorbook.specs.Book.{answer_to, is_accepted}
-use Rattle.doorbook.specs.Bytes.{locks_of, fitted_at, bytes_after}
-use Rattle.doorbook.specs.Frame.{number, number_at, door_of, new_lock}
+use Rattle.std.specs.Int.{w32, from_be_bytes}
+use Rattle.std.specs.Prelude.{nat_eq}
+use Rattle.std.specs.List.{list_any}
+use Rattle.std.specs.Simd.{first_chunks}
+use Rattle.doorbook.specs.Book.{stands}
+use Rattle.doorbook.specs.Bytes.{locks_of, fitted_at}
+use Rattle.doorbook.specs.Frame.{number, number_at, new_lock}
 
 pub length-locks : (l : List ℕ) → length (locks_of l) ≡ length l / 4
 unfolding locks_of
@@ -34,16 +35,16 @@ past a b c d l i k e =
     let f : k ≡ suc (suc (suc (suc i))) = omega arith in
     ap (λ (k : ℕ). get_or (a ∷ b ∷ c ∷ d ∷ l) k 0) f
 
-pub lock-there : (i : ℕ) (l : List ℕ) → 4 * i + 4 ≤ length l
+pub lock_there : (i : ℕ) (l : List ℕ) → 4 * i + 4 ≤ length l
     → get_or (locks_of l) i 0 ≡ number_at l (4 * i)
 unfolding locks_of
-lock-there i [] h = absurd (omega arith)
-lock-there i (a ∷ []) h = absurd (omega arith)
-lock-there i (a ∷ b ∷ []) h = absurd (omega arith)
-lock-there i (a ∷ b ∷ c ∷ []) h = absurd (omega arith)
-lock-there zero (a ∷ b ∷ c ∷ d ∷ l) h = refl
-lock-there (suc i) (a ∷ b ∷ c ∷ d ∷ l) h =
-    let e = lock-there i l (omega arith) in
+lock_there i [] h = absurd (omega arith)
+lock_there i (a ∷ []) h = absurd (omega arith)
+lock_there i (a ∷ b ∷ []) h = absurd (omega arith)
+lock_there i (a ∷ b ∷ c ∷ []) h = absurd (omega arith)
+lock_there zero (a ∷ b ∷ c ∷ d ∷ l) h = refl
+lock_there (suc i) (a ∷ b ∷ c ∷ d ∷ l) h =
+    let e = lock_there i l (omega arith) in
     cc (
       past a b c d l (4 * i) (4 * suc i) (omega arith),
       past a b c d l (4 * i + 1) (4 * suc i + 1) (omega arith),
@@ -59,6 +60,22 @@ abbrev spliced : ℕ → ℕ → List ℕ → List ℕ → List ℕ
 spliced at end l f =
     take at l ++ (get_or f 2 0 ∷ get_or f 3 0 ∷ get_or f 4 0 ∷ get_or f 5 0 ∷ []) ++ drop end l
 
+-- Read four bytes at a time, the book is its locks.
+in_four : (a b c d : ℕ) → from_be_bytes w32 (a ∷ b ∷ c ∷ d ∷ []) ≡ number a b c d
+in_four a b c d = omega arith
+
+pub stands-in_fours : (lock k : ℕ) (l : List ℕ) → length l ≡ 4 * k
+    → list_any (λ four. nat_eq (from_be_bytes w32 four) lock) (first_chunks 4 k l) ≡ stands lock (locks_of l)
+unfolding locks_of stands
+stands-in_fours lock zero [] h = refl
+stands-in_fours lock zero (a ∷ l) h = absurd (omega arith)
+stands-in_fours lock (suc k) [] h = absurd (omega arith)
+stands-in_fours lock (suc k) (a ∷ []) h = absurd (omega arith)
+stands-in_fours lock (suc k) (a ∷ b ∷ []) h = absurd (omega arith)
+stands-in_fours lock (suc k) (a ∷ b ∷ c ∷ []) h = absurd (omega arith)
+stands-in_fours lock (suc k) (a ∷ b ∷ c ∷ d ∷ l) h =
+    rw (in_four a b c d, stands-in_fours lock k l (omega arith))
+
 -- The new lock stands where its bytes were written, and the others stand as before.
 pub locks-fitted : (d : ℕ) (l f : List ℕ) → 4 * d + 4 ≤ length l
     → locks_of (fitted_at (4 * d) l f) ≡ set (locks_of l) d (new_lock f)
@@ -73,25 +90,3 @@ locks-fitted (suc d) (a ∷ b ∷ c ∷ e ∷ l) f h =
     (ap (λ (k : ℕ). spliced k (4 * suc d + 4) (a ∷ b ∷ c ∷ e ∷ l) f) (four-on d)
     ∙ ap (λ (k : ℕ). spliced (suc (suc (suc (suc (4 * d))))) k (a ∷ b ∷ c ∷ e ∷ l) f) (eight-on d))
     ∙ ap (λ (m : List ℕ). number a b c e ∷ m) (locks-fitted d l f (omega arith))
-
--- Four bytes written one after the other.
-pub four-written : (l : List ℕ) (at p q r s : ℕ) → at + 4 ≤ length l
-    → set (set (set (set l at p) (at + 1) q) (at + 2) r) (at + 3) s
-    ≡ take at l ++ (p ∷ q ∷ r ∷ s ∷ []) ++ drop (at + 4) l
-four-written l at p q r s h =
-    let e₁ : at + 1 ≡ suc at = omega arith in
-    let e₂ : at + 2 ≡ suc (suc at) = omega arith in
-    let e₃ : at + 3 ≡ suc (suc (suc at)) = omega arith in
-    rw (e₁, e₂, e₃) (sets-eq (p ∷ q ∷ r ∷ s ∷ []) l at h)
-
--- How a frame leaves the bytes.
-module _ (b f : List ℕ) where
-  pub refused : {a : Answer} → is_accepted a ≡ false → a ≡ answer_to (locks_of b) f
-      → (a ≡ answer_to (locks_of b) f) × (b ≡ bytes_after b f)
-  unfolding bytes_after
-  refused k e = (e, rw (← e, k))
-
-  pub fitted : {l : List ℕ} → l ≡ fitted_at (4 * door_of f) b f → Answer.Entered ≡ answer_to (locks_of b) f
-      → (Answer.Entered ≡ answer_to (locks_of b) f) × (l ≡ bytes_after b f)
-  unfolding bytes_after
-  fitted l e = (e, rw (← e) l)

@@ -1,23 +1,15 @@
--- `stands_in` meets its contract: what is left of the doors, from any turn on, says the same.
-use native.Mathlib.Omega.{arith}
-use mathlib.Core.Path.{sym, ◌∙◌}
-use Prim.Native.Nat.{◌-◌}
-use Rattle.doorbook.proofs.Laws.Bytes.{locks-200, lock-there}
-use Rattle.doorbook.proofs.Laws.Search.{found, onward, nowhere}
+-- `stands_in` meets its contract: the book read four bytes at a time is its locks.
+use Rattle.std.proofs.Common.{◌*◌, ◌/◌, length, rules, tests, arith, ◌≡◌, nat_eq}
+use mathlib.Core.Path.{◌∙◌}
+use Rattle.std.specs.Int.{w32, from_be_bytes}
+use Rattle.std.proofs.lemmas.Iterator.{YieldsList-from_slice}
+use Rattle.std.proofs.lemmas.Iterator.Search.{any_from_yields_List}
+use Rattle.doorbook.proofs.Laws.Bytes.{stands-in_fours}
 use Rattle.doorbytes.proofs.stands_in.Goals as goal
-
-pub returns-then-number_at-lock : goal.returns-then-number_at-lock
-returns-then-number_at-lock c =
-    let l = c in
-    found _ _ _ (locks-200 _ l.requires) l.loop-i.invariant (omega arith)
-    (lock-there _ _ (omega arith) ∙ sym c.number_at.ensures ∙ c.if-number_at-lock.true)
-
-pub loop-i-preserved : goal.loop-i-preserved
-loop-i-preserved c =
-    let l = c in
-    onward _ _ _ (locks-200 _ l.requires) l.loop-i.invariant (omega arith)
-    (λ e. c.if-number_at-lock.false (c.number_at.ensures ∙ sym (lock-there _ _ (omega arith)) ∙ e))
 
 pub returns : goal.returns
 returns c =
-    nowhere _ _ _ (locks-200 _ c.requires) c.loop-i.invariant (omega arith)
+    let whole : length c.args.book.now ≡ 4 * (length c.args.book.now / 4) = omega arith in
+    any_from_yields_List (λ four. nat_eq (from_be_bytes w32 four) c.args.lock) _ _ _ c.any.ensures.ran (YieldsList-from_slice _ cc)
+    (λ x b q k. search (rules, tests))
+    ∙ stands-in_fours c.args.lock _ c.args.book.now whole
