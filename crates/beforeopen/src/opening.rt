@@ -8,10 +8,10 @@ ghost use Rattle.beforeopen.specs.Opening.{SessionHub, begun_by, early, refusal}
 ghost use Rattle.reader.specs.Reading.{KEPT, asked};
 
 use encoding::answer::{plain, print_of};
-use hub::Hub;
+use hub::{Answer, Hub};
 use line::request::{MALFORMED, OPENING, read_opening};
 use line::values;
-use openhub::open_hub;
+use openhub::{open_hub, sized};
 use reader::{Reader, read_piece};
 use writer::text::put_line;
 
@@ -50,10 +50,16 @@ fn open_as(line: &[u8], out: &mut [u8]) -> Hub
     ensures { (result ≡ (before_open (request_of line.now)).hub)
         × (out.new ≡ reply_in as_text (before_open (request_of line.now)).reply) }
 {
-    let o = open_hub(read_opening(line));
-    let answer = o.answer;
-    put_line(out, 0xFF, print_of(answer));
-    o.hub
+    match open_hub(read_opening(line)) {
+        Ok(hub) => {
+            put_line(out, 0xFF, print_of(Answer::Opened));
+            hub
+        }
+        Err(why) => {
+            put_line(out, 0xFF, print_of(Answer::Refused(why)));
+            Hub::open(sized(0, 0))
+        }
+    }
 }
 
 // Reads a piece until a hub is open, a character at a time.

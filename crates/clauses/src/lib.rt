@@ -12,7 +12,7 @@ ghost use Rattle.clauses.specs.Window.{ticket_at};
 use hub::opening::Opening;
 use hub::record::{Figures, Hub, Phase, Place};
 use openhub::{kinds_fit, up_to_32};
-use phases::{of_radios, ticket};
+use phases::of_radios;
 
 // −32 to 32.
 fn counter_fits(figures: Figures) -> bool
@@ -73,18 +73,19 @@ pub fn in_window(oldest: u32, end: u32, t: u32) -> bool
 }
 
 // Is the ticket of this phase one that fits? Drawing a ticket needs room.
+#[tactic(auto, unfolding(hub::specs::Fits::ticket_fits, hub::specs::Basics::all_of, hub::specs::Phases::is_one_of))]
 fn ticket_fits(phase: Phase, figures: Figures, oldest: u32) -> bool
     requires { oldest ≤ 1000000 }
     ensures { result ≡ ticket_fits figures oldest phase }
 {
     match phase {
-        Phase::Waiting(_)
-        | Phase::Ticketed(_)
-        | Phase::Aborting(_)
-        | Phase::Cancelling(_)
-        | Phase::Refusing(_)
-        | Phase::TicketedMarked(_) => in_window(oldest, figures.issued, ticket(phase)),
-        Phase::ResumingAt(_) => in_window(oldest, figures.resumed, ticket(phase)),
+        Phase::Waiting(t)
+        | Phase::Ticketed(t)
+        | Phase::Aborting(t)
+        | Phase::Cancelling(t)
+        | Phase::Refusing(t)
+        | Phase::TicketedMarked(t) => in_window(oldest, figures.issued, t),
+        Phase::ResumingAt(t) => in_window(oldest, figures.resumed, t),
         Phase::Suspending | Phase::SuspendingMarked => figures.issued < oldest + Hub::PLACES,
         Phase::Resuming => figures.resumed < oldest + Hub::PLACES,
         _ => true,
@@ -138,6 +139,7 @@ pub fn party_fits(phase: Phase, place: Place, figures: Figures, oldest: u32, nam
 }
 
 // Is the phase one of a party that stands at ticket t?
+#[tactic(auto, unfolding(hub::specs::Phases::is_one_of))]
 fn stands_at(phase: Phase, t: u32) -> bool
     ensures { result ≡ stands_at phase t }
 {
@@ -146,7 +148,7 @@ fn stands_at(phase: Phase, t: u32) -> bool
         return u == t;
     }
     match phase {
-        Phase::Aborting(_) | Phase::Cancelling(_) | Phase::Refusing(_) => ticket(phase) == t,
+        Phase::Aborting(u) | Phase::Cancelling(u) | Phase::Refusing(u) => u == t,
         _ => false,
     }
 }

@@ -36,7 +36,7 @@ pub fn fits(hub: Hub) -> bool
             // a party that waits acts on no place
             Phase::Waiting(t) => in_window(oldest, figures.issued, t),
             _ => {
-                let i = (ticket(phase) % Hub::PLACES) as usize;
+                let i = (ticket(phase).unwrap_or(0) % Hub::PLACES) as usize;
                 let seat = hub.places[i];
                 let place = seat.place;
                 party_fits(phase, place, figures, oldest, opening.named)

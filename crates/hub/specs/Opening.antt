@@ -1,5 +1,5 @@
 -- Opening a hub, with refusals 2, 3 and 14 to 17.
-use Rattle.std.specs.Prelude.{ℕ, Bool, true, false, cond, List, [], ◌∷◌, ◌++◌, map, eqb, length, replicate, pos}
+use Rattle.std.specs.Prelude.{ℕ, Bool, true, false, cond, List, [], ◌∷◌, ◌++◌, map, eqb, length, replicate, pos, Result, Ok, Err}
 use Rattle.hub.specs.declared.answers.Answer.{Answer}
 use Rattle.hub.specs.declared.answers.Refusal.{Refusal}
 use Rattle.hub.specs.declared.opening.Opening.{Opening}
@@ -118,3 +118,13 @@ opening_if (t ∷ ts) o = cond t.passed (opening_if ts o) (not_opened t.why)
 
 abbrev pub opening : Opening → Outcome
 opening o = opening_if (tests o) o
+
+-- The same as a result: why it is refused, or what is asked for.
+abbrev pub unless_refused : {A : Type 0} → A → Answer → Result A Refusal
+unless_refused x (Answer.Refused r) = Err r
+unless_refused x a = Ok x
+
+-- And back.
+abbrev pub opened : Result Hub Refusal → Outcome
+opened (Ok h) = record { answer = Answer.Opened; hub = h }
+opened (Err r) = not_opened r

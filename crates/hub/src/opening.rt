@@ -7,7 +7,7 @@ use crate::record::{Control, Figures, Hub, Pool};
 use crate::slots::{empty_seat, free_slot};
 
 // What an opening asks for.
-#[derive(Clone, Copy)]
+#[derive(Clone, Copy, PartialEq, Eq, Debug)]
 pub struct Opening {
     pub permits: u8, // links, K
     pub parties: u8, // n
@@ -20,9 +20,8 @@ pub struct Opening {
 fn figures_at(o: Opening) -> Figures
     ensures { result ≡ figures_at o }
 {
-    let permits = o.permits;
     Figures {
-        counter: permits as i32,
+        counter: i32::from(o.permits),
         issued: 0,
         resumed: 0,
         begun: 0,
@@ -39,7 +38,7 @@ fn pool_at(o: Opening) -> Pool
         laid: [0; 256],
         store: radios,
         first: 0,
-        stored: o.permits as u32,
+        stored: u32::from(o.permits),
     }
 }
 
@@ -48,11 +47,9 @@ impl Hub {
     pub fn open(o: Opening) -> Hub
         ensures { result ≡ fresh o }
     {
-        let empty = empty_seat();
-        let free = free_slot();
         Hub {
-            places: [empty; 256],
-            slots: [free; 32],
+            places: [empty_seat(); 256],
+            slots: [free_slot(); 32],
             control: Control {
                 opening: o,
                 figures: figures_at(o),

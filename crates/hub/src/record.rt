@@ -4,7 +4,7 @@ use crate::answers::Answer;
 use crate::opening::Opening;
 
 // A party's phase: the first three are at rest, the others busy. Each t is a ticket.
-#[derive(Clone, Copy)]
+#[derive(Clone, Copy, PartialEq, Eq, Debug)]
 pub enum Phase {
     Free,
     Holding,
@@ -26,7 +26,7 @@ pub enum Phase {
 }
 
 // What lies at the place of a ticket: a cell of the waiting queue.
-#[derive(Clone, Copy)]
+#[derive(Clone, Copy, PartialEq, Eq, Debug)]
 pub enum Place {
     Empty,
     Waiting(u8), // the party that waits there
@@ -37,18 +37,18 @@ pub enum Place {
 }
 
 // What the record keeps of a place, and of a party. An element of an array is a struct.
-#[derive(Clone, Copy)]
+#[derive(Clone, Copy, PartialEq, Eq, Debug)]
 pub struct PlaceSlot {
     pub place: Place,
 }
 
-#[derive(Clone, Copy)]
+#[derive(Clone, Copy, PartialEq, Eq, Debug)]
 pub struct PartySlot {
     pub phase: Phase,
 }
 
 // The numbers that calls move.
-#[derive(Clone, Copy)]
+#[derive(Clone, Copy, PartialEq, Eq, Debug)]
 pub struct Figures {
     pub counter: i32, // permits available; below zero, waits that no permit comes for
     pub issued: u32, // numbered: the next ticket for a wait
@@ -58,7 +58,7 @@ pub struct Figures {
 
 // The radios of a hub that has some. They have arrays of their own, apart from slots and places: on a
 // hub without radios no call alters them, and what it reads there counts for nothing.
-#[derive(Clone, Copy)]
+#[derive(Clone, Copy, PartialEq, Eq, Debug)]
 pub struct Pool {
     pub hands: [u8; 32], // with each party; it counts where the party's phase has one
     pub laid: [u8; 256], // at each place; it counts where a permit lies
@@ -68,7 +68,7 @@ pub struct Pool {
 }
 
 // The control block of a hub: all but its places and its slots.
-#[derive(Clone, Copy)]
+#[derive(Clone, Copy, PartialEq, Eq, Debug)]
 pub struct Control {
     pub opening: Opening, // what it was opened with
     pub figures: Figures,
@@ -77,7 +77,7 @@ pub struct Control {
 }
 
 // The control block comes last: in front of the arrays it makes a call in place dearer by a sixth (docs/DECISIONS.md, 20).
-#[derive(Clone, Copy)]
+#[derive(Clone, Copy, PartialEq, Eq, Debug)]
 pub struct Hub {
     pub places: [PlaceSlot; 256], // a ring: that of ticket t is at t modulo 256
     pub slots: [PartySlot; 32],
@@ -93,14 +93,14 @@ impl Hub {
 }
 
 // What an opening or a call answers, and the record that it leaves.
-#[derive(Clone, Copy)]
+#[derive(Clone, Copy, PartialEq, Eq, Debug)]
 pub struct Outcome {
     pub answer: Answer,
     pub hub: Hub,
 }
 
 // What a record shows, for boards and auditors.
-#[derive(Clone, Copy)]
+#[derive(Clone, Copy, PartialEq, Eq, Debug)]
 pub struct Counts {
     pub held: u32, // parties holding, giving back or fetching
     pub available: u32, // at the counter

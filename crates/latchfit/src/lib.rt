@@ -126,7 +126,7 @@ pub fn fits(latch: Latch) -> bool
             p += 1;
             continue;
         }
-        let i = (ticket(phase) % Hub::PLACES) as usize;
+        let i = (ticket(phase).unwrap_or(0) % Hub::PLACES) as usize;
         let seat = latch.places[i];
         let place = seat.place;
         if !member_fits(slot, place, figures, oldest) {

@@ -86,7 +86,7 @@ fn put_phases(out: &mut [u8], slots: [LatchSlot; 32])
         put_cell(
             &mut out[at..end],
             name_of(phase, slot.raising),
-            ticket(phase),
+            ticket(phase).unwrap_or(0),
         );
         p += 1;
     }

@@ -9,25 +9,23 @@ ghost use Rattle.latch.specs.Record.{free_slot};
 use hub::record::{Hub, PlaceSlot};
 use latch::opening::free_slot;
 use latch::record::LatchSlot;
-use phases::{has_ticket, ticket};
+use phases::ticket;
 
 // Where the place of a party's ticket lies in the ring; 0 if it has none.
 pub fn seat_index(slot: LatchSlot) -> usize
     ensures { result ≡ ticket_of slot.phase % PLACES }
 {
-    let phase = slot.phase;
-    (ticket(phase) % Hub::PLACES) as usize
+    (ticket(slot.phase).unwrap_or(0) % Hub::PLACES) as usize
 }
 
 // A place for a party that has a ticket, another for one that has none.
 pub fn by_ticket(slot: LatchSlot, seat: PlaceSlot, otherwise: PlaceSlot) -> PlaceSlot
     ensures { result ≡ by_ticket otherwise (λ t. seat) slot.phase }
 {
-    let phase = slot.phase;
-    if has_ticket(phase) {
-        return seat;
+    match ticket(slot.phase) {
+        Some(_) => seat,
+        None => otherwise,
     }
-    otherwise
 }
 
 // The slot of party q, which is the one at hand if there is such a party; free past the slots.

@@ -43,7 +43,11 @@ fn put_phases(out: &mut [u8], slots: [PartySlot; 32])
         let phase = slot.phase;
         let at = 5 * p;
         let end = at + 5;
-        put_cell(&mut out[at..end], phase_name(phase), ticket(phase));
+        put_cell(
+            &mut out[at..end],
+            phase_name(phase),
+            ticket(phase).unwrap_or(0),
+        );
         p += 1;
     }
 }

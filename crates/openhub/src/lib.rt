@@ -8,12 +8,12 @@ ghost use Rattle.std.specs.Prelude.{◌≡◌, ◌≤◌, ◌<◌, take};
 ghost use Rattle.hub.specs.Answers.{printed};
 ghost use Rattle.hub.specs.Basics.{up_to32};
 ghost use Rattle.hub.specs.Fits.{kinds_fit};
-ghost use Rattle.hub.specs.Opening.{kind_tests, not_opened, opening, opening_if, radios_differ, sized};
+ghost use Rattle.hub.specs.Opening.{kind_tests, opened, opening, opening_if, radios_differ, sized, unless_refused};
 ghost use Rattle.hub.specs.Radios.{differ};
 
-use hub::answers::{Answer, Refusal};
+use hub::answers::Refusal;
 use hub::opening::Opening;
-use hub::record::{Hub, Outcome};
+use hub::record::Hub;
 use kinds::{built_in, has_desk, kinds_known};
 
 // Opening 01: K and n.
@@ -30,24 +30,11 @@ pub fn sized(permits: u8, parties: u8) -> Opening
     }
 }
 
-// A refused opening makes no record: what it hands back is one that refuses every call.
-fn refused(why: Refusal) -> Outcome
-    ensures { result ≡ not_opened why }
-{
-    Outcome {
-        answer: Answer::Refused(why),
-        hub: Hub::open(sized(0, 0)),
-    }
-}
-
 // 1 to 32, as K and n are.
 pub fn up_to_32(n: u8) -> bool
     ensures { result ≡ up_to32 n }
 {
-    if n < 1 {
-        return false;
-    }
-    n <= 32
+    1 <= n && n <= 32
 }
 
 // A radio as an index of a table of 256.
@@ -80,70 +67,60 @@ pub fn radios_differ(o: Opening) -> bool
     requires { o.permits ≤ 32 }
     ensures { result ≡ radios_differ o }
 {
-    if !o.named {
-        return true;
-    }
     let radios = o.radios;
-    differ(radios, o.permits as usize)
-}
-
-// What the kinds of an opening are answered: 15, 16, 17, or that it is opened.
-fn kinds_answer(o: Opening) -> Answer
-    ensures { result ≡ (opening_if (kind_tests o) o).answer }
-{
-    if !o.counted {
-        return Answer::Refused(Refusal::MiscountedKinds);
-    }
-    let kinds = o.kinds;
-    if !kinds_known(kinds) {
-        return Answer::Refused(Refusal::UnknownKind);
-    }
-    if !has_desk(kinds) {
-        return Answer::Refused(Refusal::NoDesk);
-    }
-    Answer::Opened
+    !o.named || differ(radios, usize::from(o.permits))
 }
 
 // Do the kinds of a record fit?
+#[tactic(auto, unfolding(hub::specs::Fits::kinds_fit, hub::specs::Basics::all_of))]
 pub fn kinds_fit(o: Opening) -> bool
     ensures { result ≡ kinds_fit o }
 {
+    let kinds = o.kinds;
+    o.counted && kinds_known(kinds) && has_desk(kinds)
+}
+
+// What the kinds of an opening are refused by: 15, 16 or 17.
+#[tactic(auto, unfolding(hub::specs::Opening::opening_if))]
+fn check_kinds(o: Opening) -> Result<(), Refusal>
+    ensures { result ≡ unless_refused tt (opening_if (kind_tests o) o).answer }
+{
     if !o.counted {
-        return false;
+        return Err(Refusal::MiscountedKinds);
     }
     let kinds = o.kinds;
     if !kinds_known(kinds) {
-        return false;
+        return Err(Refusal::UnknownKind);
     }
-    has_desk(kinds)
+    if !has_desk(kinds) {
+        return Err(Refusal::NoDesk);
+    }
+    Ok(())
 }
 
-// What an opening is answered.
-pub fn opening_answer(o: Opening) -> Answer
-    ensures { result ≡ (opening o).answer }
+// What an opening is refused by.
+#[tactic(auto, unfolding(hub::specs::Opening::opening_if))]
+pub fn check_opening(o: Opening) -> Result<(), Refusal>
+    ensures { result ≡ unless_refused tt (opening o).answer }
 {
     if !up_to_32(o.permits) {
-        return Answer::Refused(Refusal::BadPermits);
+        return Err(Refusal::BadPermits);
     }
     if !up_to_32(o.parties) {
-        return Answer::Refused(Refusal::BadParties);
+        return Err(Refusal::BadParties);
     }
     if !radios_differ(o) {
-        return Answer::Refused(Refusal::SameRadios);
+        return Err(Refusal::SameRadios);
     }
-    kinds_answer(o)
+    check_kinds(o)
 }
 
 // Opens a hub.
-pub fn open_hub(o: Opening) -> Outcome
-    ensures { (result ≡ opening o) × (printed result.answer ≡ printed (opening o).answer) }
+pub fn open_hub(o: Opening) -> Result<Hub, Refusal>
+    ensures value { result ≡ unless_refused (opening o).hub (opening o).answer }
+    ensures outcome { opened result ≡ opening o }
+    ensures printed { printed (opened result).answer ≡ printed (opening o).answer }
 {
-    let answer = opening_answer(o);
-    if let Answer::Refused(why) = answer {
-        return refused(why);
-    }
-    Outcome {
-        answer: Answer::Opened,
-        hub: Hub::open(o),
-    }
+    check_opening(o)?;
+    Ok(Hub::open(o))
 }

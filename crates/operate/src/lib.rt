@@ -8,7 +8,6 @@ ghost use Rattle.perform.specs.Bytes.{is_operation_code};
 ghost use Rattle.run.specs.Bytes.{well_formed};
 ghost use Rattle.operate.specs.Ending.{operated_framed};
 
-use encoding::answer::print_of;
 use line::openings::{is_opening_frame, opening_in};
 use openhub::open_hub;
 use perform::perform_operations;
@@ -55,18 +54,16 @@ pub fn hub_operate(opening: &[u8], operations: &[u8], out: &mut [u8]) -> u8
         return 12;
     }
     let opened = open_hub(opening_in(opening));
-    let answer = opened.answer;
-    let code = print_of(answer).code;
-    if code != 0x1F {
-        return code;
-    }
+    let hub = match opened {
+        Ok(hub) => hub,
+        Err(why) => return why.code(),
+    };
     if !well_formed(operations) {
         return 254;
     }
     if out.len() / 3 < operations.len() / 2 {
         return 255;
     }
-    let hub = opened.hub;
     perform_operations(hub, operations, out);
     0
 }

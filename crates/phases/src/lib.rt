@@ -4,7 +4,7 @@
 
 pub mod slot; // what a record keeps of a party
 
-ghost use Rattle.std.specs.Prelude.{◌≡◌, true, false};
+ghost use Rattle.std.specs.Prelude.{◌≡◌, unwrap_or};
 ghost use Rattle.hub.specs.Phases.{at_rest, by_ticket, has_radio, of_radios, place_rank, ticket_of};
 
 use hub::record::{Phase, Place};
@@ -14,15 +14,13 @@ use hub::record::{Phase, Place};
 pub fn at_rest(phase: Phase) -> bool
     ensures { result ≡ at_rest phase }
 {
-    match phase {
-        Phase::Free | Phase::Holding | Phase::Waiting(_) => true,
-        _ => false,
-    }
+    matches!(phase, Phase::Free | Phase::Holding | Phase::Waiting(_))
 }
 
-// The ticket of a phase; 0 where it has none.
-pub fn ticket(phase: Phase) -> u32
-    ensures { result ≡ ticket_of phase }
+// The ticket of a phase that has one.
+pub fn ticket(phase: Phase) -> Option<u32>
+    ensures value { result ≡ by_ticket None (λ t. Some t) phase }
+    ensures or_0 { unwrap_or result 0 ≡ ticket_of phase }
 {
     match phase {
         Phase::Waiting(t)
@@ -31,23 +29,8 @@ pub fn ticket(phase: Phase) -> u32
         | Phase::Cancelling(t)
         | Phase::Refusing(t)
         | Phase::ResumingAt(t)
-        | Phase::TicketedMarked(t) => t,
-        _ => 0,
-    }
-}
-
-pub fn has_ticket(phase: Phase) -> bool
-    ensures { result ≡ by_ticket false (λ t. true) phase }
-{
-    match phase {
-        Phase::Waiting(_)
-        | Phase::Ticketed(_)
-        | Phase::Aborting(_)
-        | Phase::Cancelling(_)
-        | Phase::Refusing(_)
-        | Phase::ResumingAt(_)
-        | Phase::TicketedMarked(_) => true,
-        _ => false,
+        | Phase::TicketedMarked(t) => Some(t),
+        _ => None,
     }
 }
 
@@ -56,14 +39,10 @@ pub fn has_ticket(phase: Phase) -> bool
 pub fn has_radio(phase: Phase) -> bool
     ensures { result ≡ has_radio phase }
 {
-    match phase {
-        Phase::Holding
-        | Phase::Releasing
-        | Phase::Storing
-        | Phase::Resuming
-        | Phase::ResumingAt(_) => true,
-        _ => false,
-    }
+    matches!(
+        phase,
+        Phase::Holding | Phase::Releasing | Phase::Storing | Phase::Resuming | Phase::ResumingAt(_)
+    )
 }
 
 // Is it a phase of a hub with radios alone?
@@ -71,10 +50,7 @@ pub fn has_radio(phase: Phase) -> bool
 pub fn of_radios(phase: Phase) -> bool
     ensures { result ≡ of_radios phase }
 {
-    match phase {
-        Phase::Fetching | Phase::Storing => true,
-        _ => false,
-    }
+    matches!(phase, Phase::Fetching | Phase::Storing)
 }
 
 // The index of a state in the list of states.

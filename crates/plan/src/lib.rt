@@ -63,8 +63,7 @@ fn ticket_for(code: u8, slot: PartySlot, figures: Figures) -> u32
         return figures.issued;
     }
     if code == 0x12 {
-        let phase = slot.phase;
-        return ticket(phase);
+        return ticket(slot.phase).unwrap_or(0);
     }
     figures.resumed
 }

@@ -11,7 +11,7 @@ ghost use Rattle.run.specs.Bytes.{well_formed};
 ghost use Rattle.run.specs.Run.{framed_run, ran_code, run_from};
 
 use encoding::answer::refusal_code;
-use hub::answers::{Answer, Refusal};
+use hub::answers::Refusal;
 use hub::opening::Opening;
 use line::openings::{is_opening_frame, opening_in};
 use openhub::open_hub;
@@ -57,10 +57,10 @@ pub fn run_calls(o: Opening, calls: &[u8], out: &mut [u8]) -> Ran
         × (out.new ≡ (run_from (opening o) calls.now out.old).out) }
 {
     let opened = open_hub(o);
-    let answer = opened.answer;
-    if let Answer::Refused(why) = answer {
-        return Ran::NotOpened(why);
-    }
+    let hub = match opened {
+        Ok(hub) => hub,
+        Err(why) => return Ran::NotOpened(why),
+    };
     if !well_formed(calls) {
         return Ran::Malformed;
     }
@@ -68,7 +68,6 @@ pub fn run_calls(o: Opening, calls: &[u8], out: &mut [u8]) -> Ran
     if out.len() / 7 < total {
         return Ran::NoRoom;
     }
-    let hub = opened.hub;
     answer_requests::<Bytes>(hub, calls, total, out);
     Ran::Done
 }

@@ -13,7 +13,7 @@ ghost use Rattle.screen.specs.Moves.{accepted_move, line_move, line_opening, own
 use hub::answers::{Answer, Refusal};
 use hub::opening::Opening;
 use openhub::kinds::kind_in;
-use openhub::{opening_answer, sized};
+use openhub::{check_opening, sized};
 use queue::{join, leave, place_of};
 use screen::record::{Line, Moved, Operation};
 use screenfit::{holder_count, line_fits};
@@ -40,8 +40,7 @@ fn accepted_move(line: Line) -> Moved
 pub fn open_line(o: Opening) -> Moved
     ensures { (result ≡ line_opening o) × (printed result.answer ≡ printed (line_opening o).answer) }
 {
-    let answer = opening_answer(o);
-    if let Answer::Refused(why) = answer {
+    if let Err(why) = check_opening(o) {
         return refused_move(why, Line::open(sized(0, 0)));
     }
     Moved {

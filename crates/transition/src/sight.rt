@@ -14,8 +14,7 @@ use phases::ticket;
 pub fn seat_index(slot: PartySlot) -> usize
     ensures { result ≡ ticket_of slot.phase % PLACES }
 {
-    let phase = slot.phase;
-    (ticket(phase) % Hub::PLACES) as usize
+    (ticket(slot.phase).unwrap_or(0) % Hub::PLACES) as usize
 }
 
 // The party that waits at a place; 32, the first number past the slots, where nobody does.

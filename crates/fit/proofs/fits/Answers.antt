@@ -83,7 +83,7 @@ returns-then-not-fitting c =
           ∙ waiting-test c.args.hub _ _ c.loop-p-test.true w.in-Waiting.is w.in_window-fitting.ensures
       | in_default-phase w ↦
           w.fitting-is
-          ∙ party-test c.args.hub _ _ c.loop-p-test.true w.ticket.ensures w.party_fits-fitting.ensures
+          ∙ party-test c.args.hub _ _ c.loop-p-test.true (w.unwrap_or.ensures ∙ w.ticket.ensures.or_0) w.party_fits-fitting.ensures
     ]
     in
     parties-fail _
@@ -101,7 +101,7 @@ loop-p-preserved c =
           ∙ waiting-test c.args.hub _ _ c.loop-p-test.true w.in-Waiting.is w.in_window-fitting.ensures
       | in_default-phase w ↦
           w.fitting-is
-          ∙ party-test c.args.hub _ _ c.loop-p-test.true w.ticket.ensures w.party_fits-fitting.ensures
+          ∙ party-test c.args.hub _ _ c.loop-p-test.true (w.unwrap_or.ensures ∙ w.ticket.ensures.or_0) w.party_fits-fitting.ensures
     ]
     in
     one_passes _ 32 _ true _ c.loop-p.invariant _ (omega arith)

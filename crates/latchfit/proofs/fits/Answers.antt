@@ -53,7 +53,7 @@ unfolding read_slot read_seat
 returns-then-not-member_fits c =
     let o = passed c.figures_fit.ensures c.if-not-figures_fit.false-raw in
     let told : c.member_fits.result ≡ party_fits c.args.latch c.loop-p.p =
-    party-test c.args.latch _ _ c.loop-p-test.true c.ticket.ensures c.member_fits.ensures in
+    party-test c.args.latch _ _ c.loop-p-test.true (c.unwrap_or.ensures ∙ c.ticket.ensures.or_0) c.member_fits.ensures in
     parties-fail _
     (one-fails _ 32 _ true _ c.loop-p.invariant (omega (arith, few c.args.latch o, c.loop-p-test.true))
     (failed told c.if-not-member_fits.true-raw))
@@ -63,7 +63,7 @@ unfolding read_slot read_seat
 loop-p-preserved c =
     let o = passed c.figures_fit.ensures c.if-not-figures_fit.false-raw in
     let told : c.member_fits.result ≡ party_fits c.args.latch c.loop-p.p =
-    party-test c.args.latch _ _ c.loop-p-test.true c.ticket.ensures c.member_fits.ensures in
+    party-test c.args.latch _ _ c.loop-p-test.true (c.unwrap_or.ensures ∙ c.ticket.ensures.or_0) c.member_fits.ensures in
     one_passes _ 32 _ true _ c.loop-p.invariant _ (omega arith)
     (omega (arith, few c.args.latch o, c.loop-p-test.true)) (passed told c.if-not-member_fits.false-raw)
 

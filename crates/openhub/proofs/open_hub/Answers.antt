@@ -1,29 +1,25 @@
 -- `open_hub` meets its contract: what an opening is answered says what it makes.
-use mathlib.Core.Path.{sym, ap, ◌∙◌, subst}
-use Rattle.hub.specs.declared.answers.Answer.{Answer}
+use Rattle.std.proofs.Common.{◌≡◌, Ok, rules, sym, ap, ◌∙◌}
 use Rattle.hub.specs.declared.record.Hub.{Hub}
 use Rattle.hub.specs.declared.record.Outcome.{Outcome}
-use Rattle.hub.specs.Opening.{tests}
-use Rattle.hub.proofs.Laws.Opening.{NotRefused, by-refused, ends, not-refused}
-use Rattle.hub.proofs.Laws.Printed.{with-printed}
-use borrow.Enum.Refused.{opened as opened_keys}
+use Rattle.hub.specs.Answers.{printed}
+use Rattle.hub.specs.Opening.{fresh, opened, opening, tests, unless_refused}
+use Rattle.hub.proofs.Laws.Opening.{accepted, by_err, by_ok, ends}
 use Rattle.openhub.proofs.open_hub.Goals as goal
 
-abbrev opened : Hub → Outcome
-opened h = record { answer = Answer.Opened; hub = h }
-
-pub returns-in-Refused : goal.returns-in-Refused
-returns-in-Refused c =
-    let a = c in
-    let o = a.args.o in
-    with-printed (c.refused.ensures
-    ∙ sym (by-refused o _ _ _ (ends o (tests o))
-    (sym a.opening_answer-answer.ensures ∙ c.in-Refused.is)))
+pub returns-in_err-check_opening-clause-outcome : goal.returns-in_err-check_opening-clause-outcome
+returns-in_err-check_opening-clause-outcome c =
+    let refused = by_err c.args.o (ends c.args.o (tests c.args.o))
+    (sym c.check_opening.ensures ∙ c.in_err-check_opening.was) in
+    search rules
 
 pub returns : goal.returns
 returns c =
-    let a = c in
-    let o = a.args.o in
-    with-printed (ap opened c.«open».ensures
-    ∙ sym (not-refused o _ _ (ends o (tests o))
-    (subst NotRefused a.opening_answer-answer.ensures (opened_keys c.in_default.in_default-own.keys2))).1)
+    let o = c.args.o in
+    let made : accepted o ≡ opening o =
+    sym (by_ok o (ends o (tests o)) (sym c.check_opening.ensures ∙ c.in_ok-check_opening.was)) in
+    let outcome : opened (Ok c.«open».result) ≡ opening o = ap (λ (h : Hub). opened (Ok h)) c.«open».ensures ∙ made in record {
+      value = ap Ok c.«open».ensures ∙ ap (λ (x : Outcome). unless_refused x.hub x.answer) made;
+      outcome = outcome;
+      printed = ap (λ (x : Outcome). printed x.answer) outcome;
+    }

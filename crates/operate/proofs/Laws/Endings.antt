@@ -8,6 +8,7 @@ use borrow.Author.Tests.{eq-eqb, le-leb, lt-leb, ne_eqb}
 use lib.ListN.{length, get_or, replicate}
 use Rattle.hub.specs.declared.answers.Answer.{Answer}
 use Rattle.hub.specs.declared.opening.Opening.{Opening}
+use Rattle.hub.specs.declared.record.Hub.{Hub}
 use Rattle.hub.specs.declared.record.Outcome.{Outcome}
 use Rattle.hub.specs.declared.record.PartySlot.{PartySlot}
 use Rattle.hub.specs.Answers.{printed}
@@ -32,10 +33,13 @@ Ends e r l = (r ≡ e.result) × (l ≡ e.out)
 abbrev pub code_of : Outcome → ℕ
 code_of o = (printed o.answer).code
 
+abbrev pub accepted : Hub → Outcome
+accepted h = record { answer = Answer.Opened; hub = h }
+
 module _ (o : Outcome) (operations out : List ℕ) where
-  pub not_opened : (code_of o ≡ 0x1F → ⊥) → Ends (operated_from o operations out) (code_of o) out
+  pub unopened : (code_of o ≡ 0x1F → ⊥) → Ends (operated_from o operations out) (code_of o) out
   unfolding end_if
-  not_opened n = rw (ne_eqb (code_of o) 0x1F n) (refl, refl)
+  unopened n = rw (ne_eqb (code_of o) 0x1F n) (refl, refl)
 
   module _ (e : code_of o ≡ 0x1F) where
     pub ill-formed : well_formed is_operation_code operations ≡ false → Ends (operated_from o operations out) 254 out
@@ -77,14 +81,14 @@ calm-fresh : (k : Opening) (p : ℕ) → rests (fresh k) p ≡ true
 unfolding fresh read_slot is_one_of
 calm-fresh k p = ap (λ (s : PartySlot). at_rest s.phase) (all-free PARTIES p)
 
-accepted : (k : Opening) (b : Bool) (x : Outcome) → OpeningEnds k b x → code_of x ≡ 0x1F
+by_code : (k : Opening) (b : Bool) (x : Outcome) → OpeningEnds k b x → code_of x ≡ 0x1F
     → (x.answer ≡ Answer.Opened) × (x.hub ≡ fresh k)
-accepted k false x (refused r) e = absurd (omega (arith, e, few-refusals r))
-accepted k true x opened e = (refl, refl)
+by_code k false x (refused r) e = absurd (omega (arith, e, few-refusals r))
+by_code k true x opened e = (refl, refl)
 
 pub opened-rests : (k : Opening) (o : Outcome) → o ≡ opening k → code_of o ≡ 0x1F → Rested o.hub
 opened-rests k o f e =
-    let z = accepted k _ _ (opening-ends k (tests k)) (ap code_of (sym f) ∙ e) in
+    let z = by_code k _ _ (opening-ends k (tests k)) (ap code_of (sym f) ∙ e) in
     subst (λ (p : Outcome). Rested p.hub) (sym f)
     (record {
       reachable = opening-reachable k z.0;

@@ -11,8 +11,7 @@ use Rattle.hub.specs.declared.answers.Refusal.{Refusal}
 use Rattle.hub.specs.declared.opening.Opening.{Opening}
 use Rattle.hub.specs.declared.record.Outcome.{Outcome}
 use Rattle.hub.specs.Answers.{printed, refusal_code}
-use Rattle.hub.specs.Opening.{all_passed, opening, tests}
-use Rattle.hub.proofs.Laws.Opening.{NotRefused, ends, not-refused}
+use Rattle.hub.specs.Opening.{opening}
 use Rattle.hub.proofs.Laws.Printed.{few-refusals}
 use Rattle.encoding.specs.Form.{as_bytes}
 use Rattle.encoding.specs.Frame.{is_call}
@@ -39,11 +38,9 @@ module _ (k : Opening) (calls out : List ℕ) (o : Outcome) (e : o ≡ opening k
       ap (λ (x : Outcome). (printed x.answer).code) (sym e) ∙ ap (λ (y : Answer). (printed y).code) f in
       rw (ne_eqb (printed (opening k).answer).code 0x1F (λ z. omega (arith, z, g, few-refusals r))) (sym g, refl)
 
-  module _ (t : NotRefused o.answer) where
+  module _ (t : o.answer ≡ Answer.Opened) where
     accepted : (opening k).answer ≡ Answer.Opened
-    accepted =
-        ap (λ (x : Outcome). x.answer)
-        (not-refused k (all_passed (tests k)) (opening k) (ends k (tests k)) (rw e at t)).1
+    accepted = ap (λ (x : Outcome). x.answer) (sym e) ∙ t
 
     made : (printed (opening k).answer).code ≡ 0x1F
     made = ap (λ (y : Answer). (printed y).code) accepted

@@ -1,6 +1,6 @@
 -- An operation answers 20 or a refusal, and its steps follow from that; and what an opening makes.
 use Prim.Native.Nat.{ℕ, ◌≤◌, ◌<◌}
-use mathlib.Core.Path.{◌≡◌, ap}
+use mathlib.Core.Path.{◌≡◌, refl, ap}
 use mathlib.Core.Bool.{Bool, true, false, cond}
 use mathlib.Core.List.{List, [], ◌∷◌}
 use native.Mathlib.Omega.{arith}
@@ -12,9 +12,10 @@ use Rattle.hub.specs.declared.answers.Refusal.{Refusal}
 use Rattle.hub.specs.declared.opening.Opening.{Opening}
 use Rattle.hub.specs.declared.record.Outcome.{Outcome}
 use Rattle.hub.specs.Answers.{printed}
-use Rattle.hub.specs.Opening.{opening, tests}
+use Rattle.std.specs.Prelude.{Err, Ok}
+use Rattle.hub.specs.Opening.{opening, tests, unless_refused}
 use Rattle.hub.specs.contracts.answers.Answer as answer
-use Rattle.hub.proofs.Laws.Opening.{Ends, NotRefused, ends, not-refused}
+use Rattle.hub.proofs.Laws.Opening.{Ends, ends}
 use Rattle.hub.proofs.Laws.Printed.{no-refusal}
 use Rattle.screen.specs.declared.record.Line.{Line}
 use Rattle.screen.specs.declared.record.Moved.{Moved}
@@ -109,16 +110,22 @@ module _ (o : Opening) where
   abbrev line_by : Bool → Outcome → Moved
   line_by b x = record { answer = x.answer; line = cond b (opened_line o) no_line }
 
-  refused-by : (b : Bool) (x : Outcome) (r : Refusal) → Ends o b x → x.answer ≡ Answer.Refused r
+  refused-by : {b : Bool} {x : Outcome} {r : Refusal} → Ends o b x → unless_refused (tt {0}) x.answer ≡ Err r
       → line_by b x ≡ refused_move r no_line
-  refused-by false x r (Ends.refused q) e = ap (λ (y : Answer). record { answer = y; line = no_line }) e
-  refused-by true x r Ends.opened e = let z : ◌≡◌ {A = ℕ} 0 1 = cc in let w : ⊥ = omega arith in absurd w
+  refused-by (Ends.refused q) e = cc
+  refused-by Ends.opened e = let z : ◌≡◌ {A = ℕ} 0 1 = cc in let w : ⊥ = omega arith in absurd w
 
-  pub not_opened_lem : (r : Refusal) → (opening o).answer ≡ Answer.Refused r → line_opening o ≡ refused_move r no_line
+  opened-by : {b : Bool} {x : Outcome} → Ends o b x → unless_refused (tt {0}) x.answer ≡ Ok tt
+      → line_by b x ≡ record { answer = Answer.Opened; line = opened_line o }
+  opened-by (Ends.refused q) e = let z : ◌≡◌ {A = ℕ} 0 1 = cc in let w : ⊥ = omega arith in absurd w
+  opened-by Ends.opened e = refl
+
+  pub not_opened_lem : {r : Refusal} → unless_refused (tt {0}) (opening o).answer ≡ Err r
+      → line_opening o ≡ refused_move r no_line
   unfolding line_opening
-  not_opened_lem r e = refused-by _ _ r (ends o (tests o)) e
+  not_opened_lem e = refused-by (ends o (tests o)) e
 
-  pub opens : NotRefused (opening o).answer
+  pub opens : unless_refused (tt {0}) (opening o).answer ≡ Ok tt
       → line_opening o ≡ record { answer = Answer.Opened; line = opened_line o }
   unfolding line_opening
-  opens t = let z = not-refused o _ _ (ends o (tests o)) t in (λ i. line_by (z.0 i) (z.1 i))
+  opens e = opened-by (ends o (tests o)) e

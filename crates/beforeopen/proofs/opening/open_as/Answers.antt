@@ -1,7 +1,8 @@
 -- `open_as` meets its contract: the hub and the answer are those of what the line asks for.
-use mathlib.Core.Path.{ap, ◌∙◌}
+use Rattle.std.proofs.Common.{ap, ◌∙◌}
 use Rattle.hub.specs.declared.record.Outcome.{Outcome}
 use Rattle.hub.specs.Answers.{Printed, printed}
+use Rattle.hub.specs.Opening.{fresh}
 use Rattle.encoding.specs.Form.{as_text}
 use Rattle.encoding.specs.Frame.{frame_of}
 use Rattle.encoding.specs.Hex.{text_of}
@@ -9,15 +10,27 @@ use Rattle.line.specs.Program.{before_open, reply_in}
 use Rattle.line.specs.Requests.{Request}
 use Rattle.beforeopen.proofs.opening.open_as.Goals as goal
 
-pub returns : goal.returns
+pub returns-in-Ok : goal.returns-in-Ok
 unfolding before_open
-returns c =
-    let w = c in
-    let o = w in
-    let e = o.read_opening.ensures in (
-      ap (λ (x : Outcome). x.hub) o.open_hub-o.ensures.0 ∙ ap (λ (q : Request). (before_open q).hub) e,
-      w.put_line.ensures
+returns-in-Ok c =
+    let outcome = c.in-Ok.ensures.outcome in
+    let e = c.read_opening.ensures in (
+      ap (λ (x : Outcome). x.hub) outcome ∙ ap (λ (q : Request). (before_open q).hub) e,
+      c.put_line.ensures
           ∙ ap (λ (x : Printed). text_of (frame_of 0xFF x))
-          (w.print_of.ensures ∙ ap (λ (x : Outcome). printed x.answer) o.open_hub-o.ensures.0)
+          (c.print_of.ensures ∙ ap (λ (x : Outcome). printed x.answer) outcome)
+          ∙ ap (λ (q : Request). reply_in as_text (before_open q).reply) e,
+    )
+
+pub returns-in-Err : goal.returns-in-Err
+unfolding before_open
+returns-in-Err c =
+    let outcome = c.in-Err.ensures.outcome in
+    let e = c.read_opening.ensures in (
+      c.«open».ensures ∙ ap fresh c.sized.ensures
+          ∙ ap (λ (x : Outcome). x.hub) outcome ∙ ap (λ (q : Request). (before_open q).hub) e,
+      c.put_line-in-Err.ensures
+          ∙ ap (λ (x : Printed). text_of (frame_of 0xFF x))
+          (c.print_of-in-Err.ensures ∙ ap (λ (x : Outcome). printed x.answer) outcome)
           ∙ ap (λ (q : Request). reply_in as_text (before_open q).reply) e,
     )

@@ -18,7 +18,7 @@ loop-p-preserved c =
     let l = c in
     let put = c.put_cell in
     let name = c.phase_name.ensures in
-    let number = c.ticket.ensures in
+    let number = (c.unwrap_or.ensures ∙ c.ticket.ensures.or_0) in
     cell-more _ _ _ _ _ free_slot put.new.out l.loop-p.invariant
     c.loop-p-test.true
     (put.ensures ∙ (λ j. name j ∷ four_of (number j))) (ap length put.ensures)
