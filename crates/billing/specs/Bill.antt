@@ -1,35 +1,37 @@
 -- "Refusal 3 is read for n here, and 22 when the fee is above 1,000,000 cents or the lines exceed
 -- 100,000,000 comes after it": by value, and for C and Rust in bytes.
-use Rattle.std.specs.Prelude.{ℕ, zero, suc, ◌+◌, ◌*◌, ◌/◌, ◌%◌, Bool, true, false, cond, not, ◌||◌, List, [], ◌∷◌, ◌++◌, eqb, ltb, length, replicate, take, drop}
+use Rattle.std.specs.Prelude.{ℕ, zero, suc, ◌+◌, ◌*◌, ◌/◌, ◌%◌, Bool, true, false, cond, not, ◌||◌, List, [], ◌∷◌, ◌++◌, eqb, ltb, length, take, drop}
+use Rattle.std.specs.Prelude.{Result, Ok, Err}
 use Rattle.hub.specs.Basics.{up_to32}
-use Rattle.billing.specs.declared.Answer.{Answer}
+use Rattle.billing.specs.declared.Refusal.{Refusal}
 use Rattle.billing.specs.declared.Terms.{Terms}
 use Rattle.billing.specs.Counting.{table, lines_in, grants_of}
 use Rattle.billing.specs.Sharing.{share, up_to}
 
--- Of n parties, a fee in cents and the lines' bytes l: 3, then 22.
-unfoldable pub answer_to : ℕ → ℕ → List ℕ → Answer
-answer_to n fee l =
-    cond (not (up_to32 n)) Answer.BadParties
-    (cond (ltb 1000000 fee || ltb 100000000 (lines_in l)) Answer.TooMuch Answer.Billed)
-
-abbrev pub code_of : Answer → ℕ
-code_of Answer.BadParties = 3
-code_of Answer.TooMuch = 22
-code_of Answer.Billed = 0
-
-abbrev pub is_billed : Answer → Bool
-is_billed Answer.BadParties = false
-is_billed Answer.TooMuch = false
-is_billed Answer.Billed = true
-
 abbrev pub terms_of : ℕ → ℕ → List ℕ → Terms
 terms_of n fee l = record { parties = n; fee = fee; grants = table 32 (grants_of l) }
 
--- The shares of 32 parties: 0 from n up, and of a refused bill.
-unfoldable pub shares_of : ℕ → ℕ → List ℕ → List ℕ
-shares_of n fee l =
-    cond (is_billed (answer_to n fee l)) (up_to n (share (terms_of n fee l))) (replicate 32 0)
+-- The shares of 32 parties: 0 from n up.
+abbrev pub shares_of : ℕ → ℕ → List ℕ → List ℕ
+shares_of n fee l = up_to n (share (terms_of n fee l))
+
+-- Of n parties, a fee in cents and the lines' bytes l: 3, then 22, else the shares.
+unfoldable pub answer_to : ℕ → ℕ → List ℕ → Result (List ℕ) Refusal
+answer_to n fee l =
+    cond (not (up_to32 n)) (Err Refusal.BadParties)
+    (cond (ltb 1000000 fee || ltb 100000000 (lines_in l)) (Err Refusal.TooMuch) (Ok (shares_of n fee l)))
+
+abbrev pub number_of : Refusal → ℕ
+number_of Refusal.BadParties = 3
+number_of Refusal.TooMuch = 22
+
+abbrev pub code_of : Result (List ℕ) Refusal → ℕ
+code_of (Ok _) = 0
+code_of (Err why) = number_of why
+
+abbrev pub is_billed : Result (List ℕ) Refusal → Bool
+is_billed (Ok _) = true
+is_billed (Err _) = false
 
 -- A number in four bytes, high byte first; these at the place of four bytes.
 abbrev pub four_bytes : ℕ → List ℕ

@@ -3,3 +3,4 @@ pub mod Counting
 pub mod Sharing
 pub mod Bill
 pub mod Promises
+pub mod Portions

@@ -3,28 +3,26 @@
 
 #![tactic(auto)]
 
-ghost use Rattle.std.specs.Prelude.{◌*◌, ◌+◌, ◌<◌, ◌≤◌, ◌≡◌, ltb, get_or, length, replicate};
-ghost use Rattle.hub.specs.Basics.{bit};
-ghost use Rattle.billing.specs.Bill.{answer_to, bill_bytes, bill_code, code_of, in_bytes, shares_of};
-ghost use Rattle.billing.specs.Bill.{written_at};
+ghost use Rattle.std.specs.Prelude.{ℕ, ◌*◌, ◌+◌, ◌<◌, ◌≤◌, ◌≡◌, cond, get_or, length, ltb};
+ghost use Rattle.billing.specs.Bill.{answer_to, bill_bytes, bill_code, in_bytes, written_at};
 ghost use Rattle.billing.specs.Counting.{grants_of, receiver_of, sum, table};
+ghost use Rattle.billing.specs.Portions.{cents_at, remainder_at};
 ghost use Rattle.billing.specs.Sharing.{Billable, granted, left_over, precedes, rank, remainder};
-ghost use Rattle.billing.specs.Sharing.{rounded_down, share, up_to, weighed, whole};
+ghost use Rattle.billing.specs.Sharing.{rounded_down, share, up_to, weighed};
 
 use openhub::up_to_32;
-
-const NOBODY: u8 = 255; // is no party
 
 const MOST_CENTS: u32 = 1000000;
 
 const MOST_LINES: usize = 100000000;
 
-// How a bill is answered: 3, 22, 0 (`code_of`).
-#[derive(Clone, Copy)]
-pub enum Answer {
-    BadParties, // n is not 1 to 32
-    TooMuch, // the fee is above 1,000,000 cents, or the lines exceed 100,000,000
-    Billed,
+const NO_BUFFER: u8 = 255; // answers a buffer that has not four bytes for each party
+
+// Why a fee is not shared, by its number: the first that applies.
+#[derive(Clone, Copy, PartialEq, Eq, Debug)]
+pub enum Refusal {
+    BadParties = 3, // n is not 1 to 32
+    TooMuch = 22, // the fee is above 1,000,000 cents, or the lines exceed 100,000,000
 }
 
 // What is shared, and by what.
@@ -35,213 +33,144 @@ pub struct Terms {
     pub grants: [u64; 32], // the links that each party got
 }
 
-// The exact portions, rounded down and what remains of each, and the cents left over.
+// A party's exact portion, rounded down, and what remains of it.
 #[derive(Clone, Copy)]
+struct Portion {
+    cents: u32,
+    remainder: u32,
+}
+
+// The portions of all parties, and the cents left over.
 struct Portions {
-    cents: [u32; 32],
-    remainders: [u64; 32],
+    each: [Portion; 32],
     left: u32,
 }
 
-// An answer, and the parties' shares in cents: 0 from n up, and of a refused bill.
-#[derive(Clone, Copy)]
-pub struct Bill {
-    pub answer: Answer,
-    pub shares: [u32; 32],
-}
-
-// The party that a line gives a link.
-fn receiver(code: u8, party: u8, woken: u8) -> u8
-    ensures { result ≡ receiver_of code party woken }
+// The party that a line gives a link, if it gives one to a party below 32.
+#[tactic(auto, unfolding(crate::specs::Counting::receiver_of))]
+fn receiver(code: u8, party: u8, woken: u8) -> Option<u8>
+    ensures { let p = receiver_of code party woken in result ≡ cond (ltb p 32) (Some p) None }
 {
-    if code == 0x21 {
-        return party;
-    }
-    if code == 0x25 {
-        return party;
-    }
-    if code == 0x2A {
-        return woken;
-    }
-    NOBODY
+    let receiver = match code {
+        0x21 | 0x25 => party,
+        0x2A => woken,
+        _ => return None,
+    };
+    (receiver < 32).then_some(receiver)
 }
 
 // The links that each party got, counted from answer lines of seven bytes each.
 pub fn count_grants(lines: &[u8]) -> [u64; 32]
     ensures { result ≡ table 32 (grants_of lines.now) }
 {
-    let total = lines.len() / 7;
     let mut grants = [0u64; 32];
-    let mut i: usize = 0;
-    while i < total {
-        let at = 7 * i;
-        let party = receiver(lines[at], lines[at + 1], lines[at + 2]);
-        if party < 32 {
+    let (whole, _) = lines.as_chunks::<7>();
+    for line in whole {
+        if let Some(party) = receiver(line[0], line[1], line[2]) {
             grants[party as usize] += 1;
         }
-        i += 1;
     }
     grants
 }
 
-// The links that the n parties got together.
-fn total_grants(t: Terms) -> u64
-    requires { Billable t }
-    ensures { result ≡ sum (granted t) t.parties }
-{
-    let n = t.parties as usize;
-    let mut total: u64 = 0;
-    let mut p: usize = 0;
-    while p < n {
-        total += t.grants[p];
-        p += 1;
-    }
-    total
-}
-
 // What a party's share goes by.
+#[tactic(auto, unfolding(crate::specs::Sharing::weighed))]
 fn weight(all: u64, links: u64) -> u64
     ensures { result ≡ weighed all links }
 {
-    if all == 0 {
-        return 1;
-    }
-    links
-}
-
-// The exact portions.
-fn divide(t: Terms) -> Portions
-    requires { Billable t }
-    ensures { (result.cents ≡ up_to t.parties (rounded_down t))
-        × (result.remainders ≡ up_to t.parties (remainder t)) × (result.left ≡ left_over t) }
-{
-    let n = t.parties as usize;
-    let fee = t.fee;
-    let all = total_grants(t);
-    let whole = if all == 0 { n as u64 } else { all };
-    let mut cents = [0u32; 32];
-    let mut remainders = [0u64; 32];
-    let mut left = fee;
-    let mut p: usize = 0;
-    while p < n {
-        let exact = (fee as u64) * weight(all, t.grants[p]);
-        let down = (exact / whole) as u32;
-        cents[p] = down;
-        remainders[p] = exact % whole;
-        left -= down;
-        p += 1;
-    }
-    Portions {
-        cents,
-        remainders,
-        left,
-    }
+    if all == 0 { 1 } else { links }
 }
 
 // Party q, with remainder r, comes before party p, with remainder s.
-fn comes_before(r: u64, q: usize, s: u64, p: usize) -> bool
+#[tactic(auto, unfolding(crate::specs::Sharing::precedes))]
+fn comes_before(r: u32, q: usize, s: u32, p: usize) -> bool
     ensures { result ≡ precedes r q s p }
 {
-    if s < r {
-        return true;
-    }
-    if r != s {
-        return false;
-    }
-    q < p
+    s < r || r == s && q < p
 }
 
-// How many of the n parties come before party p.
-fn rank(parties: u8, remainders: [u64; 32], p: usize) -> u32
-    requires { (parties ≤ 32) × (p < 32) }
-    ensures { result ≡ rank (λ q. get_or remainders q 0) parties p }
+// How many of the parties come before party p.
+fn rank(portions: &[Portion], p: usize) -> u32
+    requires { (p < length portions.now) × (length portions.now ≤ 32) }
+    ensures { result ≡ rank (remainder_at portions.now) (length portions.now) p }
 {
-    let n = parties as usize;
-    let own = remainders[p];
-    let mut before: u32 = 0;
-    let mut q: usize = 0;
-    while q < n {
-        if comes_before(remainders[q], q, own, p) {
-            before += 1;
-        }
-        q += 1;
+    let own = portions[p].remainder;
+    let mut before = 0;
+    for (q, portion) in portions.iter().enumerate() {
+        before += u32::from(comes_before(portion.remainder, q, own, p));
     }
     before
 }
 
-// One of the cents left over, for those who come first.
-fn extra(rank: u32, left: u32) -> u32
-    ensures { result ≡ bit (ltb rank left) }
-{
-    if rank < left {
-        return 1;
+impl Terms {
+    // The links that the n parties got together.
+    fn total_grants(&self) -> u64
+        requires { Billable self.now }
+        ensures { result ≡ sum (granted self.now) self.now.parties }
+    {
+        self.grants[..self.parties as usize].iter().sum()
     }
-    0
+
+    // The exact portions.
+    fn divide(&self) -> Portions
+        requires { Billable self.now }
+        ensures cents { (p : ℕ) → p < self.now.parties → cents_at result.each p ≡ rounded_down self.now p }
+        ensures remainders { (p : ℕ) → p < self.now.parties → remainder_at result.each p ≡ remainder self.now p }
+        ensures left { result.left ≡ left_over self.now }
+    {
+        let all = self.total_grants();
+        let whole = if all == 0 { self.parties as u64 } else { all };
+        let mut each = [Portion {
+            cents: 0,
+            remainder: 0,
+        }; 32];
+        let mut left = self.fee;
+        for p in 0..self.parties as usize {
+            let exact = self.fee as u64 * weight(all, self.grants[p]);
+            let down = (exact / whole) as u32;
+            each[p] = Portion {
+                cents: down,
+                remainder: (exact % whole) as u32,
+            };
+            left -= down;
+        }
+        Portions { each, left }
+    }
+
+    // The shares, of terms that are not refused: a cent more for those who come first.
+    fn apportion(&self) -> [u32; 32]
+        requires { Billable self.now }
+        ensures { result ≡ up_to self.now.parties (share self.now) }
+    {
+        let Portions { each, left } = self.divide();
+        let portions = &each[..self.parties as usize];
+        let mut shares = [0u32; 32];
+        for (p, portion) in portions.iter().enumerate() {
+            shares[p] = portion.cents + u32::from(rank(portions, p) < left);
+        }
+        shares
+    }
 }
 
-// The shares, of terms that are not refused.
-fn apportion(t: Terms) -> [u32; 32]
-    requires { Billable t }
-    ensures { result ≡ up_to t.parties (share t) }
-{
-    let parties = t.parties;
-    let n = parties as usize;
-    let d = divide(t);
-    let cents = d.cents;
-    let remainders = d.remainders;
-    let left = d.left;
-    let mut shares = [0u32; 32];
-    let mut p: usize = 0;
-    while p < n {
-        shares[p] = cents[p] + extra(rank(parties, remainders, p), left);
-        p += 1;
-    }
-    shares
-}
-
-fn refused(answer: Answer) -> Bill
-    ensures { (result.answer ≡ answer) × (result.shares ≡ replicate 32 0) }
-{
-    Bill {
-        answer,
-        shares: [0; 32],
-    }
-}
-
-// The bill of n parties for a fee in cents, from answer lines of seven bytes each.
-pub fn share_fee(parties: u8, fee: u32, lines: &[u8]) -> Bill
-    ensures { (result.answer ≡ answer_to parties fee lines.now)
-        × (result.shares ≡ shares_of parties fee lines.now) }
+// The bill of n parties for a fee in cents, from answer lines of seven bytes each: the shares in
+// cents, 0 from n up.
+#[tactic(auto, unfolding(crate::specs::Bill::answer_to))]
+pub fn share_fee(parties: u8, fee: u32, lines: &[u8]) -> Result<[u32; 32], Refusal>
+    ensures { result ≡ answer_to parties fee lines.now }
 {
     if !up_to_32(parties) {
-        return refused(Answer::BadParties);
+        return Err(Refusal::BadParties);
     }
-    if MOST_CENTS < fee {
-        return refused(Answer::TooMuch);
-    }
-    if MOST_LINES < lines.len() / 7 {
-        return refused(Answer::TooMuch);
+    if MOST_CENTS < fee || MOST_LINES < lines.len() / 7 {
+        return Err(Refusal::TooMuch);
     }
     let grants = count_grants(lines);
-    let shares = apportion(Terms {
+    let terms = Terms {
         parties,
         fee,
         grants,
-    });
-    Bill {
-        answer: Answer::Billed,
-        shares,
-    }
-}
-
-pub fn code(answer: Answer) -> u8
-    ensures { result ≡ code_of answer }
-{
-    match answer {
-        Answer::BadParties => 3,
-        Answer::TooMuch => 22,
-        Answer::Billed => 0,
-    }
+    };
+    Ok(terms.apportion())
 }
 
 // A number in four bytes, high byte first.
@@ -249,40 +178,34 @@ fn put_number(out: &mut [u8], at: usize, n: u32)
     requires { at + 4 ≤ length out.old }
     ensures { out.new ≡ written_at at out.old n }
 {
-    out[at] = (n / 16777216 % 256) as u8;
-    out[at + 1] = (n / 65536 % 256) as u8;
-    out[at + 2] = (n / 256 % 256) as u8;
-    out[at + 3] = (n % 256) as u8;
+    out[at..at + 4].copy_from_slice(&n.to_be_bytes());
 }
 
-fn put_shares(out: &mut [u8], parties: u8, shares: [u32; 32])
-    requires { (parties ≤ 32) × (length out.old ≡ 4 * parties) }
-    ensures { out.new ≡ in_bytes (λ p. get_or shares p 0) parties }
+fn put_shares(out: &mut [u8], shares: &[u32])
+    requires { length out.old ≡ 4 * length shares.now }
+    ensures { out.new ≡ in_bytes (λ p. get_or shares.now p 0) (length shares.now) }
 {
-    let n = parties as usize;
-    let mut p: usize = 0;
-    while p < n {
-        put_number(out, 4 * p, shares[p]);
-        p += 1;
+    for (p, share) in shares.iter().enumerate() {
+        put_number(out, 4 * p, *share);
     }
 }
 
 // For C and Rust: the shares of parties 0 to n−1, four bytes each. Gives the answer's code, or 255
 // if it is handed no such buffer; unless it gives 0 nothing is written.
+#[tactic(auto, unfolding(crate::specs::Bill::answer_to, crate::specs::Bill::bill_code, crate::specs::Bill::bill_bytes))]
 pub fn bill_shares(parties: u8, fee: u32, lines: &[u8], shares: &mut [u8]) -> u8
     ensures { (result ≡ bill_code parties fee lines.now shares.old)
         × (shares.new ≡ bill_bytes parties fee lines.now shares.old) }
 {
-    let b = share_fee(parties, fee, lines);
-    let answer = b.answer;
-    let c = code(answer);
-    if c != 0 {
-        return c;
+    match share_fee(parties, fee, lines) {
+        Err(why) => why as u8,
+        Ok(cents) => {
+            let n = parties as usize;
+            if shares.len() != 4 * n {
+                return NO_BUFFER;
+            }
+            put_shares(shares, &cents[..n]);
+            0
+        }
     }
-    if shares.len() != 4 * (parties as usize) {
-        return 255;
-    }
-    let cents = b.shares;
-    put_shares(shares, parties, cents);
-    0
 }

@@ -1,22 +1,12 @@
 -- Shares in bytes, four bytes each.
 use Prim.Native.Nat.{ℕ, zero, suc, ◌+◌, ◌*◌, ◌≤◌, ◌<◌}
 use mathlib.Core.Path.{◌≡◌, refl, sym, ap, ◌∙◌}
-use mathlib.Core.List.{List, [], ◌∷◌, ◌++◌, append-nil}
+use mathlib.Core.List.{List, ◌++◌, append-nil}
 use native.Mathlib.Omega.{arith}
-use lib.ListN.{length, set, take, drop, length-append, length-drop, drop_of_length-le}
-use lib.Seq.{sets-eq, take_at, drop-append-add, drop-drop}
+use lib.ListN.{length, take, drop, length-append, length-drop, drop_of_length-le}
+use lib.Seq.{take_at, drop-append-add, drop-drop}
 use native.Mathlib.Numerals.{add-one}
 use Rattle.billing.specs.Bill.{four_bytes, written_at, in_bytes}
-
--- Four bytes written one after the other.
-pub four-written : (l : List ℕ) (at p q r s : ℕ) → at + 4 ≤ length l
-    → set (set (set (set l at p) (at + 1) q) (at + 2) r) (at + 3) s
-    ≡ take at l ++ (p ∷ q ∷ r ∷ s ∷ []) ++ drop (at + 4) l
-four-written l at p q r s h =
-    let e₁ : at + 1 ≡ suc at = omega arith in
-    let e₂ : at + 2 ≡ suc (suc at) = omega arith in
-    let e₃ : at + 3 ≡ suc (suc (suc at)) = omega arith in
-    rw (e₁, e₂, e₃) (sets-eq (p ∷ q ∷ r ∷ s ∷ []) l at h)
 
 pub length-bytes : (f : ℕ → ℕ) (n : ℕ) → length (in_bytes f n) ≡ 4 * n
 unfolding in_bytes

@@ -16,18 +16,18 @@ use Rattle.billing.proofs.Laws.Sums.{bit-most, bit-true, bit-false, sum-le, sum_
 use Rattle.billing.proofs.Laws.Sums.{count_most}
 
 -- The order, as a fact.
-abbrev pub Ahead : ℕ → ℕ → ℕ → ℕ → Type 0
+abbrev Ahead : ℕ → ℕ → ℕ → ℕ → Type 0
 Ahead r q s p = (s < r) ⊎ ((r ≡ s) × (q < p))
 
-pub tied : (r q s p : ℕ) → r ≡ s → precedes r q s p ≡ ltb q p
+tied : (r q s p : ℕ) → r ≡ s → precedes r q s p ≡ ltb q p
 unfolding precedes
 tied r q s p e = rw (le-ltb s r (omega arith), eq-eqb r s e)
 
-pub smaller : (r q s p : ℕ) → r ≤ s → (r ≡ s → ⊥) → precedes r q s p ≡ false
+smaller : (r q s p : ℕ) → r ≤ s → (r ≡ s → ⊥) → precedes r q s p ≡ false
 unfolding precedes
 smaller r q s p h e = rw (le-ltb s r h, ne_eqb r s e)
 
-pub ahead : (r q s p : ℕ) → Ahead r q s p → precedes r q s p ≡ true
+ahead : (r q s p : ℕ) → Ahead r q s p → precedes r q s p ≡ true
 unfolding precedes
 ahead r q s p (inl h) = rw (lt-ltb s r h)
 ahead r q s p (inr h) = tied r q s p h.0 ∙ lt-ltb q p h.1

@@ -2,7 +2,7 @@
 -- together, is the cents left over times the whole: these are no more than the parties that have a
 -- remainder, so that each goes to one of those, and all of them go.
 use Prim.Native.Nat.{ℕ, ◌+◌, ◌*◌, ◌-◌, ◌≤◌, ◌<◌}
-use mathlib.Core.Path.{◌≡◌, ap, ◌∙◌}
+use mathlib.Core.Path.{◌≡◌, sym, ap, ◌∙◌}
 use mathlib.Core.Bool.{Bool, true, false}
 use mathlib.Core.List.{List}
 use native.Mathlib.Decide.{ℕ_discrete, dec_le}
@@ -10,17 +10,20 @@ use native.Mathlib.Nat.{div-add-mod', mod-lt, le_of_mul-le-mul_left, mul-le-mul}
 use native.Mathlib.Omega.{arith}
 use borrow.Author.Tests.{lt-ltb, le-ltb, eq-eqb, ne_eqb}
 use lib.Dec.{ltb}
-use lib.ListN.{get_or, set, replicate}
+use lib.ListN.{length, get_or, set, take, replicate, length-set, length-replicate, length-take}
+use Rattle.std.proofs.lemmas.List.{get_or-take}
+use lib.Seq.{get_or-set_same, get_or-set_other}
 use Rattle.hub.specs.Basics.{bit}
+use Rattle.billing.specs.declared.Portion.{Portion}
 use Rattle.billing.specs.declared.Terms.{Terms}
 use Rattle.billing.specs.Counting.{sum}
+use Rattle.billing.specs.Portions.{nothing, cents_at, remainder_at}
 use Rattle.billing.specs.Promises.{EveryBill}
 use Rattle.billing.specs.Sharing.{granted, weighed, weight, whole, rounded_down, remainder}
-use Rattle.billing.specs.Sharing.{left_over, precedes, rank, share, up_to, Billable}
+use Rattle.billing.specs.Sharing.{left_over, precedes, rank, share, Billable}
 use Rattle.billing.proofs.Laws.Ranks.{places, remains, rank-none}
 use Rattle.billing.proofs.Laws.Sums.{bit-false, sum-le, sum_same, sum-add}
 use Rattle.billing.proofs.Laws.Sums.{sum-mul, sum-const, sum-part, sum-next, count_most}
-use Rattle.billing.proofs.Laws.Tables.{up-to-none, up-to-more, up-to-get, up-to-same}
 
 pub weighed-none : (all links : ℕ) → all ≡ 0 → weighed all links ≡ 1
 unfolding weighed
@@ -159,19 +162,21 @@ every-bill t s =
     }
 
 -- The portions of the first p parties are worked out, and what is left of the fee.
-pub record Divided (t : Terms) (l m : List ℕ) (x p : ℕ) : Type 0 where
+pub record Divided (t : Terms) (each : List Portion) (x p : ℕ) : Type 0 where
+  pub size : length each ≡ 32
   pub within : p ≤ t.parties
-  pub cents : l ≡ up_to p (rounded_down t)
-  pub remainders : m ≡ up_to p (remainder t)
+  pub cents : (q : ℕ) → q < p → cents_at each q ≡ rounded_down t q
+  pub remainders : (q : ℕ) → q < p → remainder_at each q ≡ remainder t q
   pub left : x + sum (rounded_down t) p ≡ t.fee
 
-pub divided-none : (t : Terms) → Divided t (replicate 32 0) (replicate 32 0) t.fee 0
+pub divided-none : (t : Terms) → Divided t (replicate 32 nothing) t.fee 0
 unfolding sum
 divided-none t =
     record {
+      size = length-replicate 32 nothing;
       within = omega arith;
-      cents = up-to-none (rounded_down t);
-      remainders = up-to-none (remainder t);
+      cents = λ q h. absurd (omega arith);
+      remainders = λ q h. absurd (omega arith);
       left = omega arith;
     }
 
@@ -183,11 +188,32 @@ module _ {t : Terms} (b : Billable t) where
       go (yes e) = omega (arith, weighed-none (all t) (granted t p) e)
       go (no e) = omega (arith, weighed-some (all t) (granted t p) e, b.grants p h)
 
+  pub total-most : sum (granted t) t.parties ≤ 3200000000
+  total-most =
+      omega (
+        arith,
+        sum-le (granted t) (λ p. 100000000) t.parties (λ p h. b.grants p (omega (arith, b.parties))),
+        sum-const 100000000 t.parties,
+        b.parties,
+      )
+
+  pub whole-most : whole t ≤ 3200000000
+  whole-most =
+      omega (
+        arith,
+        sum-le (weight t) (λ p. 100000000) t.parties (λ p h. weight-most p (omega (arith, b.parties))),
+        sum-const 100000000 t.parties,
+        b.parties,
+      )
+
+  pub remainder-most : (p : ℕ) → remainder t p < 3200000000
+  remainder-most p = omega (arith, mod-lt (t.fee * weight t p) (whole_pos t b.some), whole-most)
+
   -- An exact portion times the whole is small.
   pub exact-most : (p : ℕ) → p < 32 → t.fee * weight t p ≤ 100000000000000
   exact-most p h = omega (arith, mul-le-mul b.fee (weight-most p h))
 
-  module _ {cents remainders : List ℕ} {left p : ℕ} (d : Divided t cents remainders left p) where
+  module _ {each : List Portion} {left p : ℕ} (d : Divided t each left p) where
     pub next-within : p < t.parties → rounded_down t p ≤ left
     next-within h =
         omega (
@@ -197,30 +223,30 @@ module _ {t : Terms} (b : Billable t) where
           down-most t b.some (p + 1) (omega arith),
         )
 
-    pub divided-next : p < t.parties → {x y : List ℕ} {z v w : ℕ} → v ≡ rounded_down t p
-        → w ≡ remainder t p → x ≡ set cents p v → y ≡ set remainders p w → z ≡ left - v
-        → Divided t x y z (p + 1)
-    divided-next h {v = v} {w = w} i j e f g =
+    -- One portion more.
+    laid : (x : Portion) (read : Portion → ℕ) (f : ℕ → ℕ) → p < t.parties → read x ≡ f p
+        → ((q : ℕ) → q < p → read (get_or each q nothing) ≡ f q)
+        → (q : ℕ) → q < p + 1 → read (get_or (set each p x) q nothing) ≡ f q
+    laid x read f h e old q k = go (ℕ_discrete p q)
+      where
+        go : Dec (p ≡ q) → read (get_or (set each p x) q nothing) ≡ f q
+        go (yes z) =
+            ap (λ (n : ℕ). read (get_or (set each p x) n nothing)) (sym z)
+            ∙ ap read (get_or-set_same each p x nothing (omega (arith, d.size, b.parties)))
+            ∙ e ∙ ap f z
+        go (no z) = ap read (get_or-set_other each p q x nothing (λ y. z (sym y))) ∙ old q (omega arith)
+
+    pub divided-next : p < t.parties → {v w : ℕ} → v ≡ rounded_down t p → w ≡ remainder t p
+        → Divided t (set each p (record { cents = v; remainder = w })) (left - v) (p + 1)
+    divided-next h {v} {w} i j =
+        let x : Portion = record { cents = v; remainder = w } in
         record {
+          size = length-set each p x ∙ d.size;
           within = omega arith;
-          cents =
-              e ∙ ap (λ (l : List ℕ). set l p v) d.cents
-              ∙ up-to-more (rounded_down t) p v (omega (arith, b.parties)) i;
-          remainders =
-              f ∙ ap (λ (l : List ℕ). set l p w) d.remainders
-              ∙ up-to-more (remainder t) p w (omega (arith, b.parties)) j;
+          cents = laid x (λ q. q.cents) (rounded_down t) h i d.cents;
+          remainders = laid x (λ q. q.remainder) (remainder t) h j d.remainders;
           left = omega (arith, d.left, sum-next (rounded_down t) p, next-within h);
         }
-
-    pub divided-all : t.parties ≤ p
-        → (cents ≡ up_to t.parties (rounded_down t))
-        × (remainders ≡ up_to t.parties (remainder t)) × (left ≡ left_over t)
-    divided-all h =
-        let e : p ≡ t.parties = omega (arith, d.within) in (
-          d.cents ∙ ap (λ (k : ℕ). up_to k (rounded_down t)) e,
-          d.remainders ∙ ap (λ (k : ℕ). up_to k (remainder t)) e,
-          omega (arith, d.left, ap (sum (rounded_down t)) e),
-        )
 
 rank_same : (r s : ℕ → ℕ) (n p : ℕ) → ((q : ℕ) → q < n → r q ≡ s q) → p < n → rank r n p ≡ rank s n p
 unfolding rank
@@ -228,44 +254,45 @@ rank_same r s n p e h =
     sum_same (λ q. bit (precedes (r q) q (r p) p)) (λ q. bit (precedes (s q) q (s p) p)) n
     (λ q k. (λ i. bit (precedes (e q k i) q (e p h i) p)))
 
--- A share as the code works it out, from tables of the portions.
-abbrev pub handed : List ℕ → List ℕ → ℕ → ℕ → ℕ → ℕ
-handed cents remainders left n p =
-    get_or cents p 0 + bit (ltb (rank (λ q. get_or remainders q 0) n p) left)
+-- A share as the code works it out, from the portions of all parties.
+abbrev pub handed : List Portion → ℕ → ℕ → ℕ
+handed portions left p =
+    cents_at portions p + bit (ltb (rank (remainder_at portions) (length portions) p) left)
 
 module _
     {t : Terms}
     (b : Billable t)
-    {cents remainders : List ℕ}
-    {left : ℕ}
-    (d : (cents ≡ up_to t.parties (rounded_down t))
-    × (remainders ≡ up_to t.parties (remainder t)) × (left ≡ left_over t))
+    (each : List Portion)
+    (long : t.parties ≤ length each)
+    (c : (p : ℕ) → p < t.parties → cents_at each p ≡ rounded_down t p)
   where
-    at : (l : List ℕ) (f : ℕ → ℕ) → l ≡ up_to t.parties f → (p : ℕ) → p < t.parties
-        → get_or l p 0 ≡ f p
-    at l f e p h =
-        ap (λ (l : List ℕ). get_or l p 0) e
-        ∙ up-to-get t.parties f p h (omega (arith, b.parties))
+    portion-cents : (p : ℕ) → p < t.parties → cents_at (take t.parties each) p ≡ rounded_down t p
+    portion-cents p h = ap (λ (x : Portion). x.cents) (get_or-take t.parties each p nothing h) ∙ c p h
 
-    pub cents-most : (p : ℕ) → p < t.parties → get_or cents p 0 ≤ 1000000
+    pub cents-most : (p : ℕ) → p < t.parties → cents_at (take t.parties each) p ≤ 1000000
     cents-most p h =
         omega (
           arith,
-          at cents (rounded_down t) d.0 p h,
+          portion-cents p h,
           sum-next (rounded_down t) p,
           down-most t b.some (p + 1) (omega arith),
           b.fee,
         )
 
-    pub handed-shares : up_to t.parties (handed cents remainders left t.parties)
-        ≡ up_to t.parties (share t)
+    pub handed-shares : ((p : ℕ) → p < t.parties → remainder_at each p ≡ remainder t p)
+        → {left : ℕ} → left ≡ left_over t
+        → (p : ℕ) → p < t.parties → handed (take t.parties each) left p ≡ share t p
     unfolding share
-    handed-shares =
-        up-to-same t.parties (handed cents remainders left t.parties) (share t)
-        (λ p h. (λ i. at cents (rounded_down t) d.0 p h i + bit (ltb (ranked p h i) (d.2 i))))
+    handed-shares r e p h = (λ i. portion-cents p h i + bit (ltb (ranked i) (e i)))
       where
-        ranked : (p : ℕ) → p < t.parties
-            → rank (λ q. get_or remainders q 0) t.parties p ≡ rank (remainder t) t.parties p
-        ranked p =
-            rank_same (λ q. get_or remainders q 0) (remainder t) t.parties p
-            (at remainders (remainder t) d.1)
+        size : length (take t.parties each) ≡ t.parties
+        size = omega (arith, length-take t.parties each)
+
+        left-of : (q : ℕ) → q < t.parties → remainder_at (take t.parties each) q ≡ remainder t q
+        left-of q k = ap (λ (x : Portion). x.remainder) (get_or-take t.parties each q nothing k) ∙ r q k
+
+        ranked : rank (remainder_at (take t.parties each)) (length (take t.parties each)) p
+            ≡ rank (remainder t) t.parties p
+        ranked =
+            ap (λ (n : ℕ). rank (remainder_at (take t.parties each)) n p) size
+            ∙ rank_same (remainder_at (take t.parties each)) (remainder t) t.parties p left-of h

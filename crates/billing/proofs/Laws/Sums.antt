@@ -1,18 +1,28 @@
 -- Sums over the numbers below n.
 use Prim.Native.Nat.{ℕ, zero, suc, ◌+◌, ◌*◌, ◌≤◌, ◌<◌}
-use mathlib.Core.Path.{◌≡◌, refl, ap}
+use mathlib.Core.Path.{◌≡◌, refl, ap, ◌∙◌}
+use mathlib.Core.List.{List}
 use mathlib.Core.Bool.{Bool, true, false}
 use native.Mathlib.Numerals.{add-one}
 use native.Mathlib.Decide.{ℕ_discrete, dec_le}
 use native.Mathlib.Omega.{arith}
 use borrow.Author.Tests.{lt-ltb, le-ltb, eq-eqb, ne_eqb}
 use lib.Dec.{ltb, eqb}
+use mir.Val.{bool_byte}
+use lib.ListN.{length, get_or, take}
+use Rattle.std.specs.List.{sum_by}
+use Rattle.std.proofs.lemmas.List.Sums.{sum_by_more}
 use Rattle.hub.specs.Basics.{bit}
 use Rattle.billing.specs.Counting.{sum, count_below}
 
 pub bit-most : (b : Bool) → bit b ≤ 1
 bit-most true = omega arith
 bit-most false = omega arith
+
+-- A test as a number, in std's words.
+pub bit-of : (b : Bool) → bool_byte b ≡ bit b
+bit-of true = refl
+bit-of false = refl
 
 pub bit-true : {b : Bool} → b ≡ true → bit b ≡ 1
 bit-true e = ap bit e
@@ -60,6 +70,16 @@ sum-const a (suc n) = omega (arith, sum-const a n)
 pub sum-next : (f : ℕ → ℕ) (n : ℕ) → sum f (n + 1) ≡ sum f n + f n
 unfolding sum
 sum-next f n = rw add-one
+
+-- The sum of the first n of a list.
+pub sum-taken : (l : List ℕ) (n : ℕ) → n ≤ length l → sum_by (λ x. x) (take n l) ≡ sum (λ p. get_or l p 0) n
+unfolding sum
+sum-taken l zero h = refl
+sum-taken l (suc n) h =
+    let e : suc n ≡ n + 1 = omega arith in
+    ap (λ (k : ℕ). sum_by (λ x. x) (take k l)) e
+    ∙ sum_by_more (λ x. x) l n 0 (omega arith)
+    ∙ ap (λ (s : ℕ). s + get_or l n 0) (sum-taken l n (omega arith))
 
 -- A part of a sum.
 pub sum-part : (f : ℕ → ℕ) {m : ℕ} (n : ℕ) → m ≤ n → sum f m ≤ sum f n

@@ -1,25 +1,32 @@
 -- `count_grants` meets its contract: from any turn on the table has what the lines before gave.
-use Prim.Native.Nat.{◌-◌}
+use Prim.Native.Nat.{◌<◌}
+use mathlib.Core.Path.{◌∙◌}
 use native.Mathlib.Omega.{arith}
+use Rattle.billing.specs.Counting.{lines_in}
 use Rattle.billing.proofs.Laws.Counting.{counted_none, counted-all, counted-room}
-use Rattle.billing.proofs.Laws.Counting.{counted-one, counted-other}
+use Rattle.billing.proofs.Laws.Counting.{counted-one, counted-other, line_is, counted_is, uncounted}
 use Rattle.billing.proofs.count_grants.Goals as goal
-use Rattle.billing.proofs.count_grants.Goals.{then-party-lt32, else-party-lt32}
+use Rattle.billing.proofs.count_grants.Goals.{in-Some, in_default}
 
-pub loop-i-init : goal.loop-i-init
-loop-i-init c = counted_none _
+pub loop-line-init : goal.loop-line-init
+loop-line-init c = counted_none _
 
 pub overflow_add-grants : goal.overflow_add-grants
 overflow_add-grants c =
-    omega (arith, counted-room c.loop-i.invariant c.receiver-party.result c.if-party-lt32.true)
+    let r = counted_is _ c.receiver.ensures c.in-Some.is in
+    omega (arith, counted-room c.loop-line.invariant c.in-Some.party r.1, c.loop-line.invariant.within)
 
-pub loop-i-preserved : goal.loop-i-preserved
-loop-i-preserved c =
-    let i = c.loop-i.invariant in
-    elim c.if-party-lt32.branch [
-      | then-party-lt32 w ↦ counted-one i c.loop-i-test.true c.receiver-party.ensures w.if-party-lt32.true w.grants-is
-      | else-party-lt32 w ↦ counted-other i c.loop-i-test.true c.receiver-party.ensures w.if-party-lt32.false w.grants-is
+pub loop-line-preserved : goal.loop-line-preserved
+loop-line-preserved c =
+    let within : c.loop-line.line-index < lines_in c.args.lines.now = omega arith in
+    let line = line_is c.args.lines.now c.loop-line.line-index within c.as_chunks.ensures.front in
+    elim c.match-receiver.branch [
+      | in-Some w ↦
+          let r = counted_is _ c.receiver.ensures w.in-Some.is in
+          counted-one c.loop-line.invariant within (r.0 ∙ line) r.1 w.grants-is
+      | in_default w ↦
+          counted-other c.loop-line.invariant within line (uncounted _ c.receiver.ensures w.in_default.is) w.grants-is
     ]
 
 pub returns : goal.returns
-returns c = counted-all c.loop-i.invariant c.loop-i-test.false
+returns c = counted-all c.loop-line.invariant (omega arith)
