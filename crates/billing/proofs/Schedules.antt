@@ -35,8 +35,9 @@ use Rattle.line.specs.Program.{unopened, Reply, reply_of, replies, rendered, lin
 use Rattle.line.specs.Requests.{request_of, to_open}
 use Rattle.run.specs.Bytes.{calls_of, frames_of, well_formed}
 use Rattle.run.specs.Run.{OwnNumbers, end_if, framed_run, written}
-use Rattle.run.specs.declared.Ran.{Ran}
+use Rattle.run.specs.declared.RunError.{RunError}
 use Rattle.run.proofs.Numbers.{own-numbers}
+use Rattle.std.specs.Prelude.{Err, Ok}
 use Rattle.outputs.specs.Schedule.{Schedule, unstarted, started, replies_of, left_by, Holds, schedule_of}
 use Rattle.outputs.specs.Schedule.{left_out, left_out_codes, kept, EveryInput}
 use Rattle.outputs.proofs.Laws.Every.{every-input}
@@ -176,7 +177,7 @@ done-opened : (o : Opening) (b : Bool) (x : Outcome) → Ends o b x → (w m : B
 unfolding end_if OwnNumbers
 done-opened o false x (refused r) w m out done e =
     let n : refusal_code r ≡ 0 = rw (no-refusal r 0x1F (omega arith)) at e in
-    let z : Ran.NotOpened r ≡ Ran.Done = own-numbers (Ran.NotOpened r) Ran.Done n in
+    let z : Err (RunError.NotOpened r) ≡ Ok tt = own-numbers (Err (RunError.NotOpened r)) (Ok tt) n in
     let y : ◌≡◌ {A = ℕ} 0 1 = cc in let v : ⊥ = omega arith in absurd v
 done-opened o true x accepted false m out done e = absurd (omega (arith, e))
 done-opened o true x accepted true false out done e = absurd (omega (arith, e))

@@ -1,13 +1,22 @@
 -- Opening a latch with N and n, with refusals 3 and 18.
-use Rattle.std.specs.Prelude.{ℕ, Bool, true, false, ◌&&◌, leb, replicate}
+use Rattle.std.specs.Prelude.{ℕ, Bool, true, false, ◌&&◌, leb, replicate, Result, Ok, Err}
 use Rattle.hub.specs.Basics.{up_to32}
 use Rattle.hub.specs.Record.{PARTIES, empty_seat}
 use Rattle.hub.specs.Ring.{PLACES}
-use Rattle.latch.specs.declared.opening.LatchOpening.{LatchOpening}
-use Rattle.latch.specs.declared.opening.Start.{Start}
+use Rattle.latch.specs.declared.opening.LatchRefusal.{LatchRefusal}
 use Rattle.latch.specs.declared.record.Latch.{Latch}
 use Rattle.latch.specs.declared.record.LatchFigures.{LatchFigures}
 use Rattle.latch.specs.Record.{free_slot}
+
+-- How an opening goes, and the record that it makes.
+pub data Start : Type 0 where
+  BadParties : Start
+  BadCount : Start
+  Opened : Start
+
+pub record LatchOpening : Type 0 where
+  pub start : Start
+  pub latch : Latch
 
 -- The paper's numbers.
 abbrev pub start_code : Start → ℕ
@@ -49,3 +58,17 @@ opening_if true true c n = record { start = Start.Opened; latch = fresh c n }
 
 abbrev pub opening : ℕ → ℕ → LatchOpening
 opening c n = opening_if (up_to32 n) (up_to200 c) c n
+
+-- A refusal's number.
+abbrev pub refusal_code : LatchRefusal → ℕ
+refusal_code LatchRefusal.BadParties = 3
+refusal_code LatchRefusal.BadCount = 18
+
+-- What an opening hands back: the record, or why there is none.
+abbrev pub made_by : Start → Latch → Result Latch LatchRefusal
+made_by Start.BadParties h = Err LatchRefusal.BadParties
+made_by Start.BadCount h = Err LatchRefusal.BadCount
+made_by Start.Opened h = Ok h
+
+abbrev pub made : LatchOpening → Result Latch LatchRefusal
+made o = made_by o.start o.latch

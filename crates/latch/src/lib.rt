@@ -8,5 +8,5 @@ pub mod moves; // a call, and what it looks at
 pub mod opening; // a fresh record
 
 pub use moves::{LatchCall, LatchOp};
-pub use opening::{LatchOpening, Start};
+pub use opening::LatchRefusal;
 pub use record::{Latch, LatchFigures, LatchOutcome, LatchSlot};

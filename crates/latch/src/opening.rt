@@ -1,7 +1,7 @@
 // Opening a latch with N and n, and refusals 3 and 18.
 
 ghost use Rattle.std.specs.Prelude.{◌≡◌};
-ghost use Rattle.latch.specs.Opening.{figures_at, fresh, not_opened, opening, start_code, up_to200};
+ghost use Rattle.latch.specs.Opening.{figures_at, fresh, made, opening, refusal_code, up_to200};
 ghost use Rattle.latch.specs.Record.{free_slot};
 
 use crate::record::{Latch, LatchFigures, LatchSlot};
@@ -10,18 +10,19 @@ use hub::slots::empty_seat;
 use openhub::up_to_32;
 use phases::slot::Slot;
 
-#[derive(Clone, Copy)]
-pub enum Start {
-    BadParties, // 3: n is not 1 to 32
-    BadCount, // 18: N is not 1 to 200
-    Opened,
+// Why no latch is opened.
+#[derive(Clone, Copy, Debug, PartialEq, Eq)]
+pub enum LatchRefusal {
+    BadParties = 3, // n is not 1 to 32
+    BadCount = 18, // N is not 1 to 200
 }
 
-// How an opening went, and the record that it made.
-#[derive(Clone, Copy)]
-pub struct LatchOpening {
-    pub start: Start,
-    pub latch: Latch,
+impl From<LatchRefusal> for u8 {
+    ghost from_gives = { λ why code. code ≡ refusal_code why };
+
+    fn from(why: LatchRefusal) -> u8 {
+        why as u8
+    }
 }
 
 pub fn free_slot() -> LatchSlot
@@ -52,7 +53,7 @@ fn figures_at(count: u8) -> LatchFigures
     ensures { result ≡ figures_at count }
 {
     LatchFigures {
-        count: count as u32,
+        count: u32::from(count),
         waiters: 0,
         issued: 0,
         resumed: 0,
@@ -62,53 +63,36 @@ fn figures_at(count: u8) -> LatchFigures
 
 impl Latch {
     // The record of a latch that was just opened; nothing is checked here.
+    #[tactic(auto, unfolding(crate::specs::Opening::fresh))]
     pub fn open(count: u8, parties: u8) -> Latch
         ensures { result ≡ fresh count parties }
     {
-        let empty = empty_seat();
-        let free = free_slot();
         Latch {
             parties,
             figures: figures_at(count),
             oldest: 0,
-            places: [empty; 256],
-            slots: [free; 32],
+            places: [empty_seat(); 256],
+            slots: [free_slot(); 32],
         }
-    }
-}
-
-// A refused opening makes no record: what it hands back is one that refuses every call.
-fn refused(why: Start) -> LatchOpening
-    ensures { result ≡ not_opened why }
-{
-    LatchOpening {
-        start: why,
-        latch: Latch::open(0, 0),
     }
 }
 
 fn up_to_200(n: u8) -> bool
     ensures { result ≡ up_to200 n }
 {
-    if n < 1 {
-        return false;
-    }
-    n <= 200
+    1 <= n && n <= 200
 }
 
 // Opens a latch.
-pub fn open_latch(count: u8, parties: u8) -> LatchOpening
-    ensures { (result ≡ opening count parties)
-        × (start_code result.start ≡ start_code (opening count parties).start) }
+#[tactic(auto, unfolding(crate::specs::Opening::opening_if))]
+pub fn open_latch(count: u8, parties: u8) -> Result<Latch, LatchRefusal>
+    ensures { result ≡ made (opening count parties) }
 {
     if !up_to_32(parties) {
-        return refused(Start::BadParties);
+        return Err(LatchRefusal::BadParties);
     }
     if !up_to_200(count) {
-        return refused(Start::BadCount);
+        return Err(LatchRefusal::BadCount);
     }
-    LatchOpening {
-        start: Start::Opened,
-        latch: Latch::open(count, parties),
-    }
+    Ok(Latch::open(count, parties))
 }

@@ -21,7 +21,6 @@ use Rattle.hub.proofs.Invariant.Weights.{drawing, pick}
 use Rattle.latch.specs.declared.moves.LatchCall.{LatchCall}
 use Rattle.latch.specs.declared.moves.LatchOp.{LatchOp}
 use Rattle.latch.specs.declared.moves.LatchSight.{LatchSight}
-use Rattle.latch.specs.declared.opening.Start.{Start}
 use Rattle.latch.specs.declared.record.Latch.{Latch}
 use Rattle.latch.specs.declared.record.LatchSlot.{LatchSlot}
 use Rattle.latch.specs.Calls.{answer_of, called, checked, move_of}
@@ -31,7 +30,7 @@ use Rattle.latch.specs.Ledger.{Ledger, count_in, enter, is_down, ledger, opened,
 use Rattle.latch.specs.Look.{look, seen_by}
 use Rattle.latch.specs.Moves.{Move}
 use Rattle.latch.specs.Moves.{Refuse, Act, Put, Wake}
-use Rattle.latch.specs.Opening.{fresh, opening}
+use Rattle.latch.specs.Opening.{Start, fresh, opening}
 use Rattle.latch.specs.Queue.{Queue}
 use Rattle.latch.specs.Queue as queue
 use Rattle.latched.specs.Refinement.{Shows, heard, Refines}

@@ -6,13 +6,12 @@ use Rattle.hub.specs.Basics.{among, bit}
 use Rattle.hub.specs.Phases.{at_rest}
 use Rattle.latch.specs.declared.moves.LatchCall.{LatchCall}
 use Rattle.latch.specs.declared.moves.LatchOp.{LatchOp}
-use Rattle.latch.specs.declared.opening.Start.{Start}
 use Rattle.latch.specs.declared.record.Latch.{Latch}
 use Rattle.latch.specs.declared.record.LatchSlot.{LatchSlot}
 use Rattle.latch.specs.Calls.{called}
 use Rattle.latch.specs.Fits.{fits}
 use Rattle.latch.specs.Ledger.{Ledger, count_in, is_down, ledger, opened, slot_in}
-use Rattle.latch.specs.Opening.{opening}
+use Rattle.latch.specs.Opening.{Start, opening}
 use Rattle.latch.specs.Record.{read_slot}
 use Rattle.latch.specs.Schedule.{Entry, run, entries}
 

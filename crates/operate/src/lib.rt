@@ -5,65 +5,48 @@
 ghost use Rattle.std.specs.Prelude.{◌≡◌};
 ghost use Rattle.line.specs.Requests.{requested};
 ghost use Rattle.perform.specs.Bytes.{is_operation_code};
-ghost use Rattle.run.specs.Bytes.{well_formed};
+ghost use Rattle.run.specs.Run.{ran_code};
 ghost use Rattle.operate.specs.Ending.{operated_framed};
 
 use line::openings::{is_opening_frame, opening_in};
 use openhub::open_hub;
 use perform::perform_operations;
+use run::{RunError, ran_code, well_formed};
 
 fn is_operation(code: u8) -> bool
     ensures { result ≡ is_operation_code code }
 {
-    if code == 0x10 {
-        return true;
-    }
-    if code == 0x12 {
-        return true;
-    }
-    code == 0x13
+    matches!(code, 0x10 | 0x12 | 0x13)
 }
 
-// Is each pair of bytes an operation?
-fn well_formed(operations: &[u8]) -> bool
-    ensures { result ≡ well_formed is_operation_code operations.now }
+// Opens a hub, and performs the operations if they are well formed and there is room for the answers.
+fn operate(opening: &[u8], operations: &[u8], out: &mut [u8]) -> Result<(), RunError>
+    ensures { (ran_code result
+        ≡ (operated_framed (requested opening.now) operations.now out.old).result)
+        × (out.new
+        ≡ (operated_framed (requested opening.now) operations.now out.old).out) }
 {
-    let total = operations.len() / 2;
-    if operations.len() % 2 == 1 {
-        return false;
+    if !is_opening_frame(opening) {
+        return Err(RunError::BadOpening);
     }
-    let mut i: usize = 0;
-    while i < total {
-        if !is_operation(operations[2 * i]) {
-            return false;
-        }
-        i += 1;
+    let hub = open_hub(opening_in(opening))?;
+    if !well_formed(operations, is_operation) {
+        return Err(RunError::Malformed);
     }
-    true
+    if out.len() / 3 < operations.len() / 2 {
+        return Err(RunError::NoRoom);
+    }
+    perform_operations(hub, operations, out);
+    Ok(())
 }
 
-// Opens a hub, and performs the operations if they are well formed and there is room for the answers: 0 done, 12 a
-// malformed opening, 2, 3 or 14 to 17 not opened, 254 malformed operations, 255 no room.
+// The same for C and Rust, which see a number: 0 done, 12 a malformed opening, 2, 3 or 14 to 17 not opened, 254
+// malformed operations, 255 no room.
 pub fn hub_operate(opening: &[u8], operations: &[u8], out: &mut [u8]) -> u8
     ensures { (result
         ≡ (operated_framed (requested opening.now) operations.now out.old).result)
         × (out.new
         ≡ (operated_framed (requested opening.now) operations.now out.old).out) }
 {
-    if !is_opening_frame(opening) {
-        return 12;
-    }
-    let opened = open_hub(opening_in(opening));
-    let hub = match opened {
-        Ok(hub) => hub,
-        Err(why) => return why.code(),
-    };
-    if !well_formed(operations) {
-        return 254;
-    }
-    if out.len() / 3 < operations.len() / 2 {
-        return 255;
-    }
-    perform_operations(hub, operations, out);
-    0
+    ran_code(operate(opening, operations, out))
 }

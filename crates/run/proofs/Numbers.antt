@@ -5,57 +5,58 @@ use mathlib.Core.Bool.{cond}
 use mathlib.Core.List.{List, [], ◌∷◌}
 use lib.Dec.{eqb}
 use Rattle.hub.specs.declared.answers.Refusal.{Refusal}
-use Rattle.run.specs.Run.{OwnNumbers, ran_code}
-use Rattle.run.specs.declared.Ran.{Ran}
+use Rattle.run.specs.Run.{OwnNumbers, Ran, ran_code}
+use Rattle.run.specs.declared.RunError.{RunError}
+use Rattle.std.specs.Prelude.{Ok, Err}
 
 ends : List Ran
 ends =
-    Ran.BadOpening
-    ∷ Ran.Malformed
-    ∷ Ran.NoRoom
-    ∷ Ran.NotOpened Refusal.Unfit
-    ∷ Ran.NotOpened Refusal.BadPermits
-    ∷ Ran.NotOpened Refusal.BadParties
-    ∷ Ran.NotOpened Refusal.NoSuchParty
-    ∷ Ran.NotOpened Refusal.NotFree
-    ∷ Ran.NotOpened Refusal.Exhausted
-    ∷ Ran.NotOpened Refusal.Full
-    ∷ Ran.NotOpened Refusal.AtRest
-    ∷ Ran.NotOpened Refusal.NotWaiting
-    ∷ Ran.NotOpened Refusal.NotCancellable
-    ∷ Ran.NotOpened Refusal.NotHolding
-    ∷ Ran.NotOpened Refusal.SameRadios
-    ∷ Ran.NotOpened Refusal.MiscountedKinds
-    ∷ Ran.NotOpened Refusal.UnknownKind
-    ∷ Ran.NotOpened Refusal.NoDesk
+    Err RunError.BadOpening
+    ∷ Err RunError.Malformed
+    ∷ Err RunError.NoRoom
+    ∷ Err (RunError.NotOpened Refusal.Unfit)
+    ∷ Err (RunError.NotOpened Refusal.BadPermits)
+    ∷ Err (RunError.NotOpened Refusal.BadParties)
+    ∷ Err (RunError.NotOpened Refusal.NoSuchParty)
+    ∷ Err (RunError.NotOpened Refusal.NotFree)
+    ∷ Err (RunError.NotOpened Refusal.Exhausted)
+    ∷ Err (RunError.NotOpened Refusal.Full)
+    ∷ Err (RunError.NotOpened Refusal.AtRest)
+    ∷ Err (RunError.NotOpened Refusal.NotWaiting)
+    ∷ Err (RunError.NotOpened Refusal.NotCancellable)
+    ∷ Err (RunError.NotOpened Refusal.NotHolding)
+    ∷ Err (RunError.NotOpened Refusal.SameRadios)
+    ∷ Err (RunError.NotOpened Refusal.MiscountedKinds)
+    ∷ Err (RunError.NotOpened Refusal.UnknownKind)
+    ∷ Err (RunError.NotOpened Refusal.NoDesk)
     ∷ []
 
 -- The first end of a list that has this number; done if none has.
 numbered : ℕ → List Ran → Ran
-numbered c [] = Ran.Done
+numbered c [] = Ok tt
 numbered c (r ∷ rs) = cond (eqb (ran_code r) c) r (numbered c rs)
 
 found : (r : Ran) → numbered (ran_code r) ends ≡ r
 unfolding ends numbered
-found Ran.BadOpening = refl
-found Ran.Malformed = refl
-found Ran.NoRoom = refl
-found Ran.Done = refl
-found (Ran.NotOpened Refusal.Unfit) = refl
-found (Ran.NotOpened Refusal.BadPermits) = refl
-found (Ran.NotOpened Refusal.BadParties) = refl
-found (Ran.NotOpened Refusal.NoSuchParty) = refl
-found (Ran.NotOpened Refusal.NotFree) = refl
-found (Ran.NotOpened Refusal.Exhausted) = refl
-found (Ran.NotOpened Refusal.Full) = refl
-found (Ran.NotOpened Refusal.AtRest) = refl
-found (Ran.NotOpened Refusal.NotWaiting) = refl
-found (Ran.NotOpened Refusal.NotCancellable) = refl
-found (Ran.NotOpened Refusal.NotHolding) = refl
-found (Ran.NotOpened Refusal.SameRadios) = refl
-found (Ran.NotOpened Refusal.MiscountedKinds) = refl
-found (Ran.NotOpened Refusal.UnknownKind) = refl
-found (Ran.NotOpened Refusal.NoDesk) = refl
+found (Err RunError.BadOpening) = refl
+found (Err RunError.Malformed) = refl
+found (Err RunError.NoRoom) = refl
+found (Ok u) = refl
+found (Err (RunError.NotOpened Refusal.Unfit)) = refl
+found (Err (RunError.NotOpened Refusal.BadPermits)) = refl
+found (Err (RunError.NotOpened Refusal.BadParties)) = refl
+found (Err (RunError.NotOpened Refusal.NoSuchParty)) = refl
+found (Err (RunError.NotOpened Refusal.NotFree)) = refl
+found (Err (RunError.NotOpened Refusal.Exhausted)) = refl
+found (Err (RunError.NotOpened Refusal.Full)) = refl
+found (Err (RunError.NotOpened Refusal.AtRest)) = refl
+found (Err (RunError.NotOpened Refusal.NotWaiting)) = refl
+found (Err (RunError.NotOpened Refusal.NotCancellable)) = refl
+found (Err (RunError.NotOpened Refusal.NotHolding)) = refl
+found (Err (RunError.NotOpened Refusal.SameRadios)) = refl
+found (Err (RunError.NotOpened Refusal.MiscountedKinds)) = refl
+found (Err (RunError.NotOpened Refusal.UnknownKind)) = refl
+found (Err (RunError.NotOpened Refusal.NoDesk)) = refl
 
 pub own-numbers : OwnNumbers
 unfolding OwnNumbers

@@ -1,5 +1,5 @@
 -- How a run ends, and what it leaves in the buffer.
-use Rattle.std.specs.Prelude.{ℕ, ◌*◌, ◌/◌, ◌≡◌, Bool, true, false, List, ◌++◌, eqb, leb, length, drop}
+use Rattle.std.specs.Prelude.{ℕ, ◌*◌, ◌/◌, ◌≡◌, Bool, true, false, List, ◌++◌, eqb, leb, length, drop, Result, Ok, Err}
 use Rattle.hub.specs.declared.record.Hub.{Hub}
 use Rattle.hub.specs.declared.record.Outcome.{Outcome}
 use Rattle.hub.specs.Answers.{printed, refusal_code}
@@ -7,15 +7,22 @@ use Rattle.hub.specs.Opening.{opening}
 use Rattle.encoding.specs.Frame.{is_call}
 use Rattle.line.specs.Requests.{Request, malformed, to_open, to_call}
 use Rattle.run.specs.Bytes.{well_formed, calls_of, frames_of}
-use Rattle.run.specs.declared.Ran.{Ran}
+use Rattle.run.specs.declared.RunError.{RunError}
 
--- The end of a run as a number, for callers in other languages.
+-- Why a run is not made, as a number, for callers in other languages.
+abbrev pub error_code : RunError → ℕ
+error_code RunError.BadOpening = 12
+error_code (RunError.NotOpened why) = refusal_code why
+error_code RunError.Malformed = 254
+error_code RunError.NoRoom = 255
+
+-- How a run ends: done, or why it is not made. And that as a number.
+abbrev pub Ran : Type 0
+Ran = Result (Unit {0}) RunError
+
 abbrev pub ran_code : Ran → ℕ
-ran_code Ran.BadOpening = 12
-ran_code (Ran.NotOpened why) = refusal_code why
-ran_code Ran.Malformed = 254
-ran_code Ran.NoRoom = 255
-ran_code Ran.Done = 0
+ran_code (Ok u) = 0
+ran_code (Err why) = error_code why
 
 -- Each end has its own number, so that a promise of the number is one of the end.
 unfoldable pub OwnNumbers : Type 0

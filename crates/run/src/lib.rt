@@ -3,14 +3,14 @@
 
 #![tactic(auto)]
 
-ghost use Rattle.std.specs.Prelude.{◌≡◌};
+ghost use Rattle.std.specs.Prelude.{◌≡◌, ℕ, Bool};
 ghost use Rattle.hub.specs.Opening.{opening};
 ghost use Rattle.encoding.specs.Frame.{is_call};
 ghost use Rattle.line.specs.Requests.{requested};
 ghost use Rattle.run.specs.Bytes.{well_formed};
-ghost use Rattle.run.specs.Run.{framed_run, ran_code, run_from};
+ghost use Rattle.run.specs.declared.RunError.{RunError};
+ghost use Rattle.run.specs.Run.{error_code, framed_run, ran_code, run_from};
 
-use encoding::answer::refusal_code;
 use hub::answers::Refusal;
 use hub::opening::Opening;
 use line::openings::{is_opening_frame, opening_in};
@@ -18,79 +18,91 @@ use openhub::open_hub;
 use requests::answer_requests;
 use writer::form::Bytes;
 
-// How a run ended. Only a run that is done writes to the buffer.
-#[derive(Clone, Copy)]
-pub enum Ran {
+// Why a run was not made. The buffer is then as it was.
+#[derive(Clone, Copy, Debug, PartialEq, Eq)]
+pub enum RunError {
     BadOpening, // the opening's frame is malformed
     NotOpened(Refusal), // 2, 3 or 14 to 17
-    Malformed, // an odd number of bytes, or a code that is none of the calls
-    NoRoom, // fewer than seven bytes of room for each call
-    Done,
+    Malformed, // an odd number of bytes, or a code that is none of those in question
+    NoRoom, // too little room for the answers
 }
 
-// Is each pair of bytes a call?
-fn well_formed(calls: &[u8]) -> bool
-    ensures { result ≡ well_formed is_call calls.now }
+impl From<Refusal> for RunError {
+    ghost from_gives = { λ why error. error ≡ RunError.NotOpened why };
+
+    fn from(why: Refusal) -> RunError {
+        RunError::NotOpened(why)
+    }
+}
+
+impl From<RunError> for u8 {
+    ghost from_gives = { λ why code. code ≡ error_code why };
+
+    fn from(why: RunError) -> u8 {
+        match why {
+            RunError::BadOpening => 12,
+            RunError::NotOpened(why) => why.code(),
+            RunError::Malformed => 254,
+            RunError::NoRoom => 255,
+        }
+    }
+}
+
+// How a run ended, as a number.
+pub fn ran_code(ran: Result<(), RunError>) -> u8
+    ensures { result ≡ ran_code ran }
 {
-    let total = calls.len() / 2;
-    if calls.len() % 2 == 1 {
-        return false;
+    match ran {
+        Ok(()) => 0,
+        Err(why) => u8::from(why),
     }
-    let mut i: usize = 0;
-    while i < total {
-        let code = calls[2 * i];
-        if code < 0x10 {
+}
+
+// Is each pair of bytes a code that passes the test, and a party?
+pub fn well_formed<F: Fn(u8) -> bool>(pairs: &[u8], is_code: F) -> bool
+    requires { F.IsAlwaysCallable is_code }
+    ensures { (test : ℕ → Bool) → ((c : ℕ) (b : Bool) → F.post is_code c b → b ≡ test c)
+        → result ≡ well_formed test pairs.now }
+{
+    for pair in pairs.chunks_exact(2) {
+        if !is_code(pair[0]) {
             return false;
         }
-        if 0x14 < code {
-            return false;
-        }
-        i += 1;
     }
-    true
+    pairs.len() % 2 == 0
+}
+
+fn is_call(code: u8) -> bool
+    ensures { result ≡ is_call code }
+{
+    matches!(code, 0x10..=0x14)
 }
 
 // Opens a hub, and runs the calls if they are well formed and there is room for the answers. What
 // an opening leads to needs no check, so that `batch` answers them.
-pub fn run_calls(o: Opening, calls: &[u8], out: &mut [u8]) -> Ran
+pub fn run_calls(o: Opening, calls: &[u8], out: &mut [u8]) -> Result<(), RunError>
     ensures { (ran_code result ≡ (run_from (opening o) calls.now out.old).result)
         × (out.new ≡ (run_from (opening o) calls.now out.old).out) }
 {
-    let opened = open_hub(o);
-    let hub = match opened {
-        Ok(hub) => hub,
-        Err(why) => return Ran::NotOpened(why),
-    };
-    if !well_formed(calls) {
-        return Ran::Malformed;
+    let hub = open_hub(o)?;
+    if !well_formed(calls, is_call) {
+        return Err(RunError::Malformed);
     }
-    let total = calls.len() / 2;
-    if out.len() / 7 < total {
-        return Ran::NoRoom;
+    let count = calls.len() / 2;
+    if out.len() / 7 < count {
+        return Err(RunError::NoRoom);
     }
-    answer_requests::<Bytes>(hub, calls, total, out);
-    Ran::Done
-}
-
-fn ran_code(ran: Ran) -> u8
-    ensures { result ≡ ran_code ran }
-{
-    match ran {
-        Ran::BadOpening => 12,
-        Ran::NotOpened(why) => refusal_code(why),
-        Ran::Malformed => 254,
-        Ran::NoRoom => 255,
-        Ran::Done => 0,
-    }
+    answer_requests::<Bytes>(hub, calls, count, out);
+    Ok(())
 }
 
 // The same with the opening as a frame, as it stands in a line.
-fn run_framed(opening: &[u8], calls: &[u8], out: &mut [u8]) -> Ran
+fn run_framed(opening: &[u8], calls: &[u8], out: &mut [u8]) -> Result<(), RunError>
     ensures { (ran_code result ≡ (framed_run (requested opening.now) calls.now out.old).result)
         × (out.new ≡ (framed_run (requested opening.now) calls.now out.old).out) }
 {
     if !is_opening_frame(opening) {
-        return Ran::BadOpening;
+        return Err(RunError::BadOpening);
     }
     run_calls(opening_in(opening), calls, out)
 }
@@ -101,6 +113,5 @@ pub fn hub_run(opening: &[u8], calls: &[u8], out: &mut [u8]) -> u8
     ensures { (result ≡ (framed_run (requested opening.now) calls.now out.old).result)
         × (out.new ≡ (framed_run (requested opening.now) calls.now out.old).out) }
 {
-    let ran = run_framed(opening, calls, out);
-    ran_code(ran)
+    ran_code(run_framed(opening, calls, out))
 }

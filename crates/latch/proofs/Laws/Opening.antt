@@ -1,6 +1,6 @@
 -- What an opening answers, from its two tests.
 use Prim.Native.Nat.{ℕ, ◌≤◌}
-use mathlib.Core.Path.{◌≡◌, refl, ap}
+use mathlib.Core.Path.{◌≡◌, refl}
 use mathlib.Core.Bool.{Bool, true, false}
 use native.Mathlib.Omega.{arith}
 use borrow.Author.Tests.{leb-true}
@@ -10,25 +10,9 @@ use Rattle.hub.specs.declared.answers.Answer.{Answer}
 use Rattle.hub.specs.declared.answers.Refusal.{Refusal}
 use Rattle.hub.proofs.Laws.Bools.{first, second}
 use Rattle.latch.specs.declared.moves.LatchCall.{LatchCall}
-use Rattle.latch.specs.declared.opening.LatchOpening.{LatchOpening}
-use Rattle.latch.specs.declared.opening.Start.{Start}
 use Rattle.latch.specs.Calls.{called, checked, apply}
 use Rattle.latch.specs.Fits.{figures_fit, fits}
-use Rattle.latch.specs.Opening.{fresh, not_opened, opening, opening_if, start_code, up_to200}
-
-module _ (a b : Bool) (c n : ℕ) where
-  pub refused-3 : a ≡ false → opening_if a b c n ≡ not_opened Start.BadParties
-  unfolding opening_if
-  refused-3 e = rw e
-
-  pub refused-18 : a ≡ true → b ≡ false → opening_if a b c n ≡ not_opened Start.BadCount
-  unfolding opening_if
-  refused-18 e f = rw (e, f)
-
-  pub accepted : a ≡ true → b ≡ true
-      → opening_if a b c n ≡ record { start = Start.Opened; latch = fresh c n }
-  unfolding opening_if
-  accepted e f = rw (e, f)
+use Rattle.latch.specs.Opening.{Start, fresh, not_opened, opening, opening_if, up_to200}
 
 -- What a refused opening hands back refuses every call by 1.
 pub never-opened : (x : Start) (c : LatchCall)
@@ -58,7 +42,3 @@ in-range c n = go (up_to32 n) (up_to200 c) refl refl
           count = (leb-true 1 c (first (leb 1 c) _ y), leb-true c 200 (second (leb 1 c) _ y));
           latch = λ i. (opening_if (x i) (y i) c n).latch;
         }
-
--- A promise that gives how an opening went gives its code.
-pub with_code : {o d : LatchOpening} → o ≡ d → (o ≡ d) × (start_code o.start ≡ start_code d.start)
-with_code e = (e, ap (λ (x : LatchOpening). start_code x.start) e)

@@ -1,37 +1,37 @@
 -- `run_latch` meets its contract: its tests, in order, are those of the definition.
-use borrow.Author.Tests.{not-true, not-false}
-use borrow.Enum.Refused.{opened}
-use mathlib.Core.Path.{sym, ◌∙◌}
-use native.Mathlib.Omega.{arith}
+use Rattle.std.proofs.Common.{rules, Err, ◌≡◌, sym, ◌∙◌}
+use Rattle.latchrun.specs.Bytes.{is_call}
+use Rattle.latchrun.specs.declared.LatchRunError.{LatchRunError}
 use Rattle.latchrun.proofs.Laws.Endings.{refused, malformed, no_room, lasting, done}
 use Rattle.latchrun.proofs.run_latch.Goals as goal
 
-pub returns-in_default : goal.returns-in_default
-returns-in_default c =
+pub returns-in_err-latch : goal.returns-in_err-latch
+returns-in_err-latch c =
     let a = c.args in
-    refused a.count a.parties a.calls.now _ _ c.open_latch-opened.ensures.0
-    (opened c.in_default.in_default-own.keys2)
+    let told : c.from_residual.result ≡ Err (LatchRunError.NotOpened c.in_err-latch.field-0.0) = search rules in
+    let e = refused a.count a.parties a.calls.now a.out.now _ (sym c.in_err-latch.was ∙ c.open_latch.ensures) in
+    (told ∙ e.0, e.1)
 
 pub returns-then-not-well_formed : goal.returns-then-not-well_formed
 returns-then-not-well_formed c =
     let a = c.args in
-    malformed a.count a.parties _ _ _ c.open_latch-opened.ensures.0 c.in-Opened.is
-    (sym c.well_formed-2.ensures ∙ not-true _ c.if-not-well_formed.true-raw)
+    malformed a.count a.parties _ _ _ (sym c.in_ok-latch.was ∙ c.open_latch.ensures)
+    (sym (c.well_formed-2.ensures is_call (λ x b e. e)) ∙ c.if-not-well_formed.true)
 
 pub returns-then-out-total : goal.returns-then-out-total
 returns-then-out-total c =
     let a = c.args in
-    no_room a.count a.parties _ _ _ c.open_latch-opened.ensures.0 c.in-Opened.is
-    (sym c.well_formed-2.ensures ∙ not-false _ c.if-not-well_formed.false-raw) c.if-out-total.true
+    no_room a.count a.parties _ _ _ (sym c.in_ok-latch.was ∙ c.open_latch.ensures)
+    (sym (c.well_formed-2.ensures is_call (λ x b e. e)) ∙ c.if-not-well_formed.false) c.if-out-total.true
 
 pub answer_calls-requires-clause-lasting : goal.answer_calls-requires-clause-lasting
 answer_calls-requires-clause-lasting c =
     let a = c.args in
-    lasting a.count a.parties a.calls.now a.out.now _ c.open_latch-opened.ensures.0 c.in-Opened.is
+    lasting a.count a.parties a.calls.now a.out.now _ (sym c.in_ok-latch.was ∙ c.open_latch.ensures)
 
 pub returns : goal.returns
 returns c =
     let a = c.args in
-    done a.count a.parties _ _ _ c.open_latch-opened.ensures.0 c.in-Opened.is _
-    (sym c.well_formed-2.ensures ∙ not-false _ c.if-not-well_formed.false-raw) c.if-out-total.false
+    done a.count a.parties _ _ _ (sym c.in_ok-latch.was ∙ c.open_latch.ensures) _
+    (sym (c.well_formed-2.ensures is_call (λ x b e. e)) ∙ c.if-not-well_formed.false) c.if-out-total.false
     c.answer_calls.ensures.1

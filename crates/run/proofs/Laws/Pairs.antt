@@ -1,10 +1,11 @@
 -- The bytes of the calls, read two by two.
-use Prim.Native.Nat.{ℕ, suc, ◌+◌, ◌*◌, ◌/◌, ◌%◌, ◌≤◌, ◌<◌}
+use Prim.Native.Nat.{ℕ, suc, ◌+◌, ◌*◌, ◌/◌, ◌%◌, ◌<◌}
 use mathlib.Core.Path.{◌≡◌, refl, sym, ap, ◌∙◌}
 use mathlib.Core.Bool.{Bool, true, false, ◌&&◌}
-use mathlib.Core.List.{List, [], ◌∷◌}
+use Rattle.std.specs.Prelude.{nat_eq}
+use mathlib.Core.List.{List, [], ◌∷◌, ◌++◌}
 use native.Mathlib.Omega.{arith}
-use lib.ListN.{length, get_or, drop, drop_of_length-le}
+use lib.ListN.{length, get_or, drop}
 use lib.Seq.{drop-cons}
 use Rattle.run.specs.Bytes.{well_formed}
 
@@ -25,21 +26,6 @@ pair l i h =
     next m = omega arith
 
 module _ (is_code : ℕ → Bool) where
-  -- Each pair before the i-th has a code that passes.
-  pub record Checked (l : List ℕ) (i : ℕ) : Type 0 where
-    pub within : i ≤ length l / 2
-    pub same : well_formed is_code (drop (2 * i) l) ≡ well_formed is_code l
-
-  pub odd : (l : List ℕ) → length l % 2 ≡ 1 → false ≡ well_formed is_code l
-  unfolding well_formed
-  odd [] e = absurd (omega arith)
-  odd (c ∷ []) e = refl
-  odd (c ∷ p ∷ l) e = go (is_code c) (well_formed is_code l) (odd l (omega arith))
-    where
-      go : (a b : Bool) → false ≡ b → false ≡ a && b
-      go true b e = e
-      go false b e = refl
-
   -- The i-th pair, and the pairs past it.
   pub one-formed : (l : List ℕ) (i : ℕ) → i < length l / 2
       → well_formed is_code (drop (2 * i) l)
@@ -47,17 +33,26 @@ module _ (is_code : ℕ → Bool) where
   unfolding well_formed
   one-formed l i h = ap (well_formed is_code) (pair l i h)
 
-  module _ (l : List ℕ) (i : ℕ) (k : Checked l i) where
-    pub bad : i < length l / 2 → is_code (get_or l (2 * i) 0) ≡ false → false ≡ well_formed is_code l
-    bad h e = sym (one-formed l i h ∙ rw e) ∙ k.same
+  -- A pair in front of the others: its code says whether they decide.
+  pub good : (front rest l : List ℕ) → length front ≡ 2 → l ≡ front ++ rest → is_code (get_or front 0 0) ≡ true
+      → well_formed is_code rest ≡ well_formed is_code l
+  unfolding well_formed
+  good [] rest l n e t = absurd (omega (arith, n))
+  good (c ∷ []) rest l n e t = absurd (omega (arith, n))
+  good (c ∷ p ∷ []) rest l n e t = sym (ap (well_formed is_code) e ∙ rw t)
+  good (c ∷ p ∷ q ∷ f) rest l n e t = absurd (omega (arith, n))
 
-    pub good : i < length l / 2 → is_code (get_or l (2 * i) 0) ≡ true → Checked l (i + 1)
-    good h e =
-        record {
-          within = omega arith;
-          same = sym (one-formed l i h ∙ rw e) ∙ k.same;
-        }
+  pub bad : (front rest l : List ℕ) → length front ≡ 2 → l ≡ front ++ rest → is_code (get_or front 0 0) ≡ false
+      → false ≡ well_formed is_code l
+  unfolding well_formed
+  bad [] rest l n e t = absurd (omega (arith, n))
+  bad (c ∷ []) rest l n e t = absurd (omega (arith, n))
+  bad (c ∷ p ∷ []) rest l n e t = sym (ap (well_formed is_code) e ∙ rw t)
+  bad (c ∷ p ∷ q ∷ f) rest l n e t = absurd (omega (arith, n))
 
-    pub all : (length l % 2 ≡ 1 → ⊥) → length l / 2 ≤ i → true ≡ well_formed is_code l
-    unfolding well_formed
-    all o h = sym (ap (well_formed is_code) (drop_of_length-le l {i = 2 * i} (omega arith))) ∙ k.same
+  -- What is left when no pair is: nothing, or a byte too many.
+  pub ended : (l : List ℕ) → length l < 2 → nat_eq (length l % 2) 0 ≡ well_formed is_code l
+  unfolding well_formed
+  ended [] n = refl
+  ended (c ∷ []) n = refl
+  ended (c ∷ p ∷ l) n = absurd (omega (arith, n))

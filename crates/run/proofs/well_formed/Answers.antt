@@ -1,28 +1,36 @@
 -- `well_formed` meets its contract: what is left of the pairs, from any turn on, says the same.
-use Rattle.encoding.specs.Frame.{is_call}
-use Rattle.line.proofs.Laws.Codes.{under, over, a-code}
-use Rattle.run.proofs.Laws.Pairs.{odd, bad, good, all}
+use Rattle.std.proofs.Common.{arith, sym, ap, ◌∙◌, ◌%◌, length, length-append, nat_eq}
+use Rattle.run.specs.Bytes.{well_formed}
+use Rattle.run.proofs.Laws.Pairs.{bad, ended, good}
 use Rattle.run.proofs.well_formed.Goals as goal
 
-pub returns-then-calls-eq1 : goal.returns-then-calls-eq1
-returns-then-calls-eq1 c = odd is_call _ c.if-calls-eq1.true
+pub loop-pair-init : goal.loop-pair-init
+loop-pair-init g c =
+    let e = ap (λ i. i.rest.now) c.into_iter-pair-iterator.ensures.into_iter_gives ∙ c.chunks_exact-pair-items.ensures.rest in (
+      ap (λ i. i.size) c.into_iter-pair-iterator.ensures.into_iter_gives ∙ c.chunks_exact-pair-items.ensures.size,
+      (λ test same. ap (well_formed test) e),
+      ap (λ l. length l % 2) e,
+    )
 
-pub returns-then-code-lt16 : goal.returns-then-code-lt16
-returns-then-code-lt16 c =
-    bad is_call _ _ c.loop-i.invariant c.loop-i-test.true
-    (under _ c.if-code-lt16.true)
+pub returns-then-not-is_code : goal.returns-then-not-is_code
+returns-then-not-is_code g c = λ test same.
+    let s = c.in-Some.ensures.steps in
+    bad test _ _ _ (s.1.1 ∙ c.loop-pair.invariant.0) s.1.0 (sym (same _ _ c.if-not-is_code.ensures))
+    ∙ c.loop-pair.invariant.1 test same
 
-pub returns-then-code-gt20 : goal.returns-then-code-gt20
-returns-then-code-gt20 c =
-    bad is_call _ _ c.loop-i.invariant
-    c.loop-i-test.true
-    (over _ c.if-code-gt20.true)
-
-pub loop-i-preserved : goal.loop-i-preserved
-loop-i-preserved c =
-    good is_call _ _ c.loop-i.invariant
-    c.loop-i-test.true
-    (a-code _ c.if-code-lt16.false c.if-code-gt20.false)
+pub loop-pair-preserved : goal.loop-pair-preserved
+loop-pair-preserved g c =
+    let s = c.in-Some.ensures.steps in (
+      s.0 ∙ c.loop-pair.invariant.0,
+      (λ test same.
+          good test _ _ _ (s.1.1 ∙ c.loop-pair.invariant.0) s.1.0 (sym (same _ _ c.if-not-is_code.ensures))
+          ∙ c.loop-pair.invariant.1 test same),
+      omega (arith, s.1.1, c.loop-pair.invariant.0, c.loop-pair.invariant.2, ap length s.1.0, length-append c.in-Some.pair.now c.next.new.self.rest.now),
+    )
 
 pub returns : goal.returns
-returns c = all is_call _ _ c.loop-i.invariant c.if-calls-eq1.false c.loop-i-test.false
+returns g c = λ test same.
+    let s = c.in-None.ensures.steps in
+    ap (λ n. nat_eq n 0) (sym c.loop-pair.invariant.2)
+    ∙ ended test _ (omega (arith, s.1.0, c.loop-pair.invariant.0))
+    ∙ c.loop-pair.invariant.1 test same
