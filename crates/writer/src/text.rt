@@ -14,8 +14,7 @@ pub(crate) fn put_line_by(pairs: &[u16; 256], out: &mut [u8], party: u8, p: Prin
     requires out_len { length out.old ≡ 15 }
     ensures { out.new ≡ text_of (frame_of party (paper p)) }
 {
-    let code = p.code;
-    let said = pairs[code as usize];
+    let said = pairs[p.code as usize];
     out[0] = (said % 256) as u8;
     out[1] = (said / 256 % 256) as u8;
     let who = pairs[party as usize];
@@ -24,17 +23,16 @@ pub(crate) fn put_line_by(pairs: &[u16; 256], out: &mut [u8], party: u8, p: Prin
     let woken = pairs[(p.woken % 256) as usize];
     out[4] = (woken % 256) as u8;
     out[5] = (woken / 256 % 256) as u8;
-    let number = p.number;
-    let first = pairs[(number / 16777216 % 256) as usize];
+    let first = pairs[(p.number / 16777216 % 256) as usize];
     out[6] = (first % 256) as u8;
     out[7] = (first / 256 % 256) as u8;
-    let second = pairs[(number / 65536 % 256) as usize];
+    let second = pairs[(p.number / 65536 % 256) as usize];
     out[8] = (second % 256) as u8;
     out[9] = (second / 256 % 256) as u8;
-    let third = pairs[(number / 256 % 256) as usize];
+    let third = pairs[(p.number / 256 % 256) as usize];
     out[10] = (third % 256) as u8;
     out[11] = (third / 256 % 256) as u8;
-    let fourth = pairs[(number % 256) as usize];
+    let fourth = pairs[(p.number % 256) as usize];
     out[12] = (fourth % 256) as u8;
     out[13] = (fourth / 256 % 256) as u8;
     out[14] = 0x0A;
@@ -45,6 +43,5 @@ pub fn put_line(out: &mut [u8], party: u8, p: Print)
     requires { length out.old ≡ 15 }
     ensures { out.new ≡ text_of (frame_of party (paper p)) }
 {
-    let table = pairs::table();
-    put_line_by(&table, out, party, p);
+    put_line_by(&pairs::table(), out, party, p);
 }
