@@ -50,9 +50,8 @@ fn with_number(code: u8, number: u32) -> Print
     ensures { paper result ≡ with_number code number }
 {
     Print {
-        code,
-        woken: 0xFF,
         number,
+        ..plain(code)
     }
 }
 
@@ -99,13 +98,7 @@ pub fn put(out: &mut [u8], party: u8, p: Print)
     requires { length out.old ≡ 7 }
     ensures { out.new ≡ frame_of party (paper p) }
 {
-    out[0] = p.code;
-    out[1] = party;
-    let woken = p.woken;
-    out[2] = (woken % 256) as u8;
-    let number = p.number;
-    out[3] = (number / 16777216 % 256) as u8;
-    out[4] = (number / 65536 % 256) as u8;
-    out[5] = (number / 256 % 256) as u8;
-    out[6] = (number % 256) as u8;
+    let [first, second, third, fourth] = p.number.to_be_bytes();
+    let woken = (p.woken % 256) as u8;
+    out.copy_from_slice(&[p.code, party, woken, first, second, third, fourth]);
 }

@@ -1,6 +1,5 @@
 -- What the proofs of this crate share.
 pub mod Codes
-pub mod Digits
 pub mod Lines
 pub mod Decoding
 pub mod Openings

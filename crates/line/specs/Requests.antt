@@ -1,6 +1,6 @@
 -- What a line asks. Refusal 12: odd digits, a non-hexadecimal letter, no or unknown code, wrong
 -- length for the code, or over 160 characters.
-use Rattle.std.specs.Prelude.{ℕ, ◌+◌, ◌%◌, Bool, true, false, cond, not, ◌&&◌, ◌||◌, List, [], ◌∷◌, eqb, leb, ltb, drop, length, take}
+use Rattle.std.specs.Prelude.{ℕ, ◌+◌, ◌%◌, Bool, true, false, cond, not, ◌&&◌, ◌||◌, List, [], ◌∷◌, eqb, leb, ltb, drop, length, take, Option, Some, None}
 use Rattle.hub.specs.declared.moves.Call.{Call}
 use Rattle.line.specs.declared.request.Header.{Header}
 use Rattle.hub.specs.declared.opening.Opening.{Opening}
@@ -62,11 +62,27 @@ request_of l = requested (spelled_by l)
 abbrev pub frame_size : ℕ → ℕ → ℕ
 frame_size c k = cond (eqb c 0x01) 3 (cond (eqb c 0x02) (3 + k) 0)
 
+-- How many radios an opening of code c with K gives, if the code is one of an opening.
+abbrev pub radios_given : ℕ → ℕ → Option ℕ
+radios_given c k = cond (eqb c 0x01) (Some 0) (cond (eqb c 0x02) (Some k) None)
+
+-- What a request asks for, if it is an opening.
+abbrev pub opening_asked : Request → Option Opening
+opening_asked malformed = None
+opening_asked (to_open o) = Some o
+opening_asked (to_call c) = None
+
 -- A request in two bytes: a call whole; of an opening only that it is one.
 abbrev pub header_of : Request → Header
 header_of malformed = record { code = 0x00; party = 0xFF }
 header_of (to_open o) = record { code = 0x01; party = 0xFF }
 header_of (to_call c) = record { code = code_of c.op; party = c.party }
+
+-- The header of four characters, by the bytes that the first two and the last two spell.
+abbrev pub call_header : Option ℕ → Option ℕ → Header
+call_header None q = header_of malformed
+call_header (Some c) None = header_of malformed
+call_header (Some c) (Some p) = cond (is_call c) (record { code = c; party = p }) (header_of malformed)
 
 abbrev pub is_opening : Request → Bool
 is_opening malformed = false

@@ -1,10 +1,10 @@
 // What a line asks. Refusal 12 is for every line that is neither a call nor an opening.
 
-ghost use Rattle.std.specs.Prelude.{◌≡◌, true, ◌≤◌, length, take};
-ghost use Rattle.line.specs.Requests.{header_of, is_opening, malformed, request_of, spelled_by, to_open};
+ghost use Rattle.std.specs.Prelude.{◌≡◌, true};
+ghost use Rattle.line.specs.Requests.{call_header, header_of, is_opening, malformed, request_of, spelled_by, to_open};
 
 use crate::hex::hex_byte;
-use crate::openings::{is_opening_frame, opening_in};
+use crate::openings::{opening_in, read_frame};
 use hub::opening::Opening;
 
 // A line of more characters is malformed.
@@ -21,7 +21,7 @@ pub const MALFORMED: u8 = 0x00; // a line that asks nothing
 
 pub const OPENING: u8 = 0x01; // an opening, whatever it asks for
 
-pub(crate) fn malformed() -> Header
+fn malformed() -> Header
     ensures { result ≡ header_of malformed }
 {
     Header {
@@ -30,62 +30,37 @@ pub(crate) fn malformed() -> Header
     }
 }
 
-// A line of four characters: a call, or malformed.
-fn call_in(line: &[u8]) -> Header
-    requires { length line.now ≡ 4 }
-    ensures { result ≡ header_of (request_of line.now) }
+// The header of four characters, by the bytes that they spell: a call, or malformed.
+pub(crate) fn call_header(code: Option<u8>, party: Option<u8>) -> Header
+    ensures { result ≡ call_header code party }
 {
-    let code = hex_byte(line);
-    if code < 0x10 {
-        return malformed();
-    }
-    if 0x14 < code {
-        return malformed();
-    }
-    let party = hex_byte(&line[2..]);
-    if 256 <= party {
-        return malformed();
-    }
-    Header {
-        code: code as u8,
-        party: party as u8,
+    match (code, party) {
+        (Some(code @ 0x10..=0x14), Some(party)) => Header { code, party },
+        _ => malformed(),
     }
 }
 
-// The bytes that a line spells, and how many; none if it is unreadable.
-fn decode(line: &[u8], bytes: &mut [u8]) -> usize
-    requires { length bytes.old ≡ 80 }
-    ensures value { (result ≡ length (spelled_by line.now))
-        × (take result bytes.new ≡ spelled_by line.now) }
-    ensures small { result ≤ 80 }
+// The bytes that a line spells, in a buffer that is lent for them; none if it is unreadable.
+fn decode<'a>(line: &[u8], bytes: &'a mut [u8; 80]) -> &'a [u8]
+    ensures { result.now ≡ spelled_by line.now }
 {
-    if LONGEST < line.len() {
-        return 0;
+    if LONGEST < line.len() || line.len() % 2 == 1 {
+        return &[];
     }
-    if line.len() % 2 == 1 {
-        return 0;
+    for (i, pair) in line.chunks_exact(2).enumerate() {
+        let Some(byte) = hex_byte(pair) else {
+            return &[];
+        };
+        bytes[i] = byte;
     }
-    let total = line.len() / 2;
-    let mut i: usize = 0;
-    while i < total {
-        let at = 2 * i;
-        let byte = hex_byte(&line[at..]);
-        if 256 <= byte {
-            return 0;
-        }
-        bytes[i] = byte as u8;
-        i += 1;
-    }
-    i
+    &bytes[..line.len() / 2]
 }
 
 // A line is an opening if its bytes are the frame of one.
 fn is_opening(line: &[u8]) -> bool
     ensures { result ≡ is_opening (request_of line.now) }
 {
-    let mut bytes = [0u8; 80];
-    let total = decode(line, &mut bytes);
-    is_opening_frame(&bytes[0..total])
+    read_frame(decode(line, &mut [0; 80])).is_some()
 }
 
 // What a line that is an opening asks for.
@@ -93,9 +68,7 @@ pub fn read_opening(line: &[u8]) -> Opening
     requires { is_opening (request_of line.now) ≡ true }
     ensures { to_open result ≡ request_of line.now }
 {
-    let mut bytes = [0u8; 80];
-    let total = decode(line, &mut bytes);
-    opening_in(&bytes[0..total])
+    opening_in(decode(line, &mut [0; 80]))
 }
 
 // A line of four characters may be a call, and no other.
@@ -103,7 +76,7 @@ pub fn read_header(line: &[u8]) -> Header
     ensures { result ≡ header_of (request_of line.now) }
 {
     if line.len() == 4 {
-        return call_in(line);
+        return call_header(hex_byte(line), hex_byte(&line[2..]));
     }
     if !is_opening(line) {
         return malformed();

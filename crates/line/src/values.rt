@@ -2,10 +2,11 @@
 
 ghost use Rattle.std.specs.Prelude.{◌≡◌, [], ◌∷◌};
 ghost use Rattle.encoding.specs.Hex.{byte_of};
+ghost use Rattle.line.specs.Below.{if_below};
 ghost use Rattle.line.specs.Requests.{header_of, request_of};
 ghost use Rattle.encoding.specs.Tables.{Values};
 
-use crate::request::{Header, malformed};
+use crate::request::{Header, call_header};
 
 // 256 is for a character that is no digit: no byte comes of it.
 const VALUES: [u16; 256] = [
@@ -32,18 +33,12 @@ pub fn table() -> [u16; 256]
     VALUES
 }
 
-// The byte that two characters spell; 256 if they do not.
-fn byte_by(values: &[u16; 256], a: u8, b: u8) -> u32
+// The byte that two characters spell, if they do.
+fn byte_by(values: &[u16; 256], a: u8, b: u8) -> Option<u8>
     requires { Values values.now }
-    ensures { result ≡ byte_of (a ∷ b ∷ []) }
+    ensures { result ≡ if_below 256 (byte_of (a ∷ b ∷ [])) }
 {
-    let high = values[a as usize] as u32;
-    let low = values[b as usize] as u32;
-    let byte = 16 * high + low;
-    if 256 <= byte {
-        return 256;
-    }
-    byte
+    u8::try_from(16 * values[a as usize] + values[b as usize]).ok()
 }
 
 // What a line of these four characters asks: a call, or nothing.
@@ -51,19 +46,5 @@ pub fn call_by(values: &[u16; 256], a: u8, b: u8, c: u8, d: u8) -> Header
     requires { Values values.now }
     ensures { result ≡ header_of (request_of (a ∷ b ∷ c ∷ d ∷ [])) }
 {
-    let code = byte_by(values, a, b);
-    if code < 0x10 {
-        return malformed();
-    }
-    if 0x14 < code {
-        return malformed();
-    }
-    let party = byte_by(values, c, d);
-    if 256 <= party {
-        return malformed();
-    }
-    Header {
-        code: code as u8,
-        party: party as u8,
-    }
+    call_header(byte_by(values, a, b), byte_by(values, c, d))
 }

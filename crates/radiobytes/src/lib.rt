@@ -12,6 +12,7 @@ use cells::number::{put_bytes, put_bytes_at, put_few, wide};
 use hub::opening::Opening;
 use hub::record::{PartySlot, PlaceSlot, Pool};
 use phases::{has_radio, place_rank};
+use std::array;
 
 pub fn opening_of(bytes: &[u8]) -> Opening
     requires { length bytes.now ≡ 1881 }
@@ -100,15 +101,7 @@ fn if_so(so: bool, byte: u8) -> u8
 fn hands_shown(slots: [PartySlot; 32], hands: [u8; 32]) -> [u8; 32]
     ensures { result ≡ hands_shown slots hands }
 {
-    let mut shown = [0u8; 32];
-    let mut p: usize = 0;
-    while p < 32 {
-        let slot = slots[p];
-        let phase = slot.phase;
-        shown[p] = if_so(has_radio(phase), hands[p]);
-        p += 1;
-    }
-    shown
+    array::from_fn(|p| if_so(has_radio(slots[p].phase), hands[p]))
 }
 
 // Where a permit lies.

@@ -1,7 +1,8 @@
 -- Which bytes are the code of a call.
 use Prim.Native.Nat.{ℕ, zero, suc, ◌+◌, ◌-◌, ◌≤◌, ◌<◌}
-use mathlib.Core.Path.{◌≡◌, refl, sym, subst}
-use mathlib.Core.Bool.{true, false}
+use mathlib.Core.Path.{◌≡◌, refl, sym, subst, ◌∙◌}
+use mathlib.Core.Bool.{Bool, true, false}
+use native.Mathlib.Decide.{dec_le}
 use native.Mathlib.Omega.{arith}
 use borrow.Author.Tests.{ne_eqb}
 use Rattle.hub.specs.declared.moves.Op.{Op}
@@ -45,6 +46,18 @@ a-code = among-five (λ c. is_call c ≡ true) refl refl refl refl refl
 
 pub code-back : (c : ℕ) → 16 ≤ c → c ≤ 20 → code_of (op_of c) ≡ c
 code-back = among-five (λ c. code_of (op_of c) ≡ c) refl refl refl refl refl
+
+-- What is a code names an operation of that code.
+pub call-back : (c : ℕ) → is_call c ≡ true → code_of (op_of c) ≡ c
+call-back c e = go (dec_le 16 c) (dec_le c 20)
+  where
+    not-both : is_call c ≡ false → ⊥
+    not-both f = let z : ◌≡◌ {A = Bool} true false = sym e ∙ f in let n : ◌≡◌ {A = ℕ} 0 1 = cc in omega arith
+
+    go : Dec (16 ≤ c) → Dec (c ≤ 20) → code_of (op_of c) ≡ c
+    go (yes a) (yes b) = code-back c a b
+    go (yes a) (no b) = absurd (not-both (over c (omega arith)))
+    go (no a) b = absurd (not-both (under c (omega arith)))
 
 -- The code of an operation is a call's, and says which.
 pub is-call : (o : Op) → is_call (code_of o) ≡ true

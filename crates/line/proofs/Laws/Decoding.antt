@@ -1,95 +1,94 @@
 -- The bytes of a line, decoded one after the other: those written and those that the rest spells are all.
-use Prim.Native.Nat.{ℕ, ◌+◌, ◌-◌, ◌*◌, ◌%◌, ◌≤◌, ◌<◌}
-use mathlib.Core.Path.{◌≡◌, refl, sym, ap, ◌∙◌, subst}
+use Prim.Native.Nat.{ℕ, ◌+◌, ◌*◌, ◌/◌, ◌%◌, ◌≤◌, ◌<◌}
+use mathlib.Core.Path.{◌≡◌, sym, ap, ◌∙◌}
 use mathlib.Core.Bool.{Bool, false, ◌&&◌}
 use mathlib.Core.List.{List, [], ◌∷◌, ◌++◌, append_assoc, append-nil}
 use native.Mathlib.Numerals.{add-one}
 use native.Mathlib.Omega.{arith}
-use lib.ListN.{length, take, drop, set, length-set, length-drop, drop_of_length-le}
-use lib.Seq.{drop-drop, take-suc-set, length-take-le}
+use lib.ListN.{length, take, set, length-append, length-set, drop_of_length-le}
+use lib.Seq.{take-suc-set}
+use Rattle.std.specs.Prelude.{Some, None}
+use Rattle.line.specs.Below.{if_below}
 use Rattle.encoding.specs.Hex.{byte_of}
-use Rattle.line.specs.Requests.{LONGEST, all_digits, bytes_of, spelled_by, requested, request_of}
-use Rattle.line.proofs.Laws.Lines.{spells, strays, digits, stray, byte-is, none}
+use Rattle.line.specs.Requests.{LONGEST, all_digits, bytes_of, spelled_by}
+use Rattle.line.proofs.Laws.Lines.{digits, stray, none, pair-spells, pair-strays}
 use Rattle.line.proofs.Laws.Lines.{no_digit, readable}
 
--- The first i bytes are written; the rest of the line decides whether all of it is digits.
-pub record Decoding (line bytes : List ℕ) (i : ℕ) : Type 0 where
+-- The first i bytes are written, and the rest of the line is not read; it decides whether all of the line is digits.
+pub record Decoding (line bytes rest : List ℕ) (i : ℕ) : Type 0 where
   pub room : length bytes ≡ 80
-  pub within : 2 * i ≤ length line
-  pub digits : all_digits (drop (2 * i) line) ≡ all_digits line
-  pub written : take i bytes ++ bytes_of (drop (2 * i) line) ≡ bytes_of line
+  pub twice : 2 * i + length rest ≡ length line
+  pub digits : all_digits rest ≡ all_digits line
+  pub written : take i bytes ++ bytes_of rest ≡ bytes_of line
 
-pub at-start : (line bytes : List ℕ) → length bytes ≡ 80 → Decoding line bytes 0
-at-start line bytes e = record { room = e; within = omega arith; digits = refl; written = refl }
+pub at-start : (line bytes rest : List ℕ) (i : ℕ) → length bytes ≡ 80 → rest ≡ line → i ≡ 0 → Decoding line bytes rest i
+at-start line bytes rest i e f z =
+    record {
+      room = e;
+      twice = omega (arith, z, ap length f);
+      digits = ap all_digits f;
+      written = (λ j. take (z j) bytes ++ bytes_of (f j));
+    }
 
--- Two characters in front spell a byte, or the line is not all digits.
-stops : (l : List ℕ) → 2 ≤ length l → 256 ≤ byte_of l → all_digits l ≡ false
-stops [] n m = absurd (omega arith)
-stops (a ∷ []) n m = absurd (omega arith)
-stops (a ∷ b ∷ l) n m = stray a b l (strays a b l m)
-
-goes_on : (l : List ℕ) → 2 ≤ length l → byte_of l < 256
-    → (all_digits (drop 2 l) ≡ all_digits l) × (byte_of l ∷ bytes_of (drop 2 l) ≡ bytes_of l)
-unfolding bytes_of
-goes_on [] n m = absurd (omega arith)
-goes_on (a ∷ []) n m = absurd (omega arith)
-goes_on (a ∷ b ∷ l) n m =
-    let e = spells a b l m in (
-      sym (digits a b l ∙ ap (λ (t : Bool). t && all_digits l) e),
-      ap (λ (x : ℕ). x ∷ bytes_of l) (byte-is a b l e),
-    )
-
-module _ (line bytes : List ℕ) (i : ℕ) (d : Decoding line bytes i) where
+module _ (line bytes rest : List ℕ) (i : ℕ) (d : Decoding line bytes rest i) where
   -- Behind the last byte nothing is left.
-  pub decoded : length line ≤ LONGEST → (length line % 2 ≡ 1 → ⊥) → length line ≤ 2 * i
-      → (i ≡ length (spelled_by line)) × (take i bytes ≡ spelled_by line)
+  pub decoded : length line ≤ LONGEST → (length line % 2 ≡ 1 → ⊥) → length rest < 2
+      → take (length line / 2) bytes ≡ spelled_by line
   unfolding bytes_of
   decoded m e end =
-      let none_left : drop (2 * i) line ≡ [] = drop_of_length-le line end in
-      let f =
-      sym (append-nil (take i bytes))
+      ap (λ (n : ℕ). take n bytes) half
+      ∙ sym (append-nil (take i bytes))
       ∙ ap (λ (l : List ℕ). take i bytes ++ bytes_of l) (sym none_left)
       ∙ d.written
-      ∙ readable line m e (sym d.digits ∙ ap all_digits none_left ∙ none) in
-      (sym (length-take-le i bytes (omega (arith, d.room, d.within))) ∙ ap length f, f)
+      ∙ readable line m e (sym d.digits ∙ ap all_digits none_left ∙ none)
+    where
+      half : length line / 2 ≡ i
+      half = omega (arith, d.twice)
 
-  module _ (more : 2 * i + 2 ≤ length line) (x : ℕ) (read : x ≡ byte_of (drop (2 * i) line)) where
-    long : 2 ≤ length (drop (2 * i) line)
-    long = simp length-drop (omega arith)
+      none_left : rest ≡ []
+      none_left = drop_of_length-le rest {i = 0} (omega (arith, d.twice))
 
-    pub stopped : 256 ≤ x → [] ≡ spelled_by line
-    stopped m =
-        no_digit line (sym d.digits ∙ stops (drop (2 * i) line) long (subst (λ (y : ℕ). 256 ≤ y) read m))
+  -- Two characters come next: they spell a byte, or the line is not all digits.
+  module _ (pair later : List ℕ) (two : length pair ≡ 2) (parts : rest ≡ pair ++ later) where
+    pub stopped : None ≡ if_below 256 (byte_of pair) → [] ≡ spelled_by line
+    stopped n = no_digit line (sym d.digits ∙ ap all_digits parts ∙ go pair two n)
+      where
+        go : (l : List ℕ) → length l ≡ 2 → None ≡ if_below 256 (byte_of l) → all_digits (l ++ later) ≡ false
+        go [] e n = absurd (omega arith)
+        go (a ∷ []) e n = absurd (omega arith)
+        go (a ∷ b ∷ []) e n = stray a b later (pair-strays a b n)
+        go (a ∷ b ∷ c ∷ l) e n = absurd (omega arith)
 
-    pub one_byte : x < 256 → i < 80 → Decoding line (set bytes i x) (i + 1)
-    one_byte m n =
-        let g = goes_on (drop (2 * i) line) long (subst (λ (y : ℕ). y < 256) read m) in
+    pub one_byte : (x : ℕ) → Some x ≡ if_below 256 (byte_of pair) → length line ≤ LONGEST
+        → (k n : ℕ) → k ≡ i → n ≡ i + 1 → Decoding line (set bytes k x) later n
+    unfolding bytes_of
+    one_byte x s m k n a b =
+        let g = go pair two s in
         record {
-          room = length-set bytes i x ∙ d.room;
-          within = omega arith;
-          digits = ap all_digits next ∙ g.0 ∙ d.digits;
+          room = length-set bytes k x ∙ d.room;
+          twice = omega (arith, d.twice, ap length parts ∙ length-append pair later, two, b);
+          digits = sym g.0 ∙ sym (ap all_digits parts) ∙ d.digits;
           written =
-              (λ j. behind j ++ bytes_of (next j))
-              ∙ append_assoc (take i bytes) (x ∷ []) (bytes_of (drop 2 (drop (2 * i) line)))
-              ∙ ap (λ (l : List ℕ). take i bytes ++ l)
-              (ap (λ (y : ℕ). y ∷ bytes_of (drop 2 (drop (2 * i) line))) read ∙ g.1)
+              (λ j. take (b j) (set bytes (a j) x) ++ bytes_of later)
+              ∙ ap (λ (l : List ℕ). l ++ bytes_of later) behind
+              ∙ append_assoc (take i bytes) (x ∷ []) (bytes_of later)
+              ∙ ap (λ (l : List ℕ). take i bytes ++ l) (sym g.1 ∙ sym (ap bytes_of parts))
               ∙ d.written;
         }
       where
-        twice : (n : ℕ) → 2 * (n + 1) ≡ 2 * n + 2
-        twice n = omega arith
+        go : (l : List ℕ) → length l ≡ 2 → Some x ≡ if_below 256 (byte_of l)
+            → (all_digits (l ++ later) ≡ all_digits later) × (bytes_of (l ++ later) ≡ x ∷ bytes_of later)
+        go [] e s = absurd (omega arith)
+        go (a ∷ []) e s = absurd (omega arith)
+        go (a ∷ b ∷ []) e s =
+            let f = pair-spells a b x s in (
+              digits a b later ∙ ap (λ (t : Bool). t && all_digits later) f.0,
+              ap (λ (y : ℕ). y ∷ bytes_of later) (sym f.1),
+            )
+        go (a ∷ b ∷ c ∷ l) e s = absurd (omega arith)
 
-        next : drop (2 * (i + 1)) line ≡ drop 2 (drop (2 * i) line)
-        next = ap (λ (n : ℕ). drop n line) (twice i) ∙ sym (drop-drop 2 (2 * i) line)
+        below : i < length bytes
+        below = omega (arith, d.room, d.twice, ap length parts ∙ length-append pair later, two)
 
         behind : take (i + 1) (set bytes i x) ≡ take i bytes ++ (x ∷ [])
-        behind = ap (λ (n : ℕ). take n (set bytes i x)) (add-one i) ∙ take-suc-set bytes i x (omega (arith, d.room))
-
--- The bytes decoded are asked as the line is.
-pub as_line : (line bytes : List ℕ) (n : ℕ) → take n bytes ≡ spelled_by line
-    → requested (take (n - 0) bytes) ≡ request_of line
-unfolding request_of
-as_line line bytes n e = ap requested (ap (λ (k : ℕ). take k bytes) (all n) ∙ e)
-  where
-    all : (k : ℕ) → k - 0 ≡ k
-    all k = omega arith
+        behind = ap (λ (n : ℕ). take n (set bytes i x)) (add-one i) ∙ take-suc-set bytes i x below

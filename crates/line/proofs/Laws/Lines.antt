@@ -4,7 +4,7 @@ use mathlib.Core.Path.{◌≡◌, refl, sym, ap, ◌∙◌, subst}
 use mathlib.Core.Bool.{Bool, true, false, cond, not, ◌&&◌, ◌||◌}
 use mathlib.Core.List.{List, [], ◌∷◌}
 use native.Mathlib.Omega.{arith}
-use Rattle.hub.proofs.Laws.Bools.{first, second, if-true, if-false}
+use Rattle.hub.proofs.Laws.Bools.{first, second}
 use borrow.Author.Tests.{lt-ltb, le-ltb, ltb-true, eq-eqb, ne_eqb, eqb-false}
 use lib.Dec.{eqb, leb, ltb}
 use lib.ListN.{length, get_or, take, drop, length-drop}
@@ -13,46 +13,25 @@ use native.Mathlib.Nat.{le_of_eq}
 use Rattle.hub.specs.declared.opening.Opening.{Opening}
 use Rattle.encoding.specs.Frame.{is_call, op_of}
 use Rattle.encoding.specs.Hex.{digit_of, is_digit, spelled, byte_of}
+use Rattle.std.specs.Prelude.{Some, None}
+use Rattle.line.specs.Below.{if_below}
 use Rattle.line.specs.Requests.{LONGEST, Request, malformed, to_open, to_call}
 use Rattle.line.specs.Requests.{all_digits, unreadable, bytes_of, opening_in, requested, spelled_by}
-use Rattle.line.specs.Requests.{request_of, header_of, is_opening}
+use Rattle.line.specs.Requests.{request_of, call_header, header_of, is_opening}
+use Rattle.line.proofs.Laws.Codes.{call-back}
 
--- The first two characters spell a byte, or do not; x and y are their values.
-pub byte-short : (l : List ℕ) → length l < 2 → 256 ≡ byte_of l
-byte-short [] e = refl
-byte-short (a ∷ []) e = refl
-byte-short (a ∷ b ∷ l) e = absurd (omega arith)
-
-module _ (l : List ℕ) (long : 2 ≤ length l) (x : ℕ) (first : x ≡ digit_of (get_or l 0 0)) where
-  pub byte-first : 16 ≤ x → 256 ≡ byte_of l
-  byte-first m = go l long (subst (λ (d : ℕ). 16 ≤ d) first m)
-    where
-      go : (l : List ℕ) → 2 ≤ length l → 16 ≤ digit_of (get_or l 0 0) → 256 ≡ byte_of l
-      go [] n m = absurd (omega arith)
-      go (a ∷ []) n m = absurd (omega arith)
-      go (a ∷ b ∷ l) n m = simp (le-ltb (digit_of a) 16 m)
-
-  module _ (y : ℕ) (second : y ≡ digit_of (get_or l 1 0)) (low : x < 16) where
-    pub byte-second : 16 ≤ y → 256 ≡ byte_of l
-    byte-second m =
-        go l long (subst (λ (d : ℕ). d < 16) first low) (subst (λ (d : ℕ). 16 ≤ d) second m)
-      where
-        go : (l : List ℕ) → 2 ≤ length l → digit_of (get_or l 0 0) < 16 → 16 ≤ digit_of (get_or l 1 0)
-            → 256 ≡ byte_of l
-        go [] n i m = absurd (omega arith)
-        go (a ∷ []) n i m = absurd (omega arith)
-        go (a ∷ b ∷ l) n i m = simp (lt-ltb (digit_of a) 16 i, le-ltb (digit_of b) 16 m)
-
-    pub byte-both : y < 16 → 16 * x + y ≡ byte_of l
-    byte-both m =
-        (λ i. 16 * first i + second i)
-        ∙ go l long (subst (λ (d : ℕ). d < 16) first low) (subst (λ (d : ℕ). d < 16) second m)
-      where
-        go : (l : List ℕ) → 2 ≤ length l → digit_of (get_or l 0 0) < 16 → digit_of (get_or l 1 0) < 16
-            → 16 * digit_of (get_or l 0 0) + digit_of (get_or l 1 0) ≡ byte_of l
-        go [] n i m = absurd (omega arith)
-        go (a ∷ []) n i m = absurd (omega arith)
-        go (a ∷ b ∷ l) n i m = simp (lt-ltb (digit_of a) 16 i, lt-ltb (digit_of b) 16 m)
+-- The first two characters are digits of the values x and y: they spell a byte.
+pub byte-both : (l : List ℕ) → 2 ≤ length l → (x : ℕ) → x ≡ digit_of (get_or l 0 0)
+    → (y : ℕ) → y ≡ digit_of (get_or l 1 0) → x < 16 → y < 16 → 16 * x + y ≡ byte_of l
+byte-both l long x first y second low m =
+    (λ i. 16 * first i + second i)
+    ∙ go l long (subst (λ (d : ℕ). d < 16) first low) (subst (λ (d : ℕ). d < 16) second m)
+  where
+    go : (l : List ℕ) → 2 ≤ length l → digit_of (get_or l 0 0) < 16 → digit_of (get_or l 1 0) < 16
+        → 16 * digit_of (get_or l 0 0) + digit_of (get_or l 1 0) ≡ byte_of l
+    go [] n i m = absurd (omega arith)
+    go (a ∷ []) n i m = absurd (omega arith)
+    go (a ∷ b ∷ l) n i m = simp (lt-ltb (digit_of a) 16 i, lt-ltb (digit_of b) 16 m)
 
 -- The part of a line from its n-th character on.
 pub from : (n : ℕ) (l : List ℕ) → take (length l - n) (drop n l) ≡ drop n l
@@ -86,15 +65,7 @@ module _ (l : List ℕ) where
   unfolding spelled_by
   readable m e d = rw (le-ltb LONGEST (length l) m, ne_eqb (length l % 2) 1 e, d)
 
--- A line that asks nothing, readable or not.
-nothing : (l : List ℕ) → requested (bytes_of l) ≡ malformed → malformed ≡ request_of l
-unfolding request_of spelled_by requested
-nothing l e = either (unreadable l) (bytes_of l) e
-  where
-    either : (b : Bool) (m : List ℕ) → requested m ≡ malformed → malformed ≡ requested (cond b [] m)
-    either true m f = refl
-    either false m f = sym f
-
+-- A line that asks nothing.
 unread : (l : List ℕ) → all_digits l ≡ false → malformed ≡ request_of l
 unfolding request_of requested
 unread l e = ap requested (no_digit l e)
@@ -187,60 +158,64 @@ pub none : all_digits [] ≡ true
 unfolding all_digits
 none = refl
 
-of_four : (P : List ℕ → Type 0) → ((a b x y : ℕ) → P (a ∷ b ∷ x ∷ y ∷ []))
-    → (l : List ℕ) → length l ≡ 4 → P l
-of_four P f [] e = absurd (omega arith)
-of_four P f (a ∷ []) e = absurd (omega arith)
-of_four P f (a ∷ b ∷ []) e = absurd (omega arith)
-of_four P f (a ∷ b ∷ x ∷ []) e = absurd (omega arith)
-of_four P f (a ∷ b ∷ x ∷ y ∷ []) e = f a b x y
-of_four P f (a ∷ b ∷ x ∷ y ∷ z ∷ l) e = absurd (omega arith)
-
--- A call: its code, then its party.
-pub four-code : (l : List ℕ) → length l ≡ 4 → is_call (byte_of l) ≡ false → malformed ≡ request_of l
-unfolding bytes_of requested
-four-code =
-    of_four (λ l. is_call (byte_of l) ≡ false → malformed ≡ request_of l)
-    (λ a b x y. go a b x y (two_digits a b) refl)
+-- Two characters as a byte, if they spell one.
+pub in-pair : (a b : ℕ) → if_below 256 (byte_of (a ∷ b ∷ [])) ≡ cond (two_digits a b) (Some (spelled a b)) None
+in-pair a b = go (two_digits a b) refl
   where
-    go : (a b x y : ℕ) (d : Bool) → two_digits a b ≡ d
-        → is_call (byte_of (a ∷ b ∷ x ∷ y ∷ [])) ≡ false → malformed ≡ request_of (a ∷ b ∷ x ∷ y ∷ [])
-    go a b x y true e f =
-        nothing (a ∷ b ∷ x ∷ y ∷ [])
-        (if-false (is_call (spelled a b)) _ malformed (ap is_call (sym (byte-is a b (x ∷ y ∷ []) e)) ∙ f))
-    go a b x y false e f = unread (a ∷ b ∷ x ∷ y ∷ []) (stray a b (x ∷ y ∷ []) e)
+    go : (d : Bool) → two_digits a b ≡ d → if_below 256 (cond d (spelled a b) 256) ≡ cond d (Some (spelled a b)) None
+    go true e = rw (lt-ltb (spelled a b) 256 (small a b e))
+    go false e = refl
 
-pub four-party : (l : List ℕ) → length l ≡ 4 → 256 ≤ byte_of (drop 2 l) → malformed ≡ request_of l
-four-party =
-    of_four (λ l. 256 ≤ byte_of (drop 2 l) → malformed ≡ request_of l)
-    (λ a b x y m. unread (a ∷ b ∷ x ∷ y ∷ []) (later a b (x ∷ y ∷ []) (stray x y [] (strays x y [] m))))
-
-pub four : (l : List ℕ) → length l ≡ 4 → is_call (byte_of l) ≡ true → byte_of l < 256
-    → byte_of (drop 2 l) < 256
-    → to_call (record { op = op_of (byte_of l); party = byte_of (drop 2 l) }) ≡ request_of l
-unfolding request_of bytes_of requested
-four =
-    of_four
-    (λ l. is_call (byte_of l) ≡ true → byte_of l < 256 → byte_of (drop 2 l) < 256
-    → to_call (record { op = op_of (byte_of l); party = byte_of (drop 2 l) }) ≡ request_of l)
-    (λ a b x y f m n. go a b x y f (spells a b (x ∷ y ∷ []) m) (spells x y [] n))
+pub pair-spells : (a b x : ℕ) → Some x ≡ if_below 256 (byte_of (a ∷ b ∷ []))
+    → (two_digits a b ≡ true) × (x ≡ spelled a b)
+pair-spells a b x e = go (two_digits a b) (e ∙ in-pair a b)
   where
-    go : (a b x y : ℕ) → is_call (byte_of (a ∷ b ∷ x ∷ y ∷ [])) ≡ true → two_digits a b ≡ true
-        → two_digits x y ≡ true
-        → to_call (record { op = op_of (byte_of (a ∷ b ∷ x ∷ y ∷ [])); party = byte_of (x ∷ y ∷ []) })
-        ≡ request_of (a ∷ b ∷ x ∷ y ∷ [])
-    go a b x y f d e =
-        let l = a ∷ b ∷ x ∷ y ∷ [] in
-        (λ i. to_call (record {
-          op = op_of (byte-is a b (x ∷ y ∷ []) d i);
-          party = byte-is x y [] e i;
-        }))
-        ∙ sym
-        (if-true (is_call (spelled a b)) _ malformed
-        (ap is_call (sym (byte-is a b (x ∷ y ∷ []) d)) ∙ f))
-        ∙ ap requested
-        (readable l (omega arith) (λ z. omega arith)
-        (one_more a b (x ∷ y ∷ []) d (one_more x y [] e none)))
+    go : (d : Bool) → Some x ≡ cond d (Some (spelled a b)) None → (d ≡ true) × (x ≡ spelled a b)
+    go true e = (refl, cc)
+    go false e = absurd (cc)
+
+pub pair-strays : (a b : ℕ) → None ≡ if_below 256 (byte_of (a ∷ b ∷ [])) → two_digits a b ≡ false
+pair-strays a b e = go (two_digits a b) (e ∙ in-pair a b)
+  where
+    go : (d : Bool) → None ≡ cond d (Some (spelled a b)) None → d ≡ false
+    go true e = cc
+    go false e = refl
+
+-- Four characters are a call, its code and its party, or ask nothing.
+pub four : (a b x y : ℕ)
+    → call_header (if_below 256 (byte_of (a ∷ b ∷ x ∷ y ∷ []))) (if_below 256 (byte_of (x ∷ y ∷ [])))
+    ≡ header_of (request_of (a ∷ b ∷ x ∷ y ∷ []))
+unfolding bytes_of requested request_of spelled_by
+four a b x y =
+    (λ i. call_header (in-pair a b i) (in-pair x y i)) ∙ go (two_digits a b) (two_digits x y) refl refl
+  where
+    asked : (c p : ℕ) (t : Bool) → is_call c ≡ t
+        → cond t (record { code = c; party = p }) (header_of malformed)
+        ≡ header_of (cond t (to_call (record { op = op_of c; party = p })) malformed)
+    asked c p true e = (λ i. record { code = sym (call-back c e) i; party = p })
+    asked c p false e = refl
+
+    go : (d e : Bool) → two_digits a b ≡ d → two_digits x y ≡ e
+        → call_header (cond d (Some (spelled a b)) None) (cond e (Some (spelled x y)) None)
+        ≡ header_of (request_of (a ∷ b ∷ x ∷ y ∷ []))
+    go false e f g = ap header_of (unread (a ∷ b ∷ x ∷ y ∷ []) (stray a b (x ∷ y ∷ []) f))
+    go true false f g =
+        ap header_of (unread (a ∷ b ∷ x ∷ y ∷ []) (later a b (x ∷ y ∷ []) (stray x y [] g)))
+    go true true f g =
+        asked (spelled a b) (spelled x y) (is_call (spelled a b)) refl
+        ∙ ap (λ (l : List ℕ). header_of (requested l))
+        (readable (a ∷ b ∷ x ∷ y ∷ []) (omega arith) (λ z. omega arith)
+        (one_more a b (x ∷ y ∷ []) f (one_more x y [] g none)))
+
+-- The same of a line.
+pub four-line : (l : List ℕ) → length l ≡ 4
+    → call_header (if_below 256 (byte_of l)) (if_below 256 (byte_of (drop 2 l))) ≡ header_of (request_of l)
+four-line [] e = absurd (omega arith)
+four-line (a ∷ []) e = absurd (omega arith)
+four-line (a ∷ b ∷ []) e = absurd (omega arith)
+four-line (a ∷ b ∷ x ∷ []) e = absurd (omega arith)
+four-line (a ∷ b ∷ x ∷ y ∷ []) e = four a b x y
+four-line (a ∷ b ∷ x ∷ y ∷ z ∷ l) e = absurd (omega arith)
 
 -- Two bytes are four characters.
 halves : (l : List ℕ) → (2 * length (bytes_of l) ≤ length l) × (length l ≤ 2 * length (bytes_of l) + 1)

@@ -1,146 +1,120 @@
--- The frame of an opening: its length says that it is one, and behind K and n are its radios and its kinds.
-use Prim.Native.Nat.{ℕ, suc, ◌+◌, ◌-◌, ◌≤◌, ◌<◌}
+-- The frame of an opening: behind K and n are its radios and its kinds.
+use Prim.Native.Nat.{ℕ, ◌+◌, ◌-◌, ◌≤◌, ◌<◌, min}
 use mathlib.Core.Path.{◌≡◌, refl, sym, ap, ◌∙◌}
 use mathlib.Core.Bool.{Bool, true, false, cond, ◌&&◌}
-use mathlib.Core.List.{List, [], ◌∷◌, ◌++◌, append_assoc}
+use mathlib.Core.List.{List, [], ◌∷◌, ◌++◌, append-nil}
 use native.Mathlib.Decide.{dec_le}
-use native.Mathlib.Numerals.{add-one}
 use native.Mathlib.Omega.{arith}
-use borrow.Author.Tests.{eq-eqb, ne_eqb, eqb-true, le-leb, leb-true, le-ltb, lt-leb, lt-ltb}
-use lib.Dec.{eqb, leb, ltb}
-use lib.ListN.{length, get_or, take, drop, set, replicate, length-append}
-use lib.Seq.{take_all, take-take, take-suc, take-append-le, take-set-lt, set_at, length-take-le, drop-drop}
-use Rattle.hub.specs.declared.moves.Call.{Call}
+use borrow.Author.Tests.{eq-eqb, ne_eqb, eqb-true, le-leb, lt-leb}
+use lib.Dec.{eqb, leb}
+use lib.ListN.{length, get_or, take, drop, replicate}
+use lib.Seq.{take_all, take-append-le, take-append-add}
+use Rattle.std.specs.Prelude.{Option, Some, None, is_some, IsSome}
+use Rattle.std.proofs.lemmas.List.{drop-replicate, take-replicate}
 use Rattle.hub.specs.declared.opening.Opening.{Opening}
 use Rattle.hub.specs.Kinds.{built_in}
-use Rattle.hub.specs.Opening.{sized, with_kinds, with_radios}
+use Rattle.hub.specs.Opening.{with_kinds}
 use Rattle.hub.specs.Radios.{STORE, padded}
 use Rattle.hub.proofs.Laws.Radios.{padded-same}
+use Rattle.line.specs.Requests.{given_kinds, opening_in, requested, opening_asked, radios_given}
+use Rattle.line.specs.Requests.{Request, malformed, to_open, to_call, is_opening}
+use Rattle.hub.specs.declared.moves.Call.{Call}
 use Rattle.encoding.specs.Frame.{is_call}
-use Rattle.line.specs.Requests.{malformed, to_open, to_call, given_kinds, opening_in}
-use Rattle.line.specs.Requests.{requested, frame_size, is_opening}
-use Rattle.line.proofs.Laws.Lines.{from}
+
+-- A request is an opening if it asks for one.
+pub asks : (q : Request) → is_some (opening_asked q) ≡ is_opening q
+asks malformed = refl
+asks (to_open o) = refl
+asks (to_call c) = refl
+
+pub asked-some : (q : Request) (r : Option Opening) → r ≡ opening_asked q → is_opening q ≡ true → IsSome r
+asked-some q r e t = ap is_some e ∙ asks q ∙ t
+
+pub asked-back : (q : Request) (o : Opening) → Some o ≡ opening_asked q → to_open o ≡ q
+asked-back malformed o e = absurd (cc)
+asked-back (to_open p) o e = ap to_open cc
+asked-back (to_call c) o e = absurd (cc)
 
 -- Fewer than three bytes are no opening.
-pub short : (l : List ℕ) → length l < 3 → false ≡ is_opening (requested l)
+pub short : (l : List ℕ) → length l < 3 → None ≡ opening_asked (requested l)
 unfolding requested
 short [] m = refl
 short (c ∷ []) m = refl
 short (c ∷ p ∷ []) m = go (is_call c) _
   where
-    go : (b : Bool) (x : Call) → false ≡ is_opening (cond b (to_call x) malformed)
+    go : (b : Bool) (x : Call) → None ≡ opening_asked (cond b (to_call x) malformed)
     go true x = refl
     go false x = refl
 short (c ∷ k ∷ n ∷ l) m = absurd (omega arith)
 
--- How many bytes it has without kinds, by its code and K.
-abbrev size : List ℕ → ℕ
-size l = frame_size (get_or l 0 0) (get_or l 1 0)
+-- Three are its code, K and n.
+pub in_front : (l : List ℕ) → 3 ≤ length l
+    → opening_in (get_or l 0 0) (get_or l 1 0) (get_or l 2 0) (drop 3 l) ≡ requested l
+unfolding requested
+in_front [] m = absurd (omega arith)
+in_front (c ∷ []) m = absurd (omega arith)
+in_front (c ∷ k ∷ []) m = absurd (omega arith)
+in_front (c ∷ k ∷ n ∷ l) m = refl
 
-by_size : (l : List ℕ) → 3 ≤ length l → (r : ℕ) → r ≡ size l
-    → ltb 0 r && leb r (length l) ≡ is_opening (requested l)
-unfolding requested opening_in
-by_size [] m r e = absurd (omega arith)
-by_size (c ∷ []) m r e = absurd (omega arith)
-by_size (c ∷ k ∷ []) m r e = absurd (omega arith)
-by_size (c ∷ k ∷ n ∷ l) m r e =
-    ap (λ (s : ℕ). ltb 0 s && leb s (length (c ∷ k ∷ n ∷ l))) e ∙ go (eqb c 0x01) (eqb c 0x02) _ _
-  where
-    same : Dec (k ≤ length l) → leb (3 + k) (suc (suc (suc (length l)))) ≡ leb k (length l)
-    same (yes e) = le-leb (3 + k) (suc (suc (suc (length l)))) (omega arith) ∙ sym (le-leb k (length l) e)
-    same (no f) =
-        lt-leb (3 + k) (suc (suc (suc (length l)))) (omega arith) ∙ sym (lt-leb k (length l) (omega arith))
+-- What they say of the bytes behind them.
+module _ (c k n : ℕ) (l : List ℕ) where
+  abbrev asked : Option Opening
+  asked = opening_asked (opening_in c k n l)
 
-    asks : (b : Bool) (o : Opening) → b ≡ is_opening (cond b (to_open o) malformed)
-    asks true o = refl
-    asks false o = refl
+  pub no-code : radios_given c k ≡ None → None ≡ asked
+  unfolding opening_in
+  no-code = go (eqb c 0x01) (eqb c 0x02) _ _
+    where
+      go : (a b : Bool) (o p : Opening) → cond a (Some 0) (cond b (Some k) None) ≡ None
+          → None ≡ opening_asked (cond a (to_open o) (cond (b && leb k (length l)) (to_open p) malformed))
+      go true b o p e = absurd (cc)
+      go false true o p e = absurd (cc)
+      go false false o p e = refl
 
-    go : (a b : Bool) (o p : Opening)
-        → let s = cond a 3 (cond b (3 + k) 0) in
-        ltb 0 s && leb s (suc (suc (suc (length l))))
-        ≡ is_opening (cond a (to_open o) (cond (b && leb k (length l)) (to_open p) malformed))
-    go true b o p = le-leb 3 (suc (suc (suc (length l)))) (omega arith)
-    go false true o p = rw (lt-ltb 0 (3 + k) (omega arith)) (same (dec_le k (length l)) ∙ asks (leb k (length l)) p)
-    go false false o p = refl
+  module _ (g : ℕ) (given : radios_given c k ≡ Some g) where
+    pub too-few : length l < g → None ≡ asked
+    unfolding opening_in
+    too-few m = go (eqb c 0x01) (eqb c 0x02) _ _ given
+      where
+        go : (a b : Bool) (o p : Opening) → cond a (Some 0) (cond b (Some k) None) ≡ Some g
+            → None ≡ opening_asked (cond a (to_open o) (cond (b && leb k (length l)) (to_open p) malformed))
+        go true b o p e = let z : 0 ≡ g = cc in absurd (omega arith)
+        go false true o p e = let z : k ≡ g = cc in rw (lt-leb k (length l) (omega arith)) refl
+        go false false o p e = absurd (cc)
 
-module _ (l : List ℕ) (m : 3 ≤ length l) (r : ℕ) (e : r ≡ size l) where
-  pub by_code : r ≤ 0 → ltb 0 r ≡ is_opening (requested l)
-  by_code z = let f = le-ltb 0 r z in f ∙ (rw f at (by_size l m r e))
+    pub enough : g ≤ length l
+        → Some
+        (given_kinds (drop g l)
+        (record {
+          permits = k;
+          parties = n;
+          named = eqb c 0x02;
+          radios = padded (take g l);
+          kinds = built_in;
+          counted = true;
+        }))
+        ≡ asked
+    unfolding opening_in padded
+    enough m = go (eqb c 0x01) refl (eqb c 0x02) refl given
+      where
+        own : Bool → List ℕ → Opening
+        own b rs =
+            record { permits = k; parties = n; named = b; radios = padded rs; kinds = built_in; counted = true }
 
-  pub by_length : 0 < r → leb r (length l) ≡ is_opening (requested l)
-  by_length z = rw (lt-ltb 0 r z) at (by_size l m r e)
-
--- An opening that is given no kinds, of code c.
-abbrev without_kinds : ℕ → ℕ → ℕ → List ℕ → List ℕ → Opening
-without_kinds c k n rs ks =
-    record {
-      permits = k;
-      parties = n;
-      named = eqb c 0x02;
-      radios = rs;
-      kinds = ks;
-      counted = true;
-    }
-
--- Where the radios and the kinds of a frame are.
-pub record Frame (l : List ℕ) : Type 0 where
-  pub least : 3 ≤ size l
-  pub most : size l ≤ length l
-  pub asks : to_open
-      (given_kinds (drop (size l) l)
-      (without_kinds (get_or l 0 0) (get_or l 1 0) (get_or l 2 0) (padded (take (size l - 3) (drop 3 l))) built_in))
-      ≡ requested l
-
-pub in_frame : (l : List ℕ) → is_opening (requested l) ≡ true → Frame l
-unfolding requested opening_in padded
-in_frame [] t = let z : ◌≡◌ {A = ℕ} 0 1 = cc in absurd (omega arith)
-in_frame (c ∷ []) t = let z : ◌≡◌ {A = ℕ} 0 1 = cc in absurd (omega arith)
-in_frame (c ∷ p ∷ []) t =
-    let z : ◌≡◌ {A = Bool} false true = short (c ∷ p ∷ []) (omega arith) ∙ t in
-    let n : ◌≡◌ {A = ℕ} 0 1 = cc in
-    absurd (omega arith)
-in_frame (c ∷ k ∷ n ∷ l) t =
-    let g = go (eqb c 0x01) refl (eqb c 0x02) refl (leb k (length l)) refl t in
-    record { least = g.0; most = g.1; asks = g.2 }
-  where
-    whole : List ℕ
-    whole = c ∷ k ∷ n ∷ l
-
-    own : Bool → List ℕ → Opening
-    own b rs =
-        record { permits = k; parties = n; named = b; radios = padded rs; kinds = built_in; counted = true }
-
-    past_three : (k : ℕ) → 3 + k - 3 ≡ k
-    past_three k = omega arith
-
-    go : (a : Bool) → eqb c 0x01 ≡ a → (b : Bool) → eqb c 0x02 ≡ b → (m : Bool) → leb k (length l) ≡ m
-        → let s = cond a 3 (cond b (3 + k) 0) in
-        let q =
-        cond a (to_open (given_kinds l (sized k n)))
-        (cond (b && m) (to_open (given_kinds (drop k l) (with_radios k n (take k l)))) malformed) in
-        is_opening q ≡ true
-        → (3 ≤ s) × (s ≤ length whole) × (to_open (given_kinds (drop s whole) (own b (take (s - 3) l))) ≡ q)
-    go true e true f m g t = absurd (omega (arith, eqb-true c 1 e, eqb-true c 2 f))
-    go true e false f m g t = (omega arith, omega arith, refl)
-    go false e true f true g t = (
-      omega arith,
-      omega (arith, leb-true k (length l) g),
-      (λ i. to_open (given_kinds (sym (drop-drop k 3 whole) i) (own true (take (past_three k i) l)))),
-    )
-    go false e true f false g t = let z : ◌≡◌ {A = ℕ} 0 1 = cc in absurd (omega arith)
-    go false e false f m g t = let z : ◌≡◌ {A = ℕ} 0 1 = cc in absurd (omega arith)
-
--- What is read of it: r bytes, the radios of which are in rs, and then the kinds.
-pub asked-for : (l : List ℕ) → Frame l → (r : ℕ) → r ≡ size l → (rs ks : List ℕ)
-    → rs ≡ padded (take (r - 3) (drop 3 l)) → ks ≡ built_in
-    → to_open
-    (given_kinds (take (length l - r) (drop r l)) (without_kinds (get_or l 0 0) (get_or l 1 0) (get_or l 2 0) rs ks))
-    ≡ requested l
-asked-for l f r e rs ks g h =
-    let c = without_kinds (get_or l 0 0) (get_or l 1 0) (get_or l 2 0) in
-    (λ i. to_open (given_kinds (from r l i) (c (g i) (h i))))
-    ∙ (λ i. to_open (given_kinds (drop (e i) l) (c (padded (take (e i - 3) (drop 3 l))) built_in)))
-    ∙ f.asks
+        go : (a : Bool) → eqb c 0x01 ≡ a → (b : Bool) → eqb c 0x02 ≡ b
+            → cond a (Some 0) (cond b (Some k) None) ≡ Some g
+            → Some (given_kinds (drop g l) (own b (take g l)))
+            ≡ opening_asked
+            (cond a (to_open (given_kinds l (own false [])))
+            (cond (b && leb k (length l)) (to_open (given_kinds (drop k l) (own true (take k l)))) malformed))
+        go true e true f h = absurd (omega (arith, eqb-true c 1 e, eqb-true c 2 f))
+        go true e false f h =
+            let z : g ≡ 0 = cc in (λ i. Some (given_kinds (drop (z i) l) (own false (take (z i) l))))
+        go false e true f h =
+            let z : g ≡ k = cc in
+            (λ i. Some (given_kinds (drop (z i) l) (own true (take (z i) l))))
+            ∙ rw (le-leb k (length l) (omega arith)) refl
+        go false e false f h = absurd (cc)
 
 -- An opening that is given kinds, by their number.
 module _ (ks : List ℕ) (o : Opening) where
@@ -184,46 +158,25 @@ module _ (ks : List ℕ) (o : Opening) where
         ap (λ (l : List ℕ). kept l true) (e ∙ padded-same ks n)
         ∙ sym (by_number true (eq-eqb (length ks) 32 n)) ∙ given-some f
 
--- The first i of m are copied into 32 bytes.
-pub record Copied (m bytes : List ℕ) (i : ℕ) : Type 0 where
-  pub within : i ≤ length m
-  pub copied : bytes ≡ padded (take i m)
+-- The first n of a list, or all of it and 0 behind.
+filled : (n : ℕ) (m : List ℕ) (k : ℕ) → k ≡ min (length m) n
+    → take k m ++ drop k (replicate n 0) ≡ take n (m ++ replicate n 0)
+filled n m k e = go (dec_le n (length m))
+  where
+    go : Dec (n ≤ length m) → take k m ++ drop k (replicate n 0) ≡ take n (m ++ replicate n 0)
+    go (yes h) =
+        let z : k ≡ n = omega (arith, e) in
+        let none : n - k ≡ 0 = omega (arith, z) in
+        (λ i. take (z i) m ++ (drop-replicate k n 0 ∙ ap (λ (j : ℕ). replicate j 0) none) i)
+        ∙ append-nil (take n m)
+        ∙ sym (take-append-le n m (replicate n 0) h)
+    go (no h) =
+        let z : n ≡ length m + (n - k) = omega (arith, e) in
+        (λ i. take_all k m (omega (arith, e)) i ++ drop-replicate k n 0 i)
+        ∙ ap (λ (l : List ℕ). m ++ l) (sym (take-replicate (n - k) n 0 (omega arith)))
+        ∙ sym (take-append-add m (replicate n 0) (n - k))
+        ∙ ap (λ (j : ℕ). take j (m ++ replicate n 0)) (sym z)
 
-pub none : (m : List ℕ) → Copied m (replicate STORE 0) 0
+pub copied : (m : List ℕ) (k : ℕ) → k ≡ min (length m) STORE → take k m ++ drop k (replicate STORE 0) ≡ padded m
 unfolding padded
-none m = record { within = omega arith; copied = refl }
-
-module _ (m bytes : List ℕ) (i : ℕ) (d : Copied m bytes i) where
-  pub one_more : i < length m → i < STORE → (x : ℕ) → x ≡ get_or m i 0 → Copied m (set bytes i x) (i + 1)
-  unfolding padded
-  one_more a b x e =
-      record {
-        within = omega arith;
-        copied =
-            ap (λ (l : List ℕ). set l i x) d.copied
-            ∙ sym (take-set-lt STORE (take i m ++ replicate STORE 0) i x b)
-            ∙ ap (take STORE) (set_at (take i m) 0 (replicate 31 0) x i (length-take-le i m (omega arith)))
-            ∙ sym
-            (take-append-le STORE (take i m ++ (x ∷ replicate 31 0)) (0 ∷ [])
-            (simp length-append (omega (arith, length-take-le i m (omega arith)))))
-            ∙ ap (take STORE) (append_assoc (take i m) (x ∷ replicate 31 0) (0 ∷ [])
-            ∙ sym (append_assoc (take i m) (x ∷ []) (replicate STORE 0))
-            ∙ ap (λ (l : List ℕ). l ++ replicate STORE 0) (sym next));
-      }
-    where
-      next : take (i + 1) m ≡ take i m ++ (x ∷ [])
-      next =
-          ap (λ (n : ℕ). take n m) (add-one i) ∙ take-suc m i 0 a
-          ∙ ap (λ (y : ℕ). take i m ++ (y ∷ [])) (sym e)
-
-  pub all-copied : length m ≤ i → bytes ≡ padded m
-  all-copied a = d.copied ∙ ap padded (take_all i m a)
-
-  pub full : STORE ≤ i → bytes ≡ padded m
-  unfolding padded
-  full a =
-      let s = length-take-le i m d.within in
-      d.copied
-      ∙ take-append-le STORE (take i m) (replicate STORE 0) (omega (arith, s))
-      ∙ take-take STORE i m a
-      ∙ sym (take-append-le STORE m (replicate STORE 0) (omega (arith, d.within)))
+copied = filled STORE

@@ -1,16 +1,16 @@
--- `hands_shown` meets its contract: the radios so far are shown.
+-- `hands_shown` meets its contract: each radio is shown where its party has one.
 use borrow.Author.Rules.{rules}
-use Prim.Native.Nat.{◌-◌}
-use mathlib.Core.Path.{◌∙◌}
+use mathlib.Core.Path.{◌≡◌, refl}
+use Prim.Native.Nat.{ℕ}
+use mathlib.Core.Bool.{cond}
+use lib.ListN.{get_or}
 use Rattle.hub.specs.Phases.{has_radio}
-use Rattle.cells.proofs.Laws.Each.{onward, start}
-use Rattle.radiobytes.proofs.Laws.{chosen}
+use Rattle.hub.specs.Record.{free_slot}
+use Rattle.cells.proofs.Laws.Each.{from_fn-each}
 use Rattle.radiobytes.proofs.hands_shown.Goals as goal
 
-pub loop-p-preserved : goal.loop-p-preserved
-loop-p-preserved c =
-    onward _ _ _ _ _ c.loop-p.invariant c.loop-p-test.true
-    (c.if_so.ensures ∙ chosen _ _ c.has_radio.ensures)
-
-pub loop-p-init : goal.loop-p-init
-loop-p-init c = start _ _ _ (search rules)
+pub returns : goal.returns
+returns c =
+    from_fn-each _ _ (λ (q : ℕ). cond (has_radio (get_or c.args.slots q free_slot).phase) (get_or c.args.hands q 0) 0) 32
+    (λ i y q h m. search rules)
+    _ c.from_fn.ensures.items

@@ -1,12 +1,13 @@
 -- `given_kinds` meets its contract: kinds that are 32 in number are kept, and no others.
+use native.Mathlib.Omega.{arith}
 use Rattle.line.proofs.Laws.Openings.{given-none, miscounted, whole}
 use Rattle.line.proofs.openings.given_kinds.Goals as goal
 
-pub returns-then-kinds-eq0 : goal.returns-then-kinds-eq0
-returns-then-kinds-eq0 c = given-none _ _ c.if-kinds-eq0.true
+pub returns-in-0 : goal.returns-in-0
+returns-in-0 c = given-none _ _ c.in-0.is
 
-pub returns-then-kinds-ne32 : goal.returns-then-kinds-ne32
-returns-then-kinds-ne32 c = miscounted _ _ c.if-kinds-eq0.false _ c.if-kinds-ne32.true c.built_in-table.ensures
+pub returns-in-32 : goal.returns-in-32
+returns-in-32 c = whole _ _ (λ e. omega arith) _ c.in-32.is c.padded.ensures
 
-pub returns : goal.returns
-returns c = whole _ _ c.if-kinds-eq0.false _ c.if-kinds-ne32.false c.padded-own.ensures
+pub returns-in_default : goal.returns-in_default
+returns-in_default c = miscounted _ _ (λ e. omega arith) _ (λ e. omega arith) c.built_in.ensures

@@ -1,14 +1,13 @@
--- `padded` meets its contract: one byte of the part after the other is copied.
-use borrow.Author.Rules.{rules}
-use mathlib.Core.Path.{refl}
-use Rattle.line.proofs.Laws.Openings.{none, one_more, full}
+-- `padded` meets its contract: as much of the part as there is room for is copied.
+use Prim.Native.Nat.{ℕ}
+use mathlib.Core.List.{List, ◌++◌}
+use mathlib.Core.Path.{ap, ◌∙◌}
+use lib.ListN.{drop, replicate}
+use Rattle.hub.specs.Radios.{STORE}
+use Rattle.line.proofs.Laws.Openings.{copied}
 use Rattle.line.proofs.openings.padded.Goals as goal
 
-pub loop-i-init : goal.loop-i-init
-loop-i-init c = none _
-
-pub loop-i-preserved : goal.loop-i-preserved
-loop-i-preserved c = one_more _ _ _ c.loop-i.invariant (search rules) (search rules) _ refl
-
-pub returns-after-loop-i : goal.returns-after-loop-i
-returns-after-loop-i c = full _ _ _ c.loop-i.invariant c.loop-i-test.false
+pub returns : goal.returns
+returns c =
+    ap (λ (l : List ℕ). l ++ drop c.min-count.result (replicate STORE 0)) c.copy_from_slice.ensures.after
+    ∙ copied _ _ c.min-count.ensures

@@ -1,15 +1,14 @@
 -- `read_opening` meets its contract: the bytes of a line are asked as the line is.
+use Prim.Native.Nat.{ℕ}
+use mathlib.Core.List.{List}
 use mathlib.Core.Path.{ap, ◌∙◌}
-use Rattle.line.specs.Requests.{is_opening}
-use Rattle.line.proofs.Laws.Decoding.{as_line}
+use Rattle.line.specs.Requests.{is_opening, request_of, requested}
 use Rattle.line.proofs.request.read_opening.Goals as goal
 
 pub opening_in-requires : goal.opening_in-requires
-opening_in-requires c =
-    let d = c.decode-total in
-    ap is_opening (as_line _ d.new.bytes d.result d.ensures.value.1) ∙ c.requires
+unfolding request_of
+opening_in-requires c = ap (λ (l : List ℕ). is_opening (requested l)) c.decode.ensures ∙ c.requires
 
 pub returns : goal.returns
-returns c =
-    let d = c.decode-total in
-    c.opening_in.ensures ∙ as_line _ d.new.bytes d.result d.ensures.value.1
+unfolding request_of
+returns c = c.opening_in.ensures ∙ ap requested c.decode.ensures
