@@ -1,4 +1,4 @@
--- M-200, the monthly bill: counting links, sharing the fee, refusals and bytes, what holds of it.
+-- M-200, the monthly bill: counting links, sharing the fee, refusals and bytes, what holds of it; the code's own table.
 pub mod Counting
 pub mod Sharing
 pub mod Bill

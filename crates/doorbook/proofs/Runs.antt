@@ -1,42 +1,29 @@
 -- Every run of frames from an empty book, by value and in place.
-use Prim.Native.Nat.{ℕ, zero, suc, ◌*◌, ◌≤◌, ◌<◌}
+use Prim.Native.Nat.{ℕ, ◌*◌, ◌≤◌, ◌<◌}
 use mathlib.Core.Path.{◌≡◌, refl, sym, ap, ◌∙◌}
-use mathlib.Core.Bool.{Bool, true, false, cond, not, ◌&&◌, ◌||◌}
+use mathlib.Core.Bool.{Bool, true, false, cond, ◌&&◌}
 use mathlib.Core.List.{List, [], ◌∷◌}
-use borrow.Author.Tests.{ltb-false, eqb-false, eq-eqb, ne_eqb}
+use borrow.Author.Tests.{eq-eqb, ne_eqb}
 use native.Mathlib.Decide.{ℕ_discrete, dec_le}
 use native.Mathlib.Omega.{arith}
+use Rattle.std.proofs.lemmas.Bool.Decides.{nat_tests}
+use Rattle.std.proofs.lemmas.Grind.{common_steps}
+use Rattle.std.proofs.lemmas.List.Folds.{list_any_at}
 use lib.Dec.{ltb, eqb}
 use lib.ListN.{length, get_or, set, replicate, length-set, length-replicate, get_or-replicate}
-use lib.Seq.{get_or-set_same, get_or-set_other}
-use Rattle.std.specs.Prelude.{Ok, Err}
-use Rattle.doorbook.specs.declared.Refusal.{Refusal}
+use lib.Seq.{get_or-set_other}
 use Rattle.doorbook.specs.Book.{empty_book, lock_at, stands, answer_to, code_of, is_accepted, after}
 use Rattle.doorbook.specs.Bytes.{locks_of, fitted_at, bytes_after, enter_bytes}
-use Rattle.doorbook.specs.Frame.{is_frame, door_of, new_lock, superseded}
+use Rattle.doorbook.specs.Frame.{door_of, new_lock}
 use Rattle.doorbook.specs.Runs.{after_run, answered, last_new, EveryRun}
 use Rattle.doorbook.specs.Runs.{bytes_after_run, EveryRunInPlace}
 use Rattle.doorbook.proofs.Laws.Answers.{beyond, within}
 use Rattle.doorbook.proofs.Laws.Bytes.{length-fitted, locks-fitted}
 
-or_left : (a b : Bool) → a || b ≡ false → a ≡ false
-or_left true b e = e
-or_left false b e = refl
-
-or_right : (a b : Bool) → a || b ≡ false → b ≡ false
-or_right true b e = cc
-or_right false b e = e
-
 -- A lock stands where it is.
 stands-there : (book : List ℕ) (d : ℕ) → d < length book → stands (get_or book d 0) book ≡ true
 unfolding stands
-stands-there [] d h = absurd (omega arith)
-stands-there (m ∷ book) zero h = rw (eq-eqb m m refl)
-stands-there (m ∷ book) (suc d) h = rw (stands-there book d (omega arith)) (go (eqb m (get_or book d 0)))
-  where
-    go : (b : Bool) → b || true ≡ true
-    go true = refl
-    go false = refl
+stands-there book d h = list_any_at (λ m. eqb m (get_or book d 0)) book d 0 h (eq-eqb _ _ refl)
 
 -- A lock that does not stand is at no door.
 at_none : (book : List ℕ) (n d : ℕ) → length book ≡ 200 → stands n book ≡ false → (n ≡ 0 → ⊥)
@@ -52,38 +39,23 @@ at_none book n d size s z e = go (dec_le d 199)
     go (no h) = z (sym e ∙ sym (beyond book d (omega arith)))
 
 module _ (book f : List ℕ) where
-  -- The tests that an accepted frame has passed.
-  tests : is_accepted (answer_to book f) ≡ true
-      → (ltb 199 (door_of f) ≡ false) × (eqb (new_lock f) 0 || stands (new_lock f) book ≡ false)
-  unfolding answer_to
-  tests =
-      go (is_frame f) (ltb 199 (door_of f)) (eqb (new_lock f) 0 || stands (new_lock f) book)
-      (eqb (superseded f) (lock_at book (door_of f)))
-    where
-      go : (w d n o : Bool)
-          → is_accepted
-          (cond (not w) (Err Refusal.Malformed) (cond d (Err Refusal.NoSuchDoor) (cond n (Err Refusal.NotNew)
-          (cond (not o) (Err Refusal.NotThere) (Ok tt)))))
-          ≡ true
-          → (d ≡ false) × (n ≡ false)
-      go false d n o e = (cc, cc)
-      go true true n o e = (cc, cc)
-      go true false true o e = (refl, cc)
-      go true false false o e = (refl, refl)
-
+  -- What the tests say of a frame that has passed them.
   a-door : is_accepted (answer_to book f) ≡ true → door_of f ≤ 199
-  a-door e = ltb-false _ _ (tests e).0
+  unfolding answer_to
+  a-door e = grind (arith, nat_tests)
 
   a-lock : is_accepted (answer_to book f) ≡ true → new_lock f ≡ 0 → ⊥
-  a-lock e = eqb-false _ _ (or_left _ _ (tests e).1)
+  unfolding answer_to
+  a-lock e z = grind (arith, nat_tests)
 
   not-standing : is_accepted (answer_to book f) ≡ true → stands (new_lock f) book ≡ false
-  not-standing e = or_right (eqb (new_lock f) 0) _ (tests e).1
+  unfolding answer_to
+  not-standing e = grind (arith, nat_tests)
 
 -- A lock put at a door stands there, and nothing else moves.
 at-door : (book : List ℕ) (d n : ℕ) → length book ≡ 200 → d ≤ 199 → lock_at (set book d n) d ≡ n
-at-door book d n size h =
-    sym (within (set book d n) d h) ∙ get_or-set_same book d n 0 (omega arith)
+unfolding lock_at
+at-door book d n size h = grind (arith, common_steps)
 
 elsewhere : (book : List ℕ) (d n e : ℕ) → (d ≡ e → ⊥) → lock_at (set book d n) e ≡ lock_at book e
 unfolding lock_at
