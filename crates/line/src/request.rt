@@ -31,6 +31,7 @@ fn malformed() -> Header
 }
 
 // The header of four characters, by the bytes that they spell: a call, or malformed.
+#[inline(always)]
 pub(crate) fn call_header(code: Option<u8>, party: Option<u8>) -> Header
     ensures { result ≡ call_header code party }
 {

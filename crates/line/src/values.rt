@@ -34,6 +34,7 @@ pub fn table() -> [u16; 256]
 }
 
 // The byte that two characters spell, if they do.
+#[inline(always)]
 fn byte_by(values: &[u16; 256], a: u8, b: u8) -> Option<u8>
     requires { Values values.now }
     ensures { result ≡ if_below 256 (byte_of (a ∷ b ∷ [])) }

@@ -8,7 +8,7 @@ ghost use Rattle.perform.specs.Bytes.{is_operation_code};
 ghost use Rattle.run.specs.Run.{ran_code};
 ghost use Rattle.operate.specs.Ending.{operated_framed};
 
-use line::openings::{is_opening_frame, opening_in};
+use line::openings::read_frame;
 use openhub::open_hub;
 use perform::perform_operations;
 use run::{RunError, ran_code, well_formed};
@@ -26,10 +26,10 @@ fn operate(opening: &[u8], operations: &[u8], out: &mut [u8]) -> Result<(), RunE
         × (out.new
         ≡ (operated_framed (requested opening.now) operations.now out.old).out) }
 {
-    if !is_opening_frame(opening) {
+    let Some(o) = read_frame(opening) else {
         return Err(RunError::BadOpening);
-    }
-    let hub = open_hub(opening_in(opening))?;
+    };
+    let hub = open_hub(o)?;
     if !well_formed(operations, is_operation) {
         return Err(RunError::Malformed);
     }

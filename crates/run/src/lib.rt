@@ -13,7 +13,7 @@ ghost use Rattle.run.specs.Run.{error_code, framed_run, ran_code, run_from};
 
 use hub::answers::Refusal;
 use hub::opening::Opening;
-use line::openings::{is_opening_frame, opening_in};
+use line::openings::read_frame;
 use openhub::open_hub;
 use requests::answer_requests;
 use writer::form::Bytes;
@@ -101,10 +101,10 @@ fn run_framed(opening: &[u8], calls: &[u8], out: &mut [u8]) -> Result<(), RunErr
     ensures { (ran_code result ≡ (framed_run (requested opening.now) calls.now out.old).result)
         × (out.new ≡ (framed_run (requested opening.now) calls.now out.old).out) }
 {
-    if !is_opening_frame(opening) {
+    let Some(o) = read_frame(opening) else {
         return Err(RunError::BadOpening);
-    }
-    run_calls(opening_in(opening), calls, out)
+    };
+    run_calls(o, calls, out)
 }
 
 // The same for C and Rust, which see a number: 0 done, 12 a malformed opening, 2, 3 or 14 to 17 not
