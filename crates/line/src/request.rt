@@ -21,7 +21,7 @@ pub const MALFORMED: u8 = 0x00; // a line that asks nothing
 
 pub const OPENING: u8 = 0x01; // an opening, whatever it asks for
 
-fn malformed() -> Header
+pub(crate) fn malformed() -> Header
     ensures { result ≡ header_of malformed }
 {
     Header {
@@ -31,8 +31,7 @@ fn malformed() -> Header
 }
 
 // The header of four characters, by the bytes that they spell: a call, or malformed.
-#[inline(always)]
-pub(crate) fn call_header(code: Option<u8>, party: Option<u8>) -> Header
+fn call_header(code: Option<u8>, party: Option<u8>) -> Header
     ensures { result ≡ call_header code party }
 {
     match (code, party) {

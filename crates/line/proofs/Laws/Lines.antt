@@ -4,7 +4,7 @@ use mathlib.Core.Path.{◌≡◌, refl, sym, ap, ◌∙◌, subst}
 use mathlib.Core.Bool.{Bool, true, false, cond, not, ◌&&◌, ◌||◌}
 use mathlib.Core.List.{List, [], ◌∷◌}
 use native.Mathlib.Omega.{arith}
-use Rattle.hub.proofs.Laws.Bools.{first, second}
+use Rattle.hub.proofs.Laws.Bools.{first, second, if-true}
 use borrow.Author.Tests.{lt-ltb, le-ltb, ltb-true, eq-eqb, ne_eqb, eqb-false}
 use lib.Dec.{eqb, leb, ltb}
 use lib.ListN.{length, get_or, take, drop, length-drop}
@@ -13,7 +13,7 @@ use native.Mathlib.Nat.{le_of_eq}
 use Rattle.hub.specs.declared.opening.Opening.{Opening}
 use Rattle.encoding.specs.Frame.{is_call, op_of}
 use Rattle.encoding.specs.Hex.{digit_of, is_digit, spelled, byte_of}
-use Rattle.std.specs.Prelude.{Some, None}
+use Rattle.std.specs.Prelude.{Option, Some, None}
 use Rattle.line.specs.Below.{if_below}
 use Rattle.line.specs.Requests.{LONGEST, Request, malformed, to_open, to_call}
 use Rattle.line.specs.Requests.{all_digits, unreadable, bytes_of, opening_in, requested, spelled_by}
@@ -206,6 +206,27 @@ four a b x y =
         ∙ ap (λ (l : List ℕ). header_of (requested l))
         (readable (a ∷ b ∷ x ∷ y ∷ []) (omega arith) (λ z. omega arith)
         (one_more a b (x ∷ y ∷ []) f (one_more x y [] g none)))
+
+-- The tests of a call one by one: no byte, no code, no party, a call.
+module _ (o q : Option ℕ) where
+  pub no-first : o ≡ None → header_of malformed ≡ call_header o q
+  no-first e = λ i. call_header (sym e i) q
+
+  module _ (c : ℕ) (code : o ≡ Some c) where
+    pub no-code : is_call c ≡ false → header_of malformed ≡ call_header o q
+    no-code f = go q ∙ (λ i. call_header (sym code i) q)
+      where
+        go : (q : Option ℕ) → header_of malformed ≡ call_header (Some c) q
+        go None = refl
+        go (Some p) = rw f refl
+
+    pub no-second : q ≡ None → header_of malformed ≡ call_header o q
+    no-second e = λ i. call_header (sym code i) (sym e i)
+
+    pub both : (p : ℕ) → q ≡ Some p → is_call c ≡ true → record { code = c; party = p } ≡ call_header o q
+    both p e f =
+        sym (if-true (is_call c) (record { code = c; party = p }) (header_of malformed) f)
+        ∙ (λ i. call_header (sym code i) (sym e i))
 
 -- The same of a line.
 pub four-line : (l : List ℕ) → length l ≡ 4
