@@ -1,2 +1,2 @@
--- The contracts of this crate cite the definitions of the crate hub, and what the check notes.
-pub mod Met
+-- The contracts of this crate cite the definitions of the crate hub, and what the check finds missing.
+pub mod Missing

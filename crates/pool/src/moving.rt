@@ -8,29 +8,25 @@ use hub::answers::Answer;
 use hub::record::{Hub, Pool};
 
 // The radio with a party; 0 past the 32.
+#[tactic(auto, unfolding(hub::specs::Radios::hand_of))]
 pub fn hand_of(pool: Pool, party: u8) -> u8
     ensures { result ≡ hand_of pool party }
 {
-    let p = party as usize;
-    if p < 32 {
-        return pool.hands[p];
-    }
-    0
+    pool.hands.get(party as usize).copied().unwrap_or(0)
 }
 
+#[tactic(auto, unfolding(hub::specs::Radios::laid_at))]
 fn laid_at(pool: Pool, t: u32) -> u8
     ensures { result ≡ laid_at pool t }
 {
-    let i = (t % Hub::PLACES) as usize;
-    pool.laid[i]
+    pool.laid[(t % Hub::PLACES) as usize]
 }
 
 fn hand_to(q: u32, radio: u8, mut pool: Pool) -> Pool
     ensures { result ≡ hand_to q radio pool }
 {
     if q < 32 {
-        let p = q as usize;
-        pool.hands[p] = radio;
+        pool.hands[q as usize] = radio;
     }
     pool
 }
@@ -38,8 +34,7 @@ fn hand_to(q: u32, radio: u8, mut pool: Pool) -> Pool
 fn lay_at(t: u32, radio: u8, mut pool: Pool) -> Pool
     ensures { result ≡ lay_at t radio pool }
 {
-    let i = (t % Hub::PLACES) as usize;
-    pool.laid[i] = radio;
+    pool.laid[(t % Hub::PLACES) as usize] = radio;
     pool
 }
 
@@ -48,10 +43,8 @@ fn put_back(radio: u8, mut pool: Pool) -> Pool
     requires { pool.stored ≤ 32 }
     ensures { result ≡ put_back radio pool }
 {
-    let stored = pool.stored;
-    let i = ((pool.first % 32 + stored) % 32) as usize;
-    pool.store[i] = radio;
-    pool.stored = stored + 1;
+    pool.store[((pool.first % 32 + pool.stored) % 32) as usize] = radio;
+    pool.stored += 1;
     pool
 }
 
@@ -60,15 +53,11 @@ fn fetched(party: u8, pool: Pool) -> Pool
     ensures { result ≡ fetch party pool }
 {
     let first = pool.first % 32;
-    let i = first as usize;
-    let radio = pool.store[i];
-    let mut after = hand_to(party as u32, radio, pool);
-    after.first = (first + 1) % 32;
-    let stored = after.stored;
-    if 0 < stored {
-        after.stored = stored - 1;
+    Pool {
+        first: (first + 1) % 32,
+        stored: pool.stored.saturating_sub(1),
+        ..hand_to(party as u32, pool.store[first as usize], pool)
     }
-    after
 }
 
 pub fn move_radio(answer: Answer, party: u8, pool: Pool) -> Pool

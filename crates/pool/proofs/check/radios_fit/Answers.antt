@@ -1,34 +1,63 @@
--- `radios_fit` meets its contract: the radios noted are all that there are, unless they are too many.
+-- `radios_fit` meets its contract: a radio that is met too often is not missing, and one that is met too seldom is left.
+use Prim.Native.Nat.{ℕ, ◌<◌}
 use borrow.Author.Rules.{rules}
-use borrow.Author.Tests.{not-true, not-false}
-use mathlib.Core.Path.{sym, ◌∙◌}
-use Rattle.pool.proofs.Laws.Fits.{alike-unfit, other-count, same_count, stored-over, unnamed-fit}
+use mathlib.Core.Path.{◌≡◌, sym, ap, ap₂, subst, ◌∙◌}
+use mathlib.Core.Bool.{Bool, true, not, ◌&&◌}
+use mathlib.Core.List.{List}
+use lib.ListN.{get_or, length, take}
+use Rattle.std.specs.Prelude.{Option}
+use Rattle.hub.specs.declared.record.Hub.{Hub}
+use Rattle.hub.specs.Basics.{implies}
+use Rattle.hub.specs.Fits.{radios_fit}
+use Rattle.hub.specs.Opening.{radios_differ}
+use Rattle.hub.specs.Radios.{differ, radios_in, radios_of, rearranged}
+use Rattle.hub.proofs.Laws.Opening.{named-differ}
+use Rattle.hub.proofs.Laws.Radios.{radios-of}
+use Rattle.pool.specs.declared.check.Missing.{Missing}
+use Rattle.pool.specs.Missing.{met, missing_of}
+use Rattle.pool.proofs.Laws.Fits.{unnamed-fit}
+use Rattle.pool.proofs.Laws.Missing.{by-table, bytes-all, bytes-take, says}
+use Rattle.pool.proofs.check.radios_fit.Goals.{After-in_all}
 use Rattle.pool.proofs.check.radios_fit.Goals as goal
 
+-- What the table says of a record's radios.
+module _ (h : Hub) (named : h.control.opening.named ≡ true) (d : radios_differ h.control.opening ≡ true)
+    (size : length h.control.opening.radios ≡ 32) (x : (k : ℕ) → get_or h.control.opening.radios k 0 < 256)
+    (y : (k : ℕ) → get_or h.control.pool.hands k 0 < 256) (z : (k : ℕ) → get_or h.control.pool.laid k 0 < 256)
+    (w : (k : ℕ) → get_or h.control.pool.store k 0 < 256) where
+  abbrev given : List ℕ
+  given = take h.control.opening.permits h.control.opening.radios
+
+  abbrev found : List ℕ
+  found = radios_in h.slots h.places h.control.pool
+
+  said : (m : Missing) → m ≡ missing_of given → (o : Option Missing) → o ≡ met found m → says o ≡ radios_fit h
+  unfolding radios_fit
+  said m e o i =
+      let same = radios-of h.control.opening size in
+      let apart : differ given ≡ true = subst (λ (l : List ℕ). differ l ≡ true) same (sym (named-differ h.control.opening named) ∙ d) in
+      by-table found given apart (bytes-all h.slots h.places h.control.pool y z w)
+      (bytes-take h.control.opening.permits h.control.opening.radios x) o (i ∙ ap (met found) e)
+      ∙ ap (rearranged found) (sym same)
+      ∙ sym (ap₂ (λ (a b : Bool). a && implies b (rearranged found (radios_of h.control.opening))) d named)
+
 pub returns-then-not-opening : goal.returns-then-not-opening
-returns-then-not-opening c = sym (unnamed-fit _ (not-true _ c.if-not-opening.true))
+returns-then-not-opening c = ap not c.if-not-opening.true ∙ sym (unnamed-fit c.args.hub c.if-not-opening.true)
 
-pub returns-then-not-radios_differ : goal.returns-then-not-radios_differ
-returns-then-not-radios_differ c =
-    sym (alike-unfit _ (sym c.radios_differ.ensures ∙ not-true _ c.if-not-radios_differ.true-raw))
+-- What all that were met, or the first that was not missing, say.
+all : (c : After-in_all) → says c.in_all.result ≡ radios_fit c.args.hub
+all c =
+    said c.args.hub c.if-not-opening.false (sym c.radios_differ.ensures ∙ c.if-radios_differ.true) (search rules)
+    (search (rules, c.well_formed.0.1.1.1.1)) (search (rules, c.well_formed.0.1.1.1.1)) (search (rules, c.well_formed.0.1.1.1.1))
+    (search (rules, c.well_formed.0.1.1.1.1)) _ c.of.ensures _ c.in_all.ensures
 
-pub returns-then-pool-gt32 : goal.returns-then-pool-gt32
-returns-then-pool-gt32 c =
-    sym
-    (stored-over _ (not-false _ c.if-not-opening.false)
-    (sym c.radios_differ.ensures ∙ not-false _ c.if-not-radios_differ.false-raw) (search rules) c.requires
-    c.if-pool-gt32.true)
+pub returns-in-Some : goal.returns-in-Some
+returns-in-Some c = c.is_empty.ensures ∙ ap says (sym c.in-Some.is) ∙ all c.before.before.before
 
-pub returns-then-met-count : goal.returns-then-met-count
-returns-then-met-count c =
-    sym
-    (other-count _ (not-false _ c.if-not-opening.false)
-    (sym c.radios_differ.ensures ∙ not-false _ c.if-not-radios_differ.false-raw) (search rules) c.requires _
-    c.radios_met-met.ensures (search rules) c.if-met-count.true)
+pub returns-in-None : goal.returns-in-None
+returns-in-None c = ap says (sym c.in-None.is) ∙ all c.before
 
-pub returns : goal.returns
-returns c =
-    c.same_radios.ensures
-    ∙ same_count _ (not-false _ c.if-not-opening.false)
-    (sym c.radios_differ.ensures ∙ not-false _ c.if-not-radios_differ.false-raw) (search rules) c.requires
-    c.radios_met-met.result c.radios_met-met.ensures (search rules) c.if-met-count.false
+pub returns-else-radios_differ : goal.returns-else-radios_differ
+unfolding radios_fit
+returns-else-radios_differ c =
+    rw (c.if-radios_differ.false, sym c.radios_differ.ensures ∙ c.if-radios_differ.false)
