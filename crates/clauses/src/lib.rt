@@ -7,7 +7,7 @@ ghost use Rattle.hub.specs.Basics.{implies};
 ghost use Rattle.hub.specs.Fits.{counter_fits, figures_fit, in_window, ticket_fits, place_listed};
 ghost use Rattle.hub.specs.Fits.{kinds_fit, stands_at};
 ghost use Rattle.hub.specs.Phases.{of_radios};
-ghost use Rattle.clauses.specs.Window.{ticket_at};
+ghost use Rattle.clauses.specs.Window.{ticket_at, tickets_fit};
 
 use hub::opening::Opening;
 use hub::record::{Figures, Hub, Phase, Place};
@@ -15,61 +15,44 @@ use openhub::{kinds_fit, up_to_32};
 use phases::of_radios;
 
 // −32 to 32.
+#[tactic(auto, unfolding(hub::specs::Fits::counter_fits))]
 fn counter_fits(figures: Figures) -> bool
     ensures { result ≡ counter_fits figures.counter }
 {
-    if figures.counter < -32 {
-        return false;
-    }
-    figures.counter <= 32
+    (-32..=32).contains(&figures.counter)
+}
+
+// The tickets that were drawn and resumed, and the oldest that has a place, of whichever record.
+#[tactic(auto, unfolding(hub::specs::Basics::all_of))]
+pub fn tickets_fit(figures: Figures, oldest: u32) -> bool
+    ensures { result ≡ tickets_fit figures oldest }
+{
+    let window = oldest..=oldest.saturating_add(Hub::PLACES);
+    figures.begun <= Hub::MAX_BEGUN
+        && figures.issued <= Hub::MAX_BEGUN
+        && figures.resumed <= Hub::MAX_BEGUN
+        && window.contains(&figures.issued)
+        && window.contains(&figures.resumed)
 }
 
 // K and n, the figures and the oldest ticket that has a place, clause by clause.
+#[tactic(auto, unfolding(hub::specs::Fits::figures_fit, hub::specs::Basics::all_of))]
 fn figures_fit(opening: Opening, figures: Figures, oldest: u32) -> bool
     ensures { result ≡ figures_fit opening figures oldest }
 {
-    if !up_to_32(opening.permits) {
-        return false;
-    }
-    if !up_to_32(opening.parties) {
-        return false;
-    }
-    if !counter_fits(figures) {
-        return false;
-    }
-    if Hub::MAX_BEGUN < figures.begun {
-        return false;
-    }
-    if Hub::MAX_BEGUN < figures.issued {
-        return false;
-    }
-    if Hub::MAX_BEGUN < figures.resumed {
-        return false;
-    }
-    if figures.issued < oldest {
-        return false;
-    }
-    if figures.resumed < oldest {
-        return false;
-    }
-    if oldest + Hub::PLACES < figures.issued {
-        return false;
-    }
-    figures.resumed <= oldest + Hub::PLACES
+    up_to_32(opening.permits)
+        && up_to_32(opening.parties)
+        && counter_fits(figures)
+        && tickets_fit(figures, oldest)
 }
 
 // Has t a place, and is it below end?
+#[tactic(auto, unfolding(hub::specs::Fits::in_window))]
 pub fn in_window(oldest: u32, end: u32, t: u32) -> bool
     requires { oldest ≤ 1000000 }
     ensures { result ≡ in_window oldest end t }
 {
-    if t < oldest {
-        return false;
-    }
-    if oldest + Hub::PLACES <= t {
-        return false;
-    }
-    t < end
+    (oldest..oldest + Hub::PLACES).contains(&t) && t < end
 }
 
 // Is the ticket of this phase one that fits? Drawing a ticket needs room.
@@ -93,22 +76,18 @@ fn ticket_fits(phase: Phase, figures: Figures, oldest: u32) -> bool
 }
 
 // Does the step table list the place that a party of this phase is about to act on?
+#[tactic(auto, unfolding(hub::specs::Fits::place_listed, hub::specs::Basics::all_of, hub::specs::Phases::is_one_of, hub::specs::Phases::is_place_of))]
 fn listed(phase: Phase, place: Place) -> bool
     ensures { result ≡ place_listed phase place }
 {
     match phase {
-        Phase::Ticketed(_) | Phase::TicketedMarked(_) => match place {
-            Place::Empty | Place::Permit => true,
-            _ => false,
-        },
-        Phase::Cancelling(_) | Phase::Refusing(_) => match place {
-            Place::Waiting(_) | Place::Permit => true,
-            _ => false,
-        },
-        Phase::ResumingAt(_) => match place {
-            Place::Permit | Place::Done => false,
-            _ => true,
-        },
+        Phase::Ticketed(_) | Phase::TicketedMarked(_) => {
+            matches!(place, Place::Empty | Place::Permit)
+        }
+        Phase::Cancelling(_) | Phase::Refusing(_) => {
+            matches!(place, Place::Waiting(_) | Place::Permit)
+        }
+        Phase::ResumingAt(_) => !matches!(place, Place::Permit | Place::Done),
         _ => true,
     }
 }
@@ -117,10 +96,7 @@ fn listed(phase: Phase, place: Place) -> bool
 fn phase_fits(phase: Phase, named: bool) -> bool
     ensures { result ≡ implies (of_radios phase) named }
 {
-    if of_radios(phase) {
-        return named;
-    }
-    true
+    !of_radios(phase) || named
 }
 
 // The clauses of one of the n parties, over its phase and what lies at the place of its ticket.
@@ -129,13 +105,7 @@ pub fn party_fits(phase: Phase, place: Place, figures: Figures, oldest: u32, nam
     ensures { result ≡ ticket_fits figures oldest phase && place_listed phase place
         && implies (of_radios phase) named }
 {
-    if !ticket_fits(phase, figures, oldest) {
-        return false;
-    }
-    if !listed(phase, place) {
-        return false;
-    }
-    phase_fits(phase, named)
+    ticket_fits(phase, figures, oldest) && listed(phase, place) && phase_fits(phase, named)
 }
 
 // Is the phase one of a party that stands at ticket t?
@@ -143,12 +113,9 @@ pub fn party_fits(phase: Phase, place: Place, figures: Figures, oldest: u32, nam
 fn stands_at(phase: Phase, t: u32) -> bool
     ensures { result ≡ stands_at phase t }
 {
-    // mostly it waits
-    if let Phase::Waiting(u) = phase {
-        return u == t;
-    }
     match phase {
-        Phase::Aborting(u) | Phase::Cancelling(u) | Phase::Refusing(u) => u == t,
+        Phase::Waiting(u) | Phase::Aborting(u) | Phase::Cancelling(u) | Phase::Refusing(u) => u
+            == t,
         _ => false,
     }
 }
@@ -173,8 +140,5 @@ pub fn waiter_fits(phase: Phase, oldest: u32, i: usize) -> bool
 pub fn figures_and_kinds_fit(opening: Opening, figures: Figures, oldest: u32) -> bool
     ensures { result ≡ figures_fit opening figures oldest && kinds_fit opening }
 {
-    if !figures_fit(opening, figures, oldest) {
-        return false;
-    }
-    kinds_fit(opening)
+    figures_fit(opening, figures, oldest) && kinds_fit(opening)
 }
