@@ -2,17 +2,20 @@
 
 #![tactic(auto)]
 
-ghost use Rattle.std.specs.Prelude.{◌≡◌, ◌&&◌, ◌≤◌, ◌<◌};
-ghost use Rattle.hub.specs.Basics.{implies};
+ghost use Rattle.std.specs.Prelude.{◌≡◌, ◌+◌, true, false, ◌&&◌, ◌≤◌, ◌<◌};
+ghost use Rattle.std.specs.List.{list_all};
+ghost use Rattle.hub.specs.Basics.{all_from, implies};
 ghost use Rattle.hub.specs.Fits.{counter_fits, figures_fit, in_window, ticket_fits, place_listed};
 ghost use Rattle.hub.specs.Fits.{kinds_fit, stands_at};
-ghost use Rattle.hub.specs.Phases.{of_radios};
-ghost use Rattle.clauses.specs.Window.{ticket_at, tickets_fit};
+ghost use Rattle.hub.specs.Phases.{by_waiter, is_free, of_radios};
+ghost use Rattle.hub.specs.Ring.{read_place};
+ghost use Rattle.clauses.specs.Window.{place_fits, seat_fits, ticket_at, tickets_fit};
 
 use hub::opening::Opening;
-use hub::record::{Figures, Hub, Phase, Place};
+use hub::record::{Figures, Hub, Phase, Place, PlaceSlot};
 use openhub::{kinds_fit, up_to_32};
 use phases::of_radios;
+use phases::slot::Slot;
 
 // −32 to 32.
 #[tactic(auto, unfolding(hub::specs::Fits::counter_fits))]
@@ -114,8 +117,9 @@ fn stands_at(phase: Phase, t: u32) -> bool
     ensures { result ≡ stands_at phase t }
 {
     match phase {
-        Phase::Waiting(u) | Phase::Aborting(u) | Phase::Cancelling(u) | Phase::Refusing(u) => u
-            == t,
+        Phase::Waiting(u) | Phase::Aborting(u) | Phase::Cancelling(u) | Phase::Refusing(u) => {
+            u == t
+        }
         _ => false,
     }
 }
@@ -128,12 +132,63 @@ fn ticket_at(oldest: u32, i: usize) -> u32
     oldest + (i as u32 + Hub::PLACES - oldest % Hub::PLACES) % Hub::PLACES
 }
 
-// The clause of a place where someone waits, over that party's phase and the place's index.
-pub fn waiter_fits(phase: Phase, oldest: u32, i: usize) -> bool
-    requires { (oldest ≤ 1000000) × (i < 256) }
-    ensures { result ≡ stands_at phase (ticket_at oldest i) }
+// The clause of the place of ticket t: whoever waits there stands there.
+fn place_fits<S: Slot>(seat: PlaceSlot, slots: &[S], t: u32) -> bool
+    ensures { result ≡ place_fits S.phase_of S.nobody slots.now t seat.place }
 {
-    stands_at(phase, ticket_at(oldest, i))
+    match seat.place {
+        Place::Waiting(q) => {
+            let waiter = slots.get(q as usize).copied().unwrap_or(S::free());
+            stands_at(waiter.phase(), t)
+        }
+        _ => true,
+    }
+}
+
+fn nobody_waits(seats: &[PlaceSlot]) -> bool
+    ensures { result ≡ list_all (λ s. by_waiter true (λ q. false) s.place) seats.now }
+{
+    seats
+        .iter()
+        .all(|seat| !matches!(seat.place, Place::Waiting(_)))
+}
+
+// The clauses of eight places in a row. The compiler asks all eight at once whether anyone waits there, a place being
+// two bytes.
+fn row_fits<S: Slot>(places: &[PlaceSlot; 256], slots: &[S], oldest: u32, first: usize) -> bool
+    requires { (oldest ≤ 1000000) × (first + 8 ≤ 256) }
+    ensures { result ≡ all_from (seat_fits S.phase_of S.nobody slots.now places.now oldest) first 8 }
+{
+    if nobody_waits(&places[first..first + 8]) {
+        return true;
+    }
+    for i in first..first + 8 {
+        if !place_fits(places[i], slots, ticket_at(oldest, i)) {
+            return false;
+        }
+    }
+    true
+}
+
+// The clauses of all places, whatever record has these slots.
+pub fn waiters_fit<S: Slot>(places: &[PlaceSlot; 256], slots: &[S], oldest: u32) -> bool
+    requires { oldest ≤ 1000000 }
+    ensures { result ≡ all_from (λ t. place_fits S.phase_of S.nobody slots.now t (read_place places.now t)) oldest 256 }
+{
+    for row in 0..32 {
+        if !row_fits(places, slots, oldest, 8 * row) {
+            return false;
+        }
+    }
+    true
+}
+
+// Are these parties free, as those from n up are?
+#[tactic(auto, unfolding(hub::specs::Phases::is_one_of))]
+pub fn all_free<S: Slot>(slots: &[S]) -> bool
+    ensures { result ≡ list_all (λ s. is_free (S.phase_of s)) slots.now }
+{
+    slots.iter().all(|slot| matches!(slot.phase(), Phase::Free))
 }
 
 // What is asked of the record apart from its parties, places and radios.

@@ -1,3 +1,2 @@
--- Laws of the definitions, by which the function's proof knows them.
+-- Laws of the definitions, by which the check's proof knows them.
 pub mod Clauses
-pub mod Rounds

@@ -1,3 +1,2 @@
--- Laws of the definitions, by which the functions' proofs know them.
+-- Laws of the definitions, by which the check's proof knows them.
 pub mod Clauses
-pub mod Rounds

@@ -26,29 +26,21 @@ pub fn reclaim(mut ring: PlaceRing, turns: u32) -> PlaceRing
     ensures { ring_in result ≡ reclaimed_by turns (ring_in ring) }
 {
     let end = ring.oldest + Hub::PLACES;
-    let mut n: u32 = 0;
-    while n < turns {
-        let t = ring.resumed;
-        let i = (t % Hub::PLACES) as usize;
-        let seat = ring.places[i];
-        if !can_skip(seat, t, end) {
+    for _ in 0..turns {
+        let i = (ring.resumed % Hub::PLACES) as usize;
+        if !can_skip(ring.places[i], ring.resumed, end) {
             break;
         }
-        ring.places[i] = with_place(Place::Done, seat);
-        ring.resumed = t + 1;
-        n += 1;
+        ring.places[i] = with_place(Place::Done, ring.places[i]);
+        ring.resumed += 1;
     }
-    let mut m: u32 = 0;
-    while m < turns {
-        let t = ring.oldest;
-        let i = (t % Hub::PLACES) as usize;
-        let seat = ring.places[i];
-        if !can_retire(seat) {
+    for _ in 0..turns {
+        let i = (ring.oldest % Hub::PLACES) as usize;
+        if !can_retire(ring.places[i]) {
             break;
         }
         ring.places[i] = empty_seat();
-        ring.oldest = t + 1;
-        m += 1;
+        ring.oldest += 1;
     }
     ring
 }

@@ -1,29 +1,27 @@
 -- What the definition says of a party, of a place and of the whole, from what the code has read.
 use Prim.Native.Nat.{ℕ, ◌≤◌, ◌<◌}
 use mathlib.Core.Path.{◌≡◌, refl, sym, ap, ◌∙◌}
-use mathlib.Core.Bool.{Bool, true, false, and-false, and-true, or-true, ◌&&◌, ◌||◌}
-use mathlib.Core.List.{List, [], ◌∷◌}
+use mathlib.Core.Bool.{Bool, true, false, and-true, ◌&&◌, ◌||◌}
+use mathlib.Core.List.{List}
 use lib.Dec.{leb, ltb}
-use lib.ListN.{length, get_or, get_or-eq_default}
+use lib.ListN.{length, take, drop}
 use borrow.Author.Tests.{leb-true, lt-ltb, le-ltb}
 use native.Mathlib.Omega.{arith}
-use types.Run.{OneOf}
-use denote.Enum.Declared.{tag_of}
 use Rattle.hub.specs.declared.record.Phase.{Phase}
 use Rattle.hub.specs.declared.record.Place.{Place}
 use Rattle.hub.specs.Basics.{all_from, all_of, implies}
 use Rattle.hub.specs.Fits.{place_listed, stands_at}
 use Rattle.hub.specs.Fits as hub
-use Rattle.hub.specs.Phases.{by_waiter, is_free, is_one_of, of_radios, ticket_of}
-use Rattle.hub.specs.Record.{PARTIES, MAX_BEGUN, empty_seat}
+use Rattle.hub.specs.Phases.{is_free, is_one_of, of_radios}
+use Rattle.hub.specs.Record.{PARTIES, MAX_BEGUN}
 use Rattle.hub.specs.Ring.{PLACES, read_place, read_seat}
-use Rattle.hub.specs.contracts.record.Phase as phase
-use Rattle.hub.specs.contracts.record.Place as place
 use Rattle.hub.proofs.Laws.Bools.{clause, second}
-use Rattle.hub.proofs.Laws.Phases.{phase-arm, place-arm, all_but}
-use Rattle.clauses.specs.Window.{ticket_at}
+use Rattle.hub.proofs.Laws.Phases.{phases-alike}
+use Rattle.clauses.specs.Window.{place_fits as window_fits}
+use Rattle.std.specs.List.{list_all}
+use Rattle.hub.specs.declared.record.PlaceSlot.{PlaceSlot}
 use Rattle.clauses.proofs.Laws.Listed.{listed-any}
-use Rattle.clauses.proofs.Laws.Ranges.{index_of}
+use Rattle.clauses.proofs.Laws.Ranges.{two-parts}
 use Rattle.latch.specs.declared.record.Latch.{Latch}
 use Rattle.latch.specs.declared.record.LatchFigures.{LatchFigures}
 use Rattle.latch.specs.declared.record.LatchSlot.{LatchSlot}
@@ -31,7 +29,7 @@ use Rattle.latch.specs.Fits.{figures_clauses, figures_fit, fits, party_fits, pla
 use Rattle.latch.specs.Fits.{ticket_fits}
 use Rattle.latch.specs.Look.{seen_by}
 use Rattle.latch.specs.Record.{free_slot, read_slot}
-use Rattle.latchfit.specs.Tickets.{tickets_of}
+use Rattle.latchfit.specs.Tickets.{member_fits, tickets_of}
 
 -- Figures that fit.
 module _ (n : ℕ) (f : LatchFigures) (o : ℕ) (e : figures_fit n f o ≡ true) where
@@ -66,73 +64,45 @@ as-at-hub f o x a = any (of_radios x)
 pub slot-passes : (a b c : Bool) {r : Bool} → a ≡ true → r ≡ b && c → r ≡ a && b && c
 slot-passes a b c e f = rw e f
 
--- A party's clauses, with the place at its ticket, whether or not it has one.
-abbrev clauses : Latch → ℕ → LatchSlot → Bool
-clauses h p s =
-    (ltb p h.parties || is_free s.phase) && slot_fits s
-    && ticket_fits h.figures h.oldest s.phase
-    && place_listed s.phase (read_place h.places (ticket_of s.phase))
+-- A free party fits, whatever else is there.
+free-fits : (places : List PlaceSlot) (f : LatchFigures) (o : ℕ) (s : LatchSlot)
+    → is_free s.phase && member_fits places f o s ≡ is_free s.phase
+unfolding slot_fits ticket_fits place_listed all_of is_one_of
+free-fits places f o s =
+    phases-alike
+    (λ x. is_free x && member_fits places f o (record { phase = x; raising = s.raising; left = s.left })) is_free (λ t. refl) s.phase
+
+regroup : (a b c d : Bool) → a && (b && c && d) ≡ a && b && c && d
+regroup true b c d = refl
+regroup false b c d = refl
+
+abbrev member : Latch → LatchSlot → Bool
+member h = member_fits h.places h.figures h.oldest
 
 module _ (h : Latch) (p : ℕ) where
-  by-clauses : clauses h p (read_slot h.slots p) ≡ party_fits h p
+  by-clauses : (ltb p h.parties || is_free (read_slot h.slots p).phase) && member h (read_slot h.slots p) ≡ party_fits h p
   unfolding party_fits seen_by
-  by-clauses = rw (listed-any (read_seat h.places) (read_slot h.slots p).phase)
+  by-clauses =
+      ap (λ (b : Bool). (ltb p h.parties || is_free (read_slot h.slots p).phase)
+      && (slot_fits (read_slot h.slots p) && ticket_fits h.figures h.oldest (read_slot h.slots p).phase && b))
+      (listed-any (read_seat h.places) (read_slot h.slots p).phase)
+      ∙ regroup (ltb p h.parties || is_free (read_slot h.slots p).phase) _ _ _
 
-  -- One of the n parties.
-  pub party-test : {r : Bool} (t : ℕ) → p < h.parties
-      → t ≡ ticket_of (read_slot h.slots p).phase
-      → r
-      ≡ slot_fits (read_slot h.slots p)
-      && ticket_fits h.figures h.oldest (read_slot h.slots p).phase
-      && place_listed (read_slot h.slots p).phase (read_place h.places t)
-      → r ≡ party_fits h p
-  party-test t l e i = i ∙ rw (e, sym by-clauses, lt-ltb p h.parties l)
+  one-of-them : p < h.parties → party_fits h p ≡ member h (read_slot h.slots p)
+  one-of-them l = sym by-clauses ∙ rw (lt-ltb p h.parties l)
 
-  -- A free party fits, whatever else is there.
-  pub free-fits : (read_slot h.slots p).phase ≡ Phase.Free → party_fits h p ≡ true
-  unfolding slot_fits ticket_fits place_listed all_of is_one_of
-  free-fits e = sym by-clauses ∙ rw (e, or-true)
+  -- From n up only a free one fits, and that whatever else is there.
+  past-them : h.parties ≤ p → party_fits h p ≡ is_free (read_slot h.slots p).phase
+  past-them l = sym by-clauses ∙ rw (le-ltb p h.parties l) (free-fits h.places h.figures h.oldest (read_slot h.slots p))
 
-  -- From n up only a free one does.
-  pub past-parties : h.parties ≤ p
-      → OneOf (all_but (0 ∷ [])) (tag_of phase.the_type (read_slot h.slots p).phase)
-      → party_fits h p ≡ false
-  unfolding is_one_of
-  past-parties l o =
-      rw (
-        sym by-clauses,
-        le-ltb p h.parties l,
-        sym (phase-arm (all_but (0 ∷ [])) is_free (read_slot h.slots p).phase refl o),
-      )
-
--- What lies at index i, and the clause of its place, whose ticket is the window's at i.
-abbrev place_at : Latch → ℕ → Place
-place_at h i = (get_or h.places i empty_seat).place
-
-abbrev test : Latch → ℕ → Place → Bool
-test h i = by_waiter true (λ q. stands_at (read_slot h.slots q).phase (ticket_at h.oldest i))
-
-module _ (h : Latch) (i : ℕ) (b : i < PLACES) where
-  at-index : test h i (place_at h i) ≡ place_fits h (ticket_at h.oldest i)
-  unfolding place_fits read_seat
-  at-index = ap (λ (n : ℕ). test h i (place_at h n)) (sym (index_of h.oldest i b))
-
-  -- The test of the party that is waited for there.
-  pub waiter-test : {r : Bool} (q : ℕ) → place_at h i ≡ Place.Waiting q
-      → r ≡ stands_at (read_slot h.slots q).phase (ticket_at h.oldest i)
-      → r ≡ place_fits h (ticket_at h.oldest i)
-  waiter-test q e f = f ∙ ap (test h i) (sym e) ∙ at-index
-
-  pub not-waited : OneOf (0 ∷ 2 ∷ 3 ∷ 4 ∷ 5 ∷ []) (tag_of place.the_type (place_at h i))
-      → place_fits h (ticket_at h.oldest i) ≡ true
-  not-waited o =
-      sym (place-arm (0 ∷ 2 ∷ 3 ∷ 4 ∷ 5 ∷ []) (test h i) (place_at h i) refl o ∙ at-index)
-
--- A party that the record has no slot for stands nowhere.
-pub stands-nowhere : (l : List LatchSlot) (q t : ℕ) → length l ≡ PARTIES → PARTIES ≤ q
-    → stands_at (read_slot l q).phase t ≡ false
-unfolding read_slot is_one_of
-stands-nowhere l q t s i = rw (get_or-eq_default l free_slot {n = q} (omega arith))
+-- All parties: the first n by their clauses, and the others are free.
+all-parties : (h : Latch) → length h.slots ≡ PARTIES → h.parties ≤ PARTIES
+    → all_from (party_fits h) 0 PARTIES
+    ≡ list_all (member h) (take h.parties h.slots) && list_all (λ s. is_free s.phase) (drop h.parties h.slots)
+unfolding read_slot
+all-parties h size few =
+    ap (all_from (party_fits h) 0) (sym size)
+    ∙ two-parts (party_fits h) (member h) (λ s. is_free s.phase) free_slot h.slots h.parties (omega arith) (one-of-them h) (past-them h)
 
 -- The whole: the figures, the parties, the places.
 module _ (h : Latch) where
@@ -140,16 +110,9 @@ module _ (h : Latch) where
   unfolding fits
   figures-fail e = rw e
 
-  pub parties-fail : false ≡ all_from (party_fits h) 0 PARTIES → false ≡ fits h
-  unfolding fits
-  parties-fail e = rw (sym e, and-false)
-
-  pub places-fail : false ≡ all_from (place_fits h) h.oldest PLACES → false ≡ fits h
-  unfolding fits
-  places-fail e = rw (sym e, and-false)
-
-  pub all_fit : figures_fit h.parties h.figures h.oldest ≡ true
-      → true ≡ all_from (party_fits h) 0 PARTIES → true ≡ all_from (place_fits h) h.oldest PLACES
-      → true ≡ fits h
-  unfolding fits
-  all_fit e p q = rw (e, sym p, sym q)
+  pub by-tests : length h.slots ≡ PARTIES → figures_fit h.parties h.figures h.oldest ≡ true
+      → list_all (member h) (take h.parties h.slots) && list_all (λ s. is_free s.phase) (drop h.parties h.slots)
+      && all_from (λ t. window_fits (λ (s : LatchSlot). s.phase) free_slot h.slots t (read_place h.places t)) h.oldest PLACES
+      ≡ fits h
+  unfolding fits place_fits read_slot
+  by-tests size e = rw (e, all-parties h size (parties-few h.parties h.figures h.oldest e))

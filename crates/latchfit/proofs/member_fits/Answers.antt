@@ -1,22 +1,15 @@
--- `member_fits` meets its contract: its tests are the clauses, in the same order.
-use mathlib.Core.Path.{ap, ◌∙◌}
-use mathlib.Core.Bool.{true, ◌&&◌}
-use Rattle.hub.specs.declared.record.Figures.{Figures}
-use Rattle.hub.specs.Basics.{implies}
-use Rattle.hub.specs.Fits.{place_listed}
-use Rattle.hub.specs.Fits as hub
-use Rattle.hub.specs.Phases.{of_radios}
-use Rattle.clauses.proofs.Laws.Bools.{passed}
+-- `member_fits` meets its contract: the hub's check of a ticket and of its place is the latch's.
+use mathlib.Core.Path.{sym, ◌∙◌}
+use Rattle.hub.specs.Phases.{ticket_of}
+use Rattle.hub.specs.Ring.{read_place, read_seat}
 use Rattle.latchfit.proofs.Laws.Clauses.{as-at-hub, slot-passes}
 use Rattle.latchfit.proofs.member_fits.Goals as goal
 
-pub returns : goal.returns
-returns c =
+pub returns-then-slot_fits : goal.returns-then-slot_fits
+unfolding read_seat
+returns-then-slot_fits c =
     let a = c.args in
     let x = a.slot.phase in
-    slot-passes _ _ _ (passed c.slot_fits.ensures c.if-not-slot_fits.false-raw)
-    (c.party_fits.ensures
-    ∙ ap (λ (f : Figures).
-    hub.ticket_fits f a.oldest x && place_listed x a.place && implies (of_radios x) true)
-    c.tickets_of.ensures
-    ∙ as-at-hub a.figures a.oldest x a.place)
+    let p = read_place a.places.now (ticket_of x) in
+    slot-passes _ _ _ (sym c.slot_fits.ensures ∙ c.if-slot_fits.true)
+    (rw (c.ticket.ensures, c.tickets_of.ensures) at c.party_fits.ensures ∙ as-at-hub a.figures a.oldest x p)
