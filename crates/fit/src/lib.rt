@@ -28,7 +28,7 @@ fn member_fits(
         Phase::Free => true,
         Phase::Waiting(t) => in_window(oldest, figures.issued, t),
         _ => {
-            let seat = places[(ticket(phase) % Hub::PLACES) as usize];
+            let seat = places[(ticket(phase).unwrap_or(0) % Hub::PLACES) as usize];
             party_fits(phase, seat.place, figures, oldest, named)
         }
     }

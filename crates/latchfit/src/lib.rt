@@ -60,7 +60,7 @@ fn member_fits(
     requires { oldest ≤ 1000000 }
     ensures { result ≡ member_fits places.now figures oldest slot }
 {
-    let seat = places[(ticket(slot.phase) % Hub::PLACES) as usize];
+    let seat = places[(ticket(slot.phase).unwrap_or(0) % Hub::PLACES) as usize];
     slot_fits(slot) && party_fits(slot.phase, seat.place, tickets_of(figures), oldest, true)
 }
 

@@ -11,5 +11,6 @@ returns-then-slot_fits c =
     let a = c.args in
     let x = a.slot.phase in
     let p = read_place a.places.now (ticket_of x) in
+    let told = c.unwrap_or.ensures ∙ c.ticket.ensures.or_0 in
     slot-passes _ _ _ (sym c.slot_fits.ensures ∙ c.if-slot_fits.true)
-    (rw (c.ticket.ensures, c.tickets_of.ensures) at c.party_fits.ensures ∙ as-at-hub a.figures a.oldest x p)
+    (rw (told, c.tickets_of.ensures) at c.party_fits.ensures ∙ as-at-hub a.figures a.oldest x p)
