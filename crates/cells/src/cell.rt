@@ -3,17 +3,17 @@
 ghost use Rattle.std.specs.Prelude.{◌+◌, ◌≤◌, ◌≡◌, length};
 ghost use Rattle.cells.specs.Places.{place_bytes, place_named, places_at, seat_at, waiter_of};
 
-use crate::number::{number_at, put_cell, wide};
+use crate::number::{cell, number_at};
 use hub::record::{Place, PlaceSlot};
 use hub::slots::{empty_seat, with_place};
 use phases::place_rank;
+use std::array;
 
 // A byte that names nothing counts by its remainder, and so does a party that a place has no room for.
 fn place_named(name: u8, party: u32) -> Place
     ensures { result ≡ place_named name party }
 {
-    let state = name % 6;
-    match state {
+    match name % 6 {
         0 => Place::Empty,
         1 => Place::Waiting((party % 256) as u8),
         2 => Place::Permit,
@@ -27,7 +27,7 @@ fn waiter_of(place: Place) -> u32
     ensures { result ≡ waiter_of place }
 {
     match place {
-        Place::Waiting(party) => wide(party),
+        Place::Waiting(party) => u32::from(party),
         _ => 0,
     }
 }
@@ -45,28 +45,16 @@ pub fn places_at(bytes: &[u8], at: usize) -> [PlaceSlot; 256]
     requires { at + 1280 ≤ length bytes.now }
     ensures { result ≡ places_at bytes.now at }
 {
-    let empty = empty_seat();
-    let mut places = [empty; 256];
-    let mut i: usize = 0;
-    while i < 256 {
-        places[i] = seat_at(bytes, at + 5 * i);
-        i += 1;
-    }
-    places
+    array::from_fn(|i| seat_at(bytes, at + 5 * i))
 }
 
-fn put_places(out: &mut [u8], places: [PlaceSlot; 256])
-    requires { length out.old ≡ 1280 }
-    ensures { out.new ≡ place_bytes places }
+fn put_places(out: &mut [u8], places: &[PlaceSlot])
+    requires { (length out.old ≡ 1280) × (length places.now ≡ 256) }
+    ensures { out.new ≡ place_bytes places.now }
 {
-    let mut i: usize = 0;
-    while i < 256 {
-        let slot = places[i];
-        let place = slot.place;
-        let at = 5 * i;
-        let end = at + 5;
-        put_cell(&mut out[at..end], place_rank(place), waiter_of(place));
-        i += 1;
+    for (i, seat) in places.iter().enumerate() {
+        let bytes = cell(place_rank(seat.place), waiter_of(seat.place));
+        out[5 * i..5 * i + 5].copy_from_slice(&bytes);
     }
 }
 
@@ -74,6 +62,6 @@ pub fn place_bytes(places: [PlaceSlot; 256]) -> [u8; 1280]
     ensures { result ≡ place_bytes places }
 {
     let mut out = [0u8; 1280];
-    put_places(&mut out, places);
+    put_places(&mut out, &places);
     out
 }

@@ -70,8 +70,8 @@ pub fn marked(phase: Phase, mark: u8) -> Phase
 pub fn mark_of(phase: Phase) -> u8
     ensures { result ≡ mark_of phase }
 {
-    match phase {
-        Phase::AcquiringMarked | Phase::SuspendingMarked | Phase::TicketedMarked(_) => 1,
-        _ => 0,
-    }
+    u8::from(matches!(
+        phase,
+        Phase::AcquiringMarked | Phase::SuspendingMarked | Phase::TicketedMarked(_)
+    ))
 }

@@ -11,7 +11,7 @@ ghost use Rattle.latchlayout.specs.Read.{record_in};
 ghost use Rattle.latchlayout.specs.Written.{record_bytes};
 
 use cells::cell::{place_bytes, places_at};
-use cells::number::{number_at, put_bytes_at, put_few};
+use cells::number::{number_at, put_bytes_at};
 use figures::{figure_bytes, figures_of};
 use latch::record::Latch;
 use parties::{lefts_of, marks_of, phase_bytes, slots_of};
@@ -20,16 +20,12 @@ pub fn record_of(bytes: &[u8]) -> Latch
     requires { length bytes.now ≡ 1523 }
     ensures { result ≡ record_in bytes.now }
 {
-    let figures = figures_of(bytes);
-    let oldest = number_at(bytes, 15);
-    let places = places_at(bytes, 19);
-    let slots = slots_of(bytes);
     Latch {
         parties: bytes[0],
-        figures,
-        oldest,
-        places,
-        slots,
+        figures: figures_of(bytes),
+        oldest: number_at(bytes, 15),
+        places: places_at(bytes, 19),
+        slots: slots_of(bytes),
     }
 }
 
@@ -37,15 +33,10 @@ pub fn record_bytes(latch: Latch) -> [u8; 1523]
     ensures { result ≡ record_bytes latch }
 {
     let mut out = [0u8; 1523];
-    let figures = figure_bytes(latch);
-    put_bytes_at(&mut out, 0, &figures);
-    let places = latch.places;
-    let seats = place_bytes(places);
-    put_bytes_at(&mut out, 19, &seats);
-    let slots = latch.slots;
-    let phases = phase_bytes(slots);
-    put_bytes_at(&mut out, 1299, &phases);
-    put_few(&mut out, 1459, lefts_of(slots));
-    put_few(&mut out, 1491, marks_of(slots));
+    put_bytes_at(&mut out, 0, &figure_bytes(latch));
+    put_bytes_at(&mut out, 19, &place_bytes(latch.places));
+    put_bytes_at(&mut out, 1299, &phase_bytes(latch.slots));
+    put_bytes_at(&mut out, 1459, &lefts_of(latch.slots));
+    put_bytes_at(&mut out, 1491, &marks_of(latch.slots));
     out
 }

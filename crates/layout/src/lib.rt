@@ -11,7 +11,7 @@ ghost use Rattle.layout.specs.Read.{record_in};
 ghost use Rattle.layout.specs.Written.{record_bytes};
 
 use cells::cell::{place_bytes, places_at};
-use cells::number::{number_at, put_bytes_at, put_few};
+use cells::number::{number_at, put_bytes_at};
 use figures::{figure_bytes, figures_of};
 use hub::record::{Control, Hub};
 use parties::{marks_of, phase_bytes, slots_of};
@@ -21,41 +21,28 @@ pub fn record_of(bytes: &[u8]) -> Hub
     requires { length bytes.now ≡ 1881 }
     ensures { result ≡ record_in bytes.now }
 {
-    let opening = opening_of(bytes);
-    let figures = figures_of(bytes);
-    let oldest = number_at(bytes, 18);
-    let places = places_at(bytes, 22);
-    let slots = slots_of(bytes);
-    let pool = pool_of(bytes);
-    let control = Control {
-        opening,
-        figures,
-        oldest,
-        pool,
-    };
     Hub {
-        places,
-        slots,
-        control,
+        places: places_at(bytes, 22),
+        slots: slots_of(bytes),
+        control: Control {
+            opening: opening_of(bytes),
+            figures: figures_of(bytes),
+            oldest: number_at(bytes, 18),
+            pool: pool_of(bytes),
+        },
     }
 }
 
 pub fn record_bytes(hub: Hub) -> [u8; 1881]
     ensures { result ≡ record_bytes hub }
 {
+    let radios = radio_bytes(hub.control.opening, hub.slots, hub.places, hub.control.pool);
     let mut out = [0u8; 1881];
-    let figures = figure_bytes(hub);
-    put_bytes_at(&mut out, 0, &figures);
-    let places = hub.places;
-    let seats = place_bytes(places);
-    put_bytes_at(&mut out, 22, &seats);
-    let slots = hub.slots;
-    let phases = phase_bytes(slots);
-    put_bytes_at(&mut out, 1302, &phases);
-    let radios = radio_bytes(hub.control.opening, slots, places, hub.control.pool);
+    put_bytes_at(&mut out, 0, &figure_bytes(hub));
+    put_bytes_at(&mut out, 22, &place_bytes(hub.places));
+    put_bytes_at(&mut out, 1302, &phase_bytes(hub.slots));
     put_bytes_at(&mut out, 1462, &radios);
-    put_few(&mut out, 1817, marks_of(slots));
-    let kinds = hub.control.opening.kinds;
-    put_few(&mut out, 1849, kinds);
+    put_bytes_at(&mut out, 1817, &marks_of(hub.slots));
+    put_bytes_at(&mut out, 1849, &hub.control.opening.kinds);
     out
 }

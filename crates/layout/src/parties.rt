@@ -4,11 +4,12 @@ ghost use Rattle.std.specs.Prelude.{◌<◌, ◌≡◌, length};
 ghost use Rattle.layout.specs.Read.{slot_in, slots_in};
 ghost use Rattle.layout.specs.Written.{mark_bytes, phase_bytes};
 
-use cells::number::{number_at, put_cell};
+use cells::number::{cell, number_at};
 use cells::phase::{mark_of, marked, phase_name, phase_named};
 use hub::record::PartySlot;
 use hub::slots::{free_slot, with_phase};
 use phases::ticket;
+use std::array;
 
 fn slot_of(bytes: &[u8], p: usize) -> PartySlot
     requires { (length bytes.now ≡ 1881) × (p < 32) }
@@ -23,32 +24,16 @@ pub(crate) fn slots_of(bytes: &[u8]) -> [PartySlot; 32]
     requires { length bytes.now ≡ 1881 }
     ensures { result ≡ slots_in bytes.now }
 {
-    let free = free_slot();
-    let mut slots = [free; 32];
-    let mut p: usize = 0;
-    while p < 32 {
-        slots[p] = slot_of(bytes, p);
-        p += 1;
-    }
-    slots
+    array::from_fn(|p| slot_of(bytes, p))
 }
 
-fn put_phases(out: &mut [u8], slots: [PartySlot; 32])
-    requires { length out.old ≡ 160 }
-    ensures { out.new ≡ phase_bytes slots }
+fn put_phases(out: &mut [u8], slots: &[PartySlot])
+    requires { (length out.old ≡ 160) × (length slots.now ≡ 32) }
+    ensures { out.new ≡ phase_bytes slots.now }
 {
-    let mut p: usize = 0;
-    while p < 32 {
-        let slot = slots[p];
-        let phase = slot.phase;
-        let at = 5 * p;
-        let end = at + 5;
-        put_cell(
-            &mut out[at..end],
-            phase_name(phase),
-            ticket(phase).unwrap_or(0),
-        );
-        p += 1;
+    for (p, slot) in slots.iter().enumerate() {
+        let bytes = cell(phase_name(slot.phase), ticket(slot.phase).unwrap_or(0));
+        out[5 * p..5 * p + 5].copy_from_slice(&bytes);
     }
 }
 
@@ -56,20 +41,12 @@ pub(crate) fn phase_bytes(slots: [PartySlot; 32]) -> [u8; 160]
     ensures { result ≡ phase_bytes slots }
 {
     let mut out = [0u8; 160];
-    put_phases(&mut out, slots);
+    put_phases(&mut out, &slots);
     out
 }
 
 pub(crate) fn marks_of(slots: [PartySlot; 32]) -> [u8; 32]
     ensures { result ≡ mark_bytes slots }
 {
-    let mut marks = [0u8; 32];
-    let mut p: usize = 0;
-    while p < 32 {
-        let slot = slots[p];
-        let phase = slot.phase;
-        marks[p] = mark_of(phase);
-        p += 1;
-    }
-    marks
+    array::from_fn(|p| mark_of(slots[p].phase))
 }

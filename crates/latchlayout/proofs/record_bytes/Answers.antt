@@ -16,23 +16,21 @@ five a b c d e = simp append_assoc
 pub returns : goal.returns
 returns c =
     let h = c.args.latch in
-    let figure-size : length c.figure_bytes-figures.result ≡ 19 = search rules in
-    let place-size : length c.place_bytes-seats.result ≡ 1280 = search rules in
-    let phase-size : length c.phase_bytes-phases.result ≡ 160 = search rules in
+    let figure-size : length c.figure_bytes.result ≡ 19 = search rules in
+    let place-size : length c.place_bytes.result ≡ 1280 = search rules in
+    let phase-size : length c.phase_bytes.result ≡ 160 = search rules in
+    let left-size : length c.lefts_of.result ≡ 32 = search rules in
+    let mark-size : length c.marks_of.result ≡ 32 = search rules in
     let w1 =
     next 1523 (replicate 1523 0) 0 19 [] _ _ _ (nothing 1523 _ refl) (omega arith)
-    c.figure_bytes-figures.ensures figure-size c.put_bytes_at.ensures in
+    c.figure_bytes.ensures figure-size c.put_bytes_at.ensures in
     let w2 =
-    next 1523 _ 19 1280 _ _ _ _ w1 (omega arith) c.place_bytes-seats.ensures place-size
+    next 1523 _ 19 1280 _ _ _ _ w1 (omega arith) c.place_bytes.ensures place-size
     c.put_bytes_at-2.ensures in
     let w3 =
-    next 1523 _ 1299 160 _ _ _ _ w2 (omega arith) c.phase_bytes-phases.ensures phase-size
+    next 1523 _ 1299 160 _ _ _ _ w2 (omega arith) c.phase_bytes.ensures phase-size
     c.put_bytes_at-3.ensures in
-    let lefts = c.put_few.ensures in
-    let w4 =
-    next 1523 _ 1459 32 _ _ _ _ w3 (omega arith) c.lefts_of.ensures lefts.1 lefts.0 in
-    let marks = c.put_few-2.ensures in
-    let w5 =
-    next 1523 _ 1491 32 _ _ _ _ w4 (omega arith) c.marks_of.ensures marks.1 marks.0 in
+    let w4 = next 1523 _ 1459 32 _ _ _ _ w3 (omega arith) c.lefts_of.ensures left-size c.put_bytes_at-4.ensures in
+    let w5 = next 1523 _ 1491 32 _ _ _ _ w4 (omega arith) c.marks_of.ensures mark-size c.put_bytes_at-5.ensures in
     all-written 1523 _ 1523 _ w5 (omega arith)
     ∙ five (figure_bytes h) (place_bytes h.places) (phase_bytes h.slots) (left_bytes h.slots) (mark_bytes h.slots)

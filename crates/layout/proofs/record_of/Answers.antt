@@ -5,7 +5,7 @@ use Rattle.layout.proofs.record_of.Goals as goal
 pub returns : goal.returns
 returns c =
     λ j.
-    of_fields (c.places_at-places.ensures j) (c.slots_of-slots.ensures j)
-    (control_of (c.opening_of-opening.ensures j)
-    (c.figures_of-figures.ensures j) (c.number_at-oldest.ensures j)
-    (c.pool_of-pool.ensures j))
+    of_fields (c.places_at.ensures j) (c.slots_of.ensures j)
+    (control_of (c.opening_of.ensures j)
+    (c.figures_of.ensures j) (c.number_at.ensures j)
+    (c.pool_of.ensures j))

@@ -1,12 +1,7 @@
--- `rotated` meets its contract: the ring so far is filled.
+-- `rotated` meets its contract: each place of the ring has its radio.
 use borrow.Author.Rules.{rules}
-use Prim.Native.Nat.{◌-◌}
-use mathlib.Core.Path.{refl}
-use Rattle.cells.proofs.Laws.Each.{start, onward}
+use Rattle.cells.proofs.Laws.Each.{from_fn-each}
 use Rattle.radiobytes.proofs.rotated.Goals as goal
 
-pub loop-j-init : goal.loop-j-init
-loop-j-init c = start _ _ _ (search rules)
-
-pub loop-j-preserved : goal.loop-j-preserved
-loop-j-preserved c = onward _ _ _ _ _ c.loop-j.invariant c.loop-j-test.true refl
+pub returns : goal.returns
+returns c = from_fn-each _ _ _ _ (λ i y q h m. search rules) _ c.from_fn.ensures.items

@@ -1,13 +1,7 @@
--- `places_at` meets its contract: the places so far are read.
+-- `places_at` meets its contract: each place is read from its cell.
 use borrow.Author.Rules.{rules}
-use Prim.Native.Nat.{◌-◌}
-use Rattle.cells.specs.Places.{seat_at}
-use Rattle.cells.proofs.Laws.Each.{start, onward}
+use Rattle.cells.proofs.Laws.Each.{from_fn-each}
 use Rattle.cells.proofs.cell.places_at.Goals as goal
 
-pub loop-i-init : goal.loop-i-init
-loop-i-init c = start _ _ _ (search rules)
-
-pub loop-i-preserved : goal.loop-i-preserved
-loop-i-preserved c =
-    onward _ _ _ _ _ c.loop-i.invariant c.loop-i-test.true c.seat_at.ensures
+pub returns : goal.returns
+returns c = from_fn-each _ _ _ _ (λ i y q h m. search rules) _ c.from_fn.ensures.items

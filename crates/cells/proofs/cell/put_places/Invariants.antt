@@ -1,5 +1,4 @@
 -- `put_places` meets its contract: the places so far are written.
-use Prim.Native.Nat.{◌-◌}
 use mathlib.Core.List.{◌∷◌}
 use Rattle.hub.specs.declared.record.PlaceSlot.{PlaceSlot}
 use Rattle.hub.specs.Phases.{place_rank}
@@ -10,6 +9,3 @@ use Rattle.cells.proofs.cell.put_places.Given as goal
 
 abbrev pub invariant-loop-i : goal.invariant-loop-i
 invariant-loop-i l = Celled (λ (s : PlaceSlot). place_rank s.place ∷ four_of (waiter_of s.place)) l.places 256 l.out l.i
-
-abbrev pub decreases-loop-i : goal.decreases-loop-i
-decreases-loop-i l = 256 - l.i

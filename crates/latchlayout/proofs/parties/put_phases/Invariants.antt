@@ -1,5 +1,4 @@
 -- `put_phases` meets its contract: the phases so far are written.
-use Prim.Native.Nat.{◌-◌}
 use mathlib.Core.List.{◌∷◌}
 use Rattle.hub.specs.Phases.{ticket_of}
 use Rattle.latch.specs.declared.record.LatchSlot.{LatchSlot}
@@ -10,6 +9,3 @@ use Rattle.latchlayout.proofs.parties.put_phases.Given as goal
 
 abbrev pub invariant-loop-p : goal.invariant-loop-p
 invariant-loop-p l = Celled (λ (s : LatchSlot). name_of s.phase s.raising ∷ four_of (ticket_of s.phase)) l.slots 32 l.out l.p
-
-abbrev pub decreases-loop-p : goal.decreases-loop-p
-decreases-loop-p l = 32 - l.p

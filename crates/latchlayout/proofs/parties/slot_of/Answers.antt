@@ -16,11 +16,11 @@ returns c =
     λ j.
     record {
       phase =
-          (c.marked-whole.ensures
+          (c.marked.ensures
           ∙ ap (λ (f : Phase). marked f (get_or b (1491 + p) 0))
           (c.phase_named-phase.ensures
           ∙ ap (phase_named (name_in b p)) c.number_at.ensures))
           j;
       raising = eqb (name_in b p) 14;
-      left = c.wide-left.ensures.0 j;
+      left = c.from.ensures j;
     }

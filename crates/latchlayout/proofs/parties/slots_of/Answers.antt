@@ -1,12 +1,7 @@
--- `slots_of` meets its contract: the parties so far are read.
+-- `slots_of` meets its contract: each party is read from its cell.
 use borrow.Author.Rules.{rules}
-use Prim.Native.Nat.{◌-◌}
-use Rattle.cells.proofs.Laws.Each.{start, onward}
+use Rattle.cells.proofs.Laws.Each.{from_fn-each}
 use Rattle.latchlayout.proofs.parties.slots_of.Goals as goal
 
-pub loop-p-init : goal.loop-p-init
-loop-p-init c = start _ _ _ (search rules)
-
-pub loop-p-preserved : goal.loop-p-preserved
-loop-p-preserved c =
-    onward _ _ _ _ _ c.loop-p.invariant c.loop-p-test.true c.slot_of.ensures
+pub returns : goal.returns
+returns c = from_fn-each _ _ _ _ (λ i y q h m. search rules) _ c.from_fn.ensures.items

@@ -1,13 +1,7 @@
--- `marks_of` meets its contract: the marks so far are told.
+-- `marks_of` meets its contract: the mark of each party.
 use borrow.Author.Rules.{rules}
-use Prim.Native.Nat.{◌-◌}
-use Rattle.cells.specs.Phases.{mark_of}
-use Rattle.cells.proofs.Laws.Each.{start, onward}
+use Rattle.cells.proofs.Laws.Each.{from_fn-each}
 use Rattle.layout.proofs.parties.marks_of.Goals as goal
 
-pub loop-p-init : goal.loop-p-init
-loop-p-init c = start _ _ _ (search rules)
-
-pub loop-p-preserved : goal.loop-p-preserved
-loop-p-preserved c =
-    onward _ _ _ _ _ c.loop-p.invariant c.loop-p-test.true c.mark_of.ensures
+pub returns : goal.returns
+returns c = from_fn-each _ _ _ _ (λ i y q h m. search rules) _ c.from_fn.ensures.items
