@@ -15,19 +15,23 @@ use Rattle.hub.specs.Answers.{printed}
 use Rattle.hub.specs.Calls.{called}
 use Rattle.hub.specs.Calm.{rests, step_by}
 use Rattle.hub.specs.Phases.{at_rest, is_one_of}
-use Rattle.hub.specs.Record.{PARTIES}
+use Rattle.hub.specs.Record.{PARTIES, read_slot}
 use Rattle.hub.specs.Schedule.{entries, run}
 use Rattle.hub.proofs.Laws.Bools.{if-false, if-true}
 use Rattle.hub.proofs.Laws.Slots.{past-slots}
 use Rattle.operations.specs.declared.Operated.{Operated}
 use Rattle.operations.specs.Operation.{MOST_STEPS, operated, steps_from, steps_of, turns_down, woken_in}
-use Rattle.torest.specs.declared.Walked.{Walked}
-use Rattle.torest.specs.Walked.{walked}
 
 -- A party past the slots is at rest.
-pub past : (h : Hub) (p : ℕ) → length h.slots ≡ PARTIES → PARTIES ≤ p → true ≡ rests h p
+pub past : (l : List PartySlot) (p : ℕ) → length l ≡ PARTIES → PARTIES ≤ p → true ≡ at_rest (read_slot l p).phase
 unfolding is_one_of
-past h p n i = sym (ap (λ (s : PartySlot). at_rest s.phase) (past-slots h.slots n p i))
+past l p n i = sym (ap (λ (s : PartySlot). at_rest s.phase) (past-slots l n p i))
+
+-- What steps come to: whom they woke, how many they are, the record that they leave.
+pub record Walked : Type 0 where
+  pub woken : ℕ  -- FF if nobody was
+  pub steps : ℕ
+  pub hub : Hub
 
 -- The first of two that is not FF.
 abbrev pub first_of : ℕ → ℕ → ℕ
@@ -45,10 +49,15 @@ first-first w v u = go (eqb w 0xFF) refl
     go true e = refl
     go false e = sym (if-false (eqb w 0xFF) u w e)
 
--- A list of calls, and a step in front of it.
-abbrev of : Hub → List Call → Walked
+-- A list of calls.
+abbrev pub of : Hub → List Call → Walked
 of h cs = record { woken = woken_in (entries h cs); steps = length cs; hub = run h cs }
 
+-- The steps of a party until it is at rest, at most n of them.
+unfoldable pub walked : ℕ → Hub → ℕ → Walked
+walked n h p = of h (steps_of n h p)
+
+-- A step in front of others.
 one_more : (h : Hub) (c : Call) (cs : List Call)
     → of h (c ∷ cs) ≡ joined (printed (called h c).answer).woken 1 (of (called h c).hub cs)
 unfolding run entries woken_in
@@ -85,24 +94,17 @@ nothing w s h =
     let f : s + 0 ≡ s = omega arith in
     λ i. record { woken = none w i; steps = f i; hub = h }
 
--- After s steps of party p from h₀ on, which woke w, the record is h.
-pub record Walking (h₀ : Hub) (p w s : ℕ) (h : Hub) : Type 0 where
+-- After s steps of party p from h₀ on, where v was woken before and w after them, the record is h.
+pub record Walking (h₀ : Hub) (p v w s : ℕ) (h : Hub) : Type 0 where
   pub few : s ≤ MOST_STEPS
-  pub same : joined w s (walked (MOST_STEPS - s) h p) ≡ walked MOST_STEPS h₀ p
+  pub same : joined w s (walked (MOST_STEPS - s) h p) ≡ joined v 0 (walked MOST_STEPS h₀ p)
 
-pub begin : (h : Hub) (p : ℕ) → Walking h p 0xFF 0 h
-begin h p =
-    record {
-      few = omega arith;
-      same =
-          let r = walked MOST_STEPS h p in
-          let e : 0 + r.steps ≡ r.steps = omega arith in
-          λ i. record { woken = r.woken; steps = e i; hub = r.hub };
-    }
+pub begin : (h : Hub) (p v : ℕ) → Walking h p v v 0 h
+begin h p v = record { few = omega arith; same = refl }
 
-module _ (h₀ : Hub) (p w s : ℕ) (h : Hub) (k : Walking h₀ p w s h) where
+module _ (h₀ : Hub) (p v w s : ℕ) (h : Hub) (k : Walking h₀ p v w s h) where
   pub go_on : (o : Outcome) (u : ℕ) → s < MOST_STEPS → rests h p ≡ false → o ≡ called h (step_by p)
-      → u ≡ first_of w (printed o.answer).woken → Walking h₀ p u (s + 1) o.hub
+      → u ≡ first_of w (printed o.answer).woken → Walking h₀ p v u (s + 1) o.hub
   go_on o u i e q f =
       record {
         few = omega arith;
@@ -127,11 +129,11 @@ module _ (h₀ : Hub) (p w s : ℕ) (h : Hub) (k : Walking h₀ p w s h) where
 
   -- At rest, or after as many steps as there may be.
   pub at_rest_lem : rests h p ≡ true
-      → record { woken = w; steps = s; hub = h } ≡ walked MOST_STEPS h₀ p
+      → record { woken = w; steps = s; hub = h } ≡ joined v 0 (walked MOST_STEPS h₀ p)
   at_rest_lem e =
       sym (nothing w s h) ∙ ap (joined w s) (sym (walked_none (MOST_STEPS - s) h p e)) ∙ k.same
 
-  pub all_made : MOST_STEPS ≤ s → record { woken = w; steps = s; hub = h } ≡ walked MOST_STEPS h₀ p
+  pub all_made : MOST_STEPS ≤ s → record { woken = w; steps = s; hub = h } ≡ joined v 0 (walked MOST_STEPS h₀ p)
   unfolding walked steps_of
   all_made i =
       let n : MOST_STEPS - s ≡ zero = omega arith in
@@ -155,22 +157,28 @@ operated-by h c o e = ap (λ (x : Outcome). by x (steps_from x c.party)) e
 
 module _ (h : Hub) (c : Call) (o : Outcome) (e : o ≡ called h c) where
   pub operated-refused : (w : ℕ) → turns_down o.answer ≡ true → w ≡ (printed o.answer).woken
-      → from o w (record { woken = 0xFF; steps = 0; hub = o.hub }) ≡ operated h c
+      → record { answer = o.answer; woken = w; steps = 0; hub = o.hub } ≡ operated h c
   unfolding run entries woken_in
   operated-refused w t g =
       ap (λ (v : ℕ). from o v (of o.hub [])) (g ∙ sym (none (printed o.answer).woken))
       ∙ ap (by o) (sym (if-true (turns_down o.answer) [] _ t))
       ∙ operated-by h c o e
 
-  pub operated-walked : (w : ℕ) (r : Walked) → turns_down o.answer ≡ false
-      → w ≡ first_of (printed o.answer).woken r.woken
-      → r ≡ walked MOST_STEPS o.hub c.party → from o w r ≡ operated h c
+  pub operated-walked : (v w s : ℕ) (left : Hub) → turns_down o.answer ≡ false → v ≡ (printed o.answer).woken
+      → record { woken = w; steps = s; hub = left } ≡ joined v 0 (walked MOST_STEPS o.hub c.party)
+      → record { answer = o.answer; woken = w; steps = s; hub = left } ≡ operated h c
   unfolding walked
-  operated-walked w r t g f =
-      ap (λ (v : ℕ). from o v r) g
-      ∙ ap (λ (x : Walked). from o (first_of (printed o.answer).woken x.woken) x) f
+  operated-walked v w s left t g f =
+      ap (λ (x : Walked). from o x.woken x) f
+      ∙ whole (walked MOST_STEPS o.hub c.party)
+      ∙ ap (λ (u : ℕ). from o (first_of u (walked MOST_STEPS o.hub c.party).woken) (walked MOST_STEPS o.hub c.party)) g
       ∙ ap (by o) (sym (if-false (turns_down o.answer) [] _ t))
       ∙ operated-by h c o e
+    where
+      whole : (r : Walked) → from o (first_of v r.woken) (joined v 0 r) ≡ from o (first_of v r.woken) r
+      whole r =
+          let z : 0 + r.steps ≡ r.steps = omega arith in
+          ap (λ (n : ℕ). from o (first_of v r.woken) (record { woken = r.woken; steps = n; hub = r.hub })) z
 
 -- A promise that gives what an operation came to gives what is printed for it.
 pub with-printed : {r d : Operated} → r ≡ d → (r ≡ d) × (printed r.answer ≡ printed d.answer)

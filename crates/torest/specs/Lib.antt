@@ -1,2 +1,1 @@
--- One whole operation by value.
-pub mod Walked
+-- The contracts of this crate cite the definitions of the crates hub and operations.

@@ -4,39 +4,27 @@
 
 ghost use Rattle.std.specs.Prelude.{◌≡◌, cond, eqb};
 ghost use Rattle.hub.specs.Answers.{printed};
-ghost use Rattle.hub.specs.Calm.{rests};
-ghost use Rattle.operations.specs.Operation.{MOST_STEPS, operated, turns_down};
-ghost use Rattle.torest.specs.Walked.{walked};
+ghost use Rattle.hub.specs.Phases.{at_rest};
+ghost use Rattle.hub.specs.Record.{read_slot};
+ghost use Rattle.operations.specs.Operation.{operated, turns_down};
 
 use encoding::answer::print_of;
 use hub::answers::Answer;
 use hub::moves::Op;
-use hub::record::Hub;
+use hub::record::{Hub, PartySlot};
 use operations::Operated;
 use phases::at_rest;
 use step::calls::{call, step};
 
-// What steps come to.
-#[derive(Clone, Copy)]
-pub struct Walked {
-    pub woken: u32, // FF if nobody was
-    pub steps: u32,
-    pub hub: Hub,
-}
-
 // Is the party at rest? A number past the slots is.
-fn rests(hub: Hub, party: u8) -> bool
-    ensures { result ≡ rests hub party }
+fn rests(slots: &[PartySlot; 32], party: u8) -> bool
+    ensures { result ≡ at_rest (read_slot slots.now party).phase }
 {
-    if Hub::PARTIES <= party {
-        return true;
-    }
-    let slot = hub.slots[party as usize];
-    let phase = slot.phase;
-    at_rest(phase)
+    Hub::PARTIES <= party || at_rest(slots[party as usize].phase)
 }
 
-// Whom an answer shows as woken; FF if nobody.
+// Whom an answer shows as woken; FF if nobody. It stays a number, since the theorems of whole operations (ComesTo,
+// RefusalLeaves) tell whom an operation woke by that of `woken_in`.
 fn woken_by(answer: Answer) -> u32
     ensures { result ≡ (printed answer).woken }
 {
@@ -47,30 +35,7 @@ fn woken_by(answer: Answer) -> u32
 fn first_of(a: u32, b: u32) -> u32
     ensures { result ≡ cond (eqb a 0xFF) b a }
 {
-    if a == 0xFF {
-        return b;
-    }
-    a
-}
-
-// The party's steps until it is at rest, three at most: whom they woke, how many they are, the record that they leave.
-fn walk(mut hub: Hub, party: u8) -> Walked
-    ensures { result ≡ walked MOST_STEPS hub party }
-{
-    let mut woken: u32 = 0xFF;
-    let mut steps: u32 = 0;
-    while steps < 3 {
-        if rests(hub, party) {
-            break;
-        }
-        let next = step(hub, party);
-        let answer = next.answer;
-        woken = first_of(woken, woken_by(answer));
-        let after = next.hub;
-        hub = after;
-        steps += 1;
-    }
-    Walked { woken, steps, hub }
+    if a == 0xFF { b } else { a }
 }
 
 // Is an answer a refusal?
@@ -80,29 +45,30 @@ fn turns_down(answer: Answer) -> bool
     print_of(answer).code < 0x20
 }
 
-// Ask, give up or give back, and its steps. It takes any record, any call and any party byte; a refusal hands the
-// record back as it came, on which nobody needs to be at rest.
+// Ask, give up or give back, and its steps, three at most. It takes any record, any call and any party byte; a refusal
+// hands the record back as it came, on which nobody needs to be at rest.
 pub fn operate(hub: Hub, op: Op, party: u8) -> Operated
     ensures { (result ≡ operated hub (record { op = op; party = party }))
         × (printed result.answer ≡ printed (operated hub (record { op = op; party = party })).answer) }
 {
     let first = call(hub, op, party);
-    let answer = first.answer;
-    let after = first.hub;
-    if turns_down(answer) {
-        return Operated {
-            answer,
-            woken: woken_by(answer),
-            steps: 0,
-            hub: after,
-        };
+    let mut done = Operated {
+        answer: first.answer,
+        woken: woken_by(first.answer),
+        steps: 0,
+        hub: first.hub,
+    };
+    if turns_down(done.answer) {
+        return done;
     }
-    let rest = walk(after, party);
-    let left = rest.hub;
-    Operated {
-        answer,
-        woken: first_of(woken_by(answer), rest.woken),
-        steps: rest.steps,
-        hub: left,
+    for _ in 0..3u32 {
+        if rests(&done.hub.slots, party) {
+            break;
+        }
+        let next = step(done.hub, party);
+        done.woken = first_of(done.woken, woken_by(next.answer));
+        done.steps += 1;
+        done.hub = next.hub;
     }
+    done
 }
