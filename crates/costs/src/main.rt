@@ -15,28 +15,24 @@ use std::io::Read;
 
 // The record after an ask and three steps: with the permit held, the party waits.
 fn waits(hub: Hub, party: u8) -> Hub {
-    let o = call_on_board(hub, Op::Acquire, party);
-    let o = call_on_board(o.hub, Op::Step, party);
-    let o = call_on_board(o.hub, Op::Step, party);
-    let o = call_on_board(o.hub, Op::Step, party);
-    o.hub
+    let mut after = call_on_board(hub, Op::Acquire, party).hub;
+    for _ in 0..3 {
+        after = call_on_board(after, Op::Step, party).hub;
+    }
+    after
 }
 
 // One permit: party 0 holds it, 1 waits, 2 has asked, 3 is free, and if there are 32 parties the
 // others wait too.
 fn prepared(parties: u8) -> Hub {
     let fresh = Hub::open(sized(1, parties));
-    let o = call_on_board(fresh, Op::Acquire, 0);
-    let o = call_on_board(o.hub, Op::Step, 0);
-    let mut hub = waits(o.hub, 1);
-    let mut p: u8 = 4;
-    while p < parties {
-        let next = waits(hub, p);
-        hub = next;
-        p += 1;
+    let asked = call_on_board(fresh, Op::Acquire, 0).hub;
+    let holds = call_on_board(asked, Op::Step, 0).hub;
+    let mut hub = waits(holds, 1);
+    for party in 4..parties {
+        hub = waits(hub, party);
     }
-    let o = call_on_board(hub, Op::Acquire, 2);
-    o.hub
+    call_on_board(hub, Op::Acquire, 2).hub
 }
 
 // Small letters: one party waits. Capitals: 29 do.
@@ -68,10 +64,7 @@ fn main(rt: HostRuntime) {
     let _ = rt.stdin().read(&mut input);
     let o = measured(input[0]);
     // the answer and the record are both printed, so that neither can be left out
-    let answer = o.answer;
-    let p = print_of(answer);
-    let _ = rt.print(p.code);
+    let _ = rt.print(print_of(o.answer).code);
     let _ = rt.print(' ');
-    let c = counts(o.hub);
-    let _ = rt.println(c.held);
+    let _ = rt.println(counts(o.hub).held);
 }

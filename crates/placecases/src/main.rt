@@ -54,18 +54,15 @@ fn op_of(code: u8) -> Op {
 // A call in place.
 fn call(rt: &HostRuntime, hub: Hub, code: u8, party: u8) -> Hub {
     let o = call_on_board(hub, op_of(code), party);
-    let answer = o.answer;
-    let line = answer_line(party, answer);
-    put(rt, &line);
+    put(rt, &answer_line(party, o.answer));
     o.hub
 }
 
 // A whole operation in place.
 fn operate(rt: &HostRuntime, hub: Hub, code: u8, party: u8) -> Hub {
     let o = operate_on_board(hub, op_of(code), party);
-    let answer = o.answer;
     let told = [
-        print_of(answer).code,
+        print_of(o.answer).code,
         party,
         (o.woken % 256) as u8,
         (o.steps % 256) as u8,
@@ -90,13 +87,9 @@ fn enter(rt: &HostRuntime, hub: Hub, code: u8, party: u8) -> Hub {
 
 // A list of entries, each its code and its party.
 fn play(rt: &HostRuntime, hub: Hub, list: &[u8]) {
-    let total = list.len() / 2;
     let mut h = hub;
-    let mut i: usize = 0;
-    while i < total {
-        let next = enter(rt, h, list[2 * i], list[2 * i + 1]);
-        h = next;
-        i += 1;
+    for entry in list.chunks_exact(2) {
+        h = enter(rt, h, entry[0], entry[1]);
     }
 }
 
@@ -133,11 +126,10 @@ fn built_in_kinds(rt: &HostRuntime) {
 
 // Where party 0 is of kind 3 and party 30 a door, the waits of 0 stay and those of 30 do not.
 fn own_kinds(rt: &HostRuntime) {
-    let mut kinds = [0u8; 32];
-    kinds[0] = 3;
-    kinds[30] = 1;
     let mut o = sized(1, 31);
-    o.kinds = kinds;
+    o.kinds = [0; 32];
+    o.kinds[0] = 3;
+    o.kinds[30] = 1;
     play(
         rt,
         Hub::open(o),
@@ -148,15 +140,12 @@ fn own_kinds(rt: &HostRuntime) {
 // Party 0 asks on a hub of so many permits with these figures.
 fn asked_at(rt: &HostRuntime, permits: u8, counter: i32, issued: u32, begun: u32) {
     let mut h = opened(permits, 3);
-    let figures = Figures {
+    h.control.figures = Figures {
         counter,
         issued,
         resumed: 0,
         begun,
     };
-    let mut control = h.control;
-    control.figures = figures;
-    h.control = control;
     play(rt, h, b"\x50\x00\x00\x00");
 }
 
