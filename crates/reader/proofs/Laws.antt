@@ -1,3 +1,2 @@
--- What the proofs of this crate share.
+-- The laws behind the contracts.
 pub mod Pieces
-pub mod Calls

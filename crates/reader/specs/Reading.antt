@@ -1,5 +1,5 @@
 -- An input read character by character, as it comes in pieces.
-use Rattle.std.specs.Prelude.{ℕ, suc, ◌+◌, ◌*◌, cond, List, [], ◌∷◌, ◌++◌, eqb, ltb, length, take, drop, set}
+use Rattle.std.specs.Prelude.{ℕ, suc, ◌+◌, ◌*◌, cond, List, [], ◌∷◌, ◌++◌, eqb, ltb, length, take, drop, set, replicate}
 use Rattle.line.specs.declared.request.Header.{Header}
 use Rattle.line.specs.Requests.{LONGEST, Request, request_of, header_of}
 use Rattle.reader.specs.declared.Reader.{Reader}
@@ -7,6 +7,10 @@ use Rattle.reader.specs.declared.Reader.{Reader}
 -- One character more than a line may have makes it too long, and no more are kept.
 abbrev pub KEPT : ℕ
 KEPT = suc LONGEST
+
+-- At the start of a line, with nothing read yet.
+abbrev pub at_line_start : Reader
+at_line_start = record { line = replicate KEPT 0; len = 0 }
 
 -- What is read of the line so far.
 abbrev pub line_in : Reader → List ℕ

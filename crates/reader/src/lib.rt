@@ -2,9 +2,19 @@
 
 #![tactic(auto)]
 
-ghost use Rattle.std.specs.Prelude.{◌≡◌, ◌*◌, ◌≤◌, length};
+ghost use Rattle.std.specs.Prelude.{◌≡◌, ◌++◌, ◌*◌, ◌≤◌, length, drop};
 ghost use Rattle.encoding.specs.Tables.{Values};
-ghost use Rattle.reader.specs.Reading.{KEPT, asked, header_bytes, past, requests_written};
+ghost use Rattle.reader.specs.Reading.{
+  KEPT,
+  asked,
+  at_line_start,
+  emptied,
+  header_bytes,
+  line_in,
+  past,
+  pushed,
+  requests_written,
+};
 
 use line::request::{Header, LONGEST, read_header};
 use line::values::call_by;
@@ -12,11 +22,61 @@ use line::values::call_by;
 // One character more than a line may have makes it too long, so that no more are kept.
 pub const KEPT: usize = LONGEST + 1;
 
-// The line that is being read.
+// The line that is being read: its characters so far, in a buffer of fixed size. That there are at
+// most KEPT stands in the contracts: in a field it would stand, proved, in each definition that
+// makes a reader.
 #[derive(Clone, Copy)]
 pub struct Reader {
     pub line: [u8; KEPT],
     pub len: usize,
+}
+
+impl Reader {
+    // At the start of a line.
+    pub fn new() -> Reader
+        ensures { result ≡ at_line_start }
+    {
+        Reader {
+            line: [0; KEPT],
+            len: 0,
+        }
+    }
+
+    // What is read of the line.
+    pub fn kept(&self) -> &[u8]
+        requires { self.now.len ≤ KEPT }
+        ensures { result.now ≡ line_in self.now }
+    {
+        &self.line[..self.len]
+    }
+
+    // Keeps a character, or nothing past KEPT.
+    pub fn keep(&mut self, c: u8)
+        ensures { self.new ≡ pushed self.old c }
+    {
+        if self.len < KEPT {
+            self.line[self.len] = c;
+            self.len += 1;
+        }
+    }
+
+    // Begins the next line.
+    pub fn clear(&mut self)
+        ensures { self.new ≡ emptied self.old }
+    {
+        self.len = 0;
+    }
+
+    // Leaves in the buffer what a line of four characters leaves there, once the next is begun.
+    fn leave(&mut self, call: &[u8])
+        requires { length call.now ≡ 4 }
+        ensures { self.new ≡ record {
+          line = call.now ++ drop 4 self.old.line;
+          len = self.old.len;
+        } }
+    {
+        self.line[..4].copy_from_slice(call);
+    }
 }
 
 // The reader past a piece, and how many lines ended in it.
@@ -35,8 +95,8 @@ fn put_header(out: &mut [u8], h: Header)
 }
 
 // Reads a piece, and leaves what its lines ask, two bytes each. Behind a line, calls of four
-// characters are read by the table, five characters at a time; of the last one the characters are
-// kept, as they are of any line.
+// characters are read by the table, five characters at a time; their characters are kept, as they
+// are of any line.
 pub fn read_piece(values: &[u16; 256], reader: Reader, piece: &[u8], requests: &mut [u8]) -> Read
     requires values { Values values.now }
     requires len_bound { reader.len ≤ KEPT }
@@ -47,52 +107,32 @@ pub fn read_piece(values: &[u16; 256], reader: Reader, piece: &[u8], requests: &
     })
         × (requests.new ≡ requests_written (asked reader piece.now) requests.old) }
 {
-    let mut line = reader.line;
-    let mut len = reader.len;
+    let mut current = reader;
     let mut count: usize = 0;
-    let mut i: usize = 0;
-    while i < piece.len() {
-        let c = piece[i];
-        i += 1;
-        if c != 0x0A {
-            if KEPT <= len {
-                continue;
-            }
-            line[len] = c;
-            len += 1;
+    let mut rest = piece;
+    while let [c, after @ ..] = rest {
+        rest = after;
+        if *c != b'\n' {
+            current.keep(*c);
             continue;
         }
-        let header = read_header(&line[0..len]);
-        let at = 2 * count;
-        let end = at + 2;
-        put_header(&mut requests[at..end], header);
-        len = 0;
+        let header = read_header(current.kept());
+        put_header(&mut requests[2 * count..2 * count + 2], header);
+        current.clear();
         count += 1;
-        let from = i;
-        while 5 <= piece.len() - i {
-            if piece[i + 4] != 0x0A {
-                break;
-            }
-            let call = call_by(values, piece[i], piece[i + 1], piece[i + 2], piece[i + 3]);
+        while let [a, b, x, y, b'\n', after @ ..] = rest {
+            let call = call_by(values, *a, *b, *x, *y);
             if call.code < 0x10 {
                 break;
             }
-            let at = 2 * count;
-            let end = at + 2;
-            put_header(&mut requests[at..end], call);
+            put_header(&mut requests[2 * count..2 * count + 2], call);
+            current.leave(&rest[..4]);
             count += 1;
-            i += 5;
+            rest = after;
         }
-        if i <= from {
-            continue;
-        }
-        line[0] = piece[i - 5];
-        line[1] = piece[i - 4];
-        line[2] = piece[i - 3];
-        line[3] = piece[i - 2];
     }
     Read {
-        reader: Reader { line, len },
+        reader: current,
         count,
     }
 }
