@@ -1,5 +1,5 @@
 -- Lines before a hub is open: each is answered by itself.
-use Rattle.std.specs.Prelude.{ℕ, suc, ◌≡◌, Bool, cond, ◌&&◌, List, [], ◌∷◌, ◌⊎◌, eqb, length, take, drop}
+use Rattle.std.specs.Prelude.{ℕ, suc, ◌≡◌, Bool, cond, ◌&&◌, List, [], ◌∷◌, ◌⊎◌, Option, Some, None, eqb, length, take, drop}
 use Rattle.hub.specs.declared.record.Hub.{Hub}
 use Rattle.hub.specs.Answers.{plain}
 use Rattle.line.specs.Program.{unopened, is_open, Reply, before_open, after}
@@ -20,6 +20,10 @@ refusal c p = record { party = p; answer = plain (cond (eqb c 0x00) 12 13) }
 -- Does a request open a hub?
 abbrev pub opens_hub : Request → Bool
 opens_hub q = is_open (before_open q).hub
+
+-- The hub that it opens, if it opens one.
+abbrev pub hub_opened : Request → Option Hub
+hub_opened q = cond (opens_hub q) (Some (before_open q).hub) None
 
 -- How many characters of a piece are read until a hub is open: those through the line that opens
 -- it, or all of them.

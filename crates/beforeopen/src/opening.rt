@@ -4,15 +4,14 @@ ghost use Rattle.std.specs.Prelude.{◌≡◌, true, ◌++◌, ◌*◌, ◌≤�
 ghost use Rattle.encoding.specs.Form.{as_text};
 ghost use Rattle.line.specs.Program.{before_open, is_open, replies_in, reply_in};
 ghost use Rattle.line.specs.Requests.{is_opening, request_of};
-ghost use Rattle.beforeopen.specs.Opening.{SessionHub, begun_by, early, refusal};
+ghost use Rattle.beforeopen.specs.Opening.{SessionHub, begun_by, early, hub_opened, refusal};
 ghost use Rattle.reader.specs.Reading.{KEPT, asked};
 
 use encoding::answer::{plain, print_of};
 use hub::{Answer, Hub};
-use line::request::{MALFORMED, OPENING, read_opening};
-use line::values;
-use openhub::{open_hub, sized};
-use reader::{Reader, read_piece};
+use line::request::{Header, MALFORMED, OPENING, read_header, read_opening};
+use openhub::open_hub;
+use reader::Reader;
 use writer::text::put_line;
 
 // What the first characters of a piece lead to: those until a hub is open, or all of them.
@@ -31,35 +30,46 @@ pub fn is_open(hub: Hub) -> bool
     1 <= hub.control.opening.permits
 }
 
-// 12, or 13 for a call.
-fn refuse(out: &mut [u8], code: u8, party: u8)
+// Refuses a line that is no opening: 12, or 13 for a call.
+fn refuse(out: &mut [u8], header: Header)
     requires { length out.old ≡ 15 }
-    ensures { out.new ≡ reply_in as_text (refusal code party) }
+    ensures { out.new ≡ reply_in as_text (refusal header.code header.party) }
 {
-    if code == MALFORMED {
-        put_line(out, party, plain(12));
-        return;
-    }
-    put_line(out, party, plain(13));
+    let number = if header.code == MALFORMED { 12 } else { 13 };
+    put_line(out, header.party, plain(number));
 }
 
-// Opens a hub as a line asks; a refused opening makes no record.
-fn open_as(line: &[u8], out: &mut [u8]) -> Hub
+// Answers an opening, and gives the hub that it opens; a refused one opens none.
+fn open_as(line: &[u8], out: &mut [u8]) -> Option<Hub>
     requires line_value { is_opening (request_of line.now) ≡ true }
     requires out_len { length out.old ≡ 15 }
-    ensures { (result ≡ (before_open (request_of line.now)).hub)
+    ensures { (result ≡ hub_opened (request_of line.now))
         × (out.new ≡ reply_in as_text (before_open (request_of line.now)).reply) }
 {
     match open_hub(read_opening(line)) {
         Ok(hub) => {
             put_line(out, 0xFF, print_of(Answer::Opened));
-            hub
+            Some(hub)
         }
         Err(why) => {
             put_line(out, 0xFF, print_of(Answer::Refused(why)));
-            Hub::open(sized(0, 0))
+            None
         }
     }
+}
+
+// Answers a line while no hub is open, and gives the hub that it opens, if it opens one.
+fn answer_alone(line: &[u8], out: &mut [u8]) -> Option<Hub>
+    requires { length out.old ≡ 15 }
+    ensures { (result ≡ hub_opened (request_of line.now))
+        × (out.new ≡ reply_in as_text (before_open (request_of line.now)).reply) }
+{
+    let header = read_header(line);
+    if header.code == OPENING {
+        return open_as(line, out);
+    }
+    refuse(out, header);
+    None
 }
 
 // Reads a piece until a hub is open, a character at a time.
@@ -79,38 +89,21 @@ pub fn until_open(hub: Hub, reader: Reader, piece: &[u8], out: &mut [u8]) -> Beg
             lines: 0,
         };
     }
-    let table = values::table();
     let mut current = reader;
     let mut lines: usize = 0;
-    let mut i: usize = 0;
-    while i < piece.len() {
-        let next = i + 1;
-        let mut header = [0u8; 2];
-        let read = read_piece(&table, current, &piece[i..next], &mut header);
-        let past = read.reader;
-        i = next;
-        if read.count == 0 {
-            current = past;
+    for (i, c) in piece.iter().enumerate() {
+        if *c != b'\n' {
+            current.keep(*c);
             continue;
         }
-        let at = 15 * lines;
-        let end = at + 15;
+        let answered = answer_alone(current.kept(), &mut out[15 * lines..15 * lines + 15]);
+        current.clear();
         lines += 1;
-        let code = header[0];
-        if code != OPENING {
-            refuse(&mut out[at..end], code, header[1]);
-            current = past;
-            continue;
-        }
-        let line = current.line;
-        let len = current.len;
-        let opened = open_as(&line[0..len], &mut out[at..end]);
-        current = past;
-        if is_open(opened) {
+        if let Some(opened) = answered {
             return Begun {
                 hub: opened,
-                reader: past,
-                read: i,
+                reader: current,
+                read: i + 1,
                 lines,
             };
         }
@@ -118,7 +111,7 @@ pub fn until_open(hub: Hub, reader: Reader, piece: &[u8], out: &mut [u8]) -> Beg
     Begun {
         hub,
         reader: current,
-        read: i,
+        read: piece.len(),
         lines,
     }
 }

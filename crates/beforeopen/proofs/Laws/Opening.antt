@@ -6,13 +6,16 @@ use mathlib.Core.List.{List, [], ◌∷◌, ◌++◌, append-nil}
 use mathlib.Core.Logic.{inl, inr}
 use native.Mathlib.Omega.{arith}
 use borrow.Rule.Slice.PartMut.{put_mid}
+use borrow.Author.Tests.{ne_eqb, eq-eqb}
 use lib.Dec.{eqb}
 use lib.ListN.{length, get_or, take, drop, length-append, take-append-drop, drop_of_length-le}
 use lib.Seq.{drop-cons, take-suc, take_at, drop_at, drop-drop}
+use Rattle.std.proofs.Common.{Option, Some, None}
 use Rattle.hub.specs.declared.moves.Op.{Op}
 use Rattle.hub.specs.declared.opening.Opening.{Opening}
 use Rattle.hub.specs.declared.record.Hub.{Hub}
 use Rattle.hub.specs.declared.record.Outcome.{Outcome}
+use Rattle.hub.specs.declared.answers.Answer.{Answer}
 use Rattle.hub.specs.Answers.{plain}
 use Rattle.hub.specs.Opening.{fresh, opening, tests}
 use Rattle.hub.proofs.Laws.Bools.{if-true, if-false}
@@ -27,12 +30,10 @@ use Rattle.line.proofs.Laws.Schedules.{respond-before}
 use Rattle.batch.specs.Batch.{Reachable}
 use Rattle.batch.proofs.Laws.Reachable.{reachable-open, opening-reachable, response-reachable}
 use Rattle.beforeopen.specs.declared.opening.Begun.{Begun}
-use Rattle.reader.specs.declared.Read.{Read}
 use Rattle.reader.specs.declared.Reader.{Reader}
-use Rattle.beforeopen.specs.Opening.{SessionHub, refusal, opens_hub, until_open, open_at, early, begun_by}
-use Rattle.reader.specs.Reading.{line_in, next, past, asked}
-use Rattle.reader.specs.Reading.{header_bytes, request_bytes, requests_written}
-use Rattle.reader.proofs.Laws.Pieces.{Kept, past-kept}
+use Rattle.beforeopen.specs.Opening.{SessionHub, refusal, opens_hub, hub_opened, until_open, open_at, early, begun_by}
+use Rattle.reader.specs.Reading.{line_in, pushed, emptied, next, past, asked}
+use Rattle.reader.proofs.Laws.Pieces.{Kept, pushed-kept}
 use Rattle.beforeopen.proofs.Laws.Appended.{lines, replies-append, after-append}
 use Rattle.beforeopen.proofs.Laws.Appended.{past-append, asked-append}
 use Rattle.beforeopen.proofs.Laws.Sizes.{replies-size, asked-few}
@@ -174,6 +175,36 @@ opening-header (to_call c) e = absurd (go c.op e)
     go Op.Release e = omega arith
     go Op.Radio e = omega arith
 
+-- Does a line open a hub? By the hub that it opens, or that it opens none.
+pub some-opened : (q : Request) {o : Option Hub} → o ≡ hub_opened q → {h : Hub} → o ≡ Some h
+    → (opens_hub q ≡ true) × (h ≡ (before_open q).hub)
+some-opened q {o} e {h} s = go (opens_hub q) refl (sym s ∙ e)
+  where
+    go : (b : Bool) → opens_hub q ≡ b → Some h ≡ cond b (Some (before_open q).hub) None
+        → (opens_hub q ≡ true) × (h ≡ (before_open q).hub)
+    go true b i = (b, cc)
+    go false b i = absurd (cc)
+
+pub none-opened : (q : Request) {o : Option Hub} → o ≡ hub_opened q → o ≡ None → opens_hub q ≡ false
+none-opened q {o} e n = go (opens_hub q) refl (sym n ∙ e)
+  where
+    go : (b : Bool) → opens_hub q ≡ b → None ≡ cond b (Some (before_open q).hub) None → opens_hub q ≡ false
+    go true b i = absurd (cc)
+    go false b i = b
+
+pub is-open : (o : Opening) {h : Hub} → ◌≡◌ {A = Outcome} (record { answer = Answer.Opened; hub = h }) (opening o)
+    → is_open h ≡ true
+is-open o {h} e =
+    reachable-open h
+    (subst Reachable (ap (λ (x : Outcome). x.hub) (sym e))
+    (opening-reachable o (ap (λ (x : Outcome). x.answer) (sym e))))
+
+pub is-opened : (q : Request) {h : Hub} → h ≡ (before_open q).hub → is_open h ≡ true → Some h ≡ hub_opened q
+is-opened q e o = ap Some e ∙ sym (if-true (opens_hub q) _ _ (ap is_open (sym e) ∙ o))
+
+pub is-refused : (q : Request) {h : Hub} → h ≡ (before_open q).hub → is_open h ≡ false → None ≡ hub_opened q
+is-refused q e o = sym (if-false (opens_hub q) _ _ (ap is_open (sym e) ∙ o))
+
 -- What is known once the reading stops.
 abbrev pub Stops : Hub → Reader → List ℕ → List ℕ → Begun → List ℕ → Type 0
 Stops h r piece out₀ b out =
@@ -252,7 +283,7 @@ module _ {r₀ : Reader} {piece out₀ : List ℕ} {r : Reader} {out : List ℕ}
     (u : Upto r₀ piece out₀ r out n i) where
   -- At the end of the piece.
   pub ended : length piece ≤ i → (h : Hub) → h ≡ unopened
-      → Stops h r₀ piece out₀ (record { hub = h; reader = r; read = i; lines = n }) out
+      → Stops h r₀ piece out₀ (record { hub = h; reader = r; read = length piece; lines = n }) out
   unfolding until_open
   ended l h none =
       let e : i ≡ until_open r₀ piece =
@@ -261,14 +292,15 @@ module _ {r₀ : Reader} {piece out₀ : List ℕ} {r : Reader} {out : List ℕ}
         u.ahead,
         ap (λ (k : List ℕ). until_open r k) (drop_of_length-le piece {i = i} l),
       ) in
+      let all : length piece ≡ i = omega (arith, u.within) in
       let s = stops r₀ piece out₀ i e in
       subst
-      (λ (h : Hub). Stops h r₀ piece out₀ (record { hub = h; reader = r; read = i; lines = n }) out)
+      (λ (h : Hub). Stops h r₀ piece out₀ (record { hub = h; reader = r; read = length piece; lines = n }) out)
       (sym none) (
         (λ j. record {
           hub = sym u.none j;
           reader = u.reader j;
-          read = i;
+          read = all j;
           lines = u.count j;
         })
             ∙ s.0,
@@ -277,13 +309,14 @@ module _ {r₀ : Reader} {piece out₀ : List ℕ} {r : Reader} {out : List ℕ}
             ∙ s.1,
       )
 
-  -- One character more, which is read by itself into the header.
+  -- One character more.
   module _ (more : i < length piece) where
     abbrev c : ℕ
     c = get_or piece i 0
 
-    abbrev chunk : List ℕ
-    chunk = take (i + 1 - i) (drop i piece)
+    -- What the line so far asks.
+    abbrev q : Request
+    q = request_of (line_in r)
 
     here : drop i piece ≡ c ∷ drop (i + 1) piece
     here = drop-cons piece i 0 more ∙ ap (λ (j : ℕ). c ∷ drop j piece) (one i)
@@ -291,233 +324,188 @@ module _ {r₀ : Reader} {piece out₀ : List ℕ} {r : Reader} {out : List ℕ}
         one : (m : ℕ) → suc m ≡ m + 1
         one m = omega arith
 
-    one_char : chunk ≡ c ∷ []
-    one_char = (λ j. take (one i j) (here j))
-      where
-        one : (m : ℕ) → m + 1 - m ≡ 1
-        one m = omega arith
-
-    pub at_most_one : 2 * length (asked r chunk) ≤ 2
-    at_most_one = omega (arith, asked-few chunk r, ap length one_char)
-
-    so_far : take (i + 1) piece ≡ take i piece ++ chunk
-    so_far =
-        ap (λ (j : ℕ). take j piece) (one i) ∙ take-suc piece i 0 more
-        ∙ ap (λ (l : List ℕ). take i piece ++ l) (sym one_char)
+    so_far : take (i + 1) piece ≡ take i piece ++ (c ∷ [])
+    so_far = ap (λ (j : ℕ). take j piece) (one i) ∙ take-suc piece i 0 more
       where
         one : (m : ℕ) → m + 1 ≡ suc m
         one m = omega arith
 
-    past-so-far : past r₀ (take (i + 1) piece) ≡ past r chunk
-    past-so-far =
-        ap (past r₀) so_far ∙ past-append (take i piece) chunk r₀
-        ∙ ap (λ (q : Reader). past q chunk) (sym u.reader)
-
-    asked-so-far : asked r₀ (take (i + 1) piece) ≡ asked r₀ (take i piece) ++ asked r chunk
-    asked-so-far =
-        ap (asked r₀) so_far ∙ asked-append (take i piece) chunk r₀
-        ∙ ap (λ (q : Reader). asked r₀ (take i piece) ++ asked q chunk) (sym u.reader)
-
-    next-is : past r chunk ≡ next r c
+    past-so-far : past r₀ (take (i + 1) piece) ≡ next r c
     unfolding past
-    next-is = ap (past r) one_char
+    past-so-far =
+        ap (past r₀) so_far ∙ past-append (take i piece) (c ∷ []) r₀
+        ∙ ap (λ (p : Reader). next p c) (sym u.reader)
 
-    asked_is : asked r chunk ≡ cond (eqb c 0x0A) (request_of (line_in r) ∷ []) []
+    asked-so-far : asked r₀ (take (i + 1) piece)
+        ≡ asked r₀ (take i piece) ++ cond (eqb c 0x0A) (q ∷ []) []
     unfolding asked
-    asked_is = ap (asked r) one_char
+    asked-so-far =
+        ap (asked r₀) so_far ∙ asked-append (take i piece) (c ∷ []) r₀
+        ∙ ap
+        (λ (p : Reader). asked r₀ (take i piece) ++ cond (eqb c 0x0A) (request_of (line_in p) ∷ []) [])
+        (sym u.reader)
 
     ahead-is : i + until_open r (drop i piece)
-        ≡ i + 1
-        + cond (eqb c 0x0A && opens_hub (request_of (line_in r))) 0
-        (until_open (next r c) (drop (i + 1) piece))
+        ≡ i + 1 + cond (eqb c 0x0A && opens_hub q) 0 (until_open (next r c) (drop (i + 1) piece))
     unfolding until_open
     ahead-is = ap (λ (l : List ℕ). i + until_open r l) here ∙ omega arith
 
-    module _ (header : List ℕ) {read : Read} {header' : List ℕ}
-        (e : read ≡ record { reader = past r chunk; count = length (asked r chunk) })
-        (f : header' ≡ requests_written (asked r chunk) header) where
-      counted : read.count ≡ length (cond (eqb c 0x0A) (request_of (line_in r) ∷ []) [])
-      counted = ap (λ (x : Read). x.count) e ∙ ap length asked_is
+    -- The character ends no line.
+    pub within-line : (c ≡ 0x0A → ⊥) → {p : Reader} → p ≡ pushed r c
+        → Upto r₀ piece out₀ p out n (i + 1)
+    within-line f {p} e =
+        let b : eqb c 0x0A ≡ false = ne_eqb c 0x0A f in
+        let is : p ≡ next r c = e ∙ sym (if-false (eqb c 0x0A) _ _ b) in
+        let a : asked r₀ (take (i + 1) piece) ≡ asked r₀ (take i piece) =
+        asked-so-far
+        ∙ ap (λ (l : List Request). asked r₀ (take i piece) ++ l) (if-false (eqb c 0x0A) _ _ b)
+        ∙ append-nil (asked r₀ (take i piece)) in
+        record {
+          within = omega arith;
+          kept = subst Kept (sym e) (pushed-kept r c u.kept);
+          long = u.long;
+          room = u.room;
+          reader = is ∙ sym past-so-far;
+          count = u.count ∙ ap length (sym a);
+          none = ap (after unopened) a ∙ u.none;
+          same = u.same ∙ ap (λ (l : List Request). lines unopened l ++ drop (15 * n) out₀) (sym a);
+          ahead =
+              ap (λ (q : Reader). i + 1 + until_open q (drop (i + 1) piece)) is
+              ∙ sym (ahead-is ∙ rw b) ∙ u.ahead;
+        }
 
-      -- The character ends no line.
-      pub within-line : read.count ≡ 0 → Upto r₀ piece out₀ read.reader out n (i + 1)
-      within-line z = go (eqb c 0x0A) refl (sym counted ∙ z)
-        where
-          go : (b : Bool) → eqb c 0x0A ≡ b → length (cond b (request_of (line_in r) ∷ []) []) ≡ 0
-              → Upto r₀ piece out₀ read.reader out n (i + 1)
-          go true b z = absurd (omega arith)
-          go false b z =
-              let is : read.reader ≡ past r chunk = ap (λ (x : Read). x.reader) e in
-              let a : asked r₀ (take (i + 1) piece) ≡ asked r₀ (take i piece) =
-              asked-so-far
-              ∙ ap (λ (l : List Request). asked r₀ (take i piece) ++ l)
-              (asked_is ∙ if-false (eqb c 0x0A) _ _ b)
-              ∙ append-nil (asked r₀ (take i piece)) in
-              record {
-                within = omega arith;
-                kept = subst Kept (sym is) (past-kept chunk r u.kept);
-                long = u.long;
-                room = u.room;
-                reader = is ∙ sym past-so-far;
-                count = u.count ∙ ap length (sym a);
-                none = ap (after unopened) a ∙ u.none;
-                same = u.same ∙ ap (λ (l : List Request). lines unopened l ++ drop (15 * n) out₀) (sym a);
-                ahead =
-                    ap (λ (q : Reader). i + 1 + until_open q (drop (i + 1) piece)) (is ∙ next-is)
-                    ∙ sym (ahead-is ∙ rw b) ∙ u.ahead;
-              }
+    -- The character ends a line.
+    module _ (feed : c ≡ 0x0A) where
+      ends : eqb c 0x0A ≡ true
+      ends = eq-eqb c 0x0A feed
 
-      -- The character ends a line.
-      module _ (some : read.count ≡ 0 → ⊥) where
-        abbrev q : Request
-        q = request_of (line_in r)
+      all_asked : asked r₀ (take (i + 1) piece) ≡ asked r₀ (take i piece) ++ (q ∷ [])
+      all_asked =
+          asked-so-far
+          ∙ ap (λ (l : List Request). asked r₀ (take i piece) ++ l) (if-true (eqb c 0x0A) _ _ ends)
 
-        ends : eqb c 0x0A ≡ true
-        ends = go (eqb c 0x0A) refl counted
+      pub room-for-one : 15 * n + 15 ≤ length out
+      room-for-one =
+          omega (
+            arith,
+            u.room,
+            u.count,
+            ap length all_asked,
+            length-append (asked r₀ (take i piece)) (q ∷ []),
+            ap length
+                (ap (asked r₀) (sym (take-append-drop (i + 1) piece))
+                ∙ asked-append (take (i + 1) piece) (drop (i + 1) piece) r₀),
+            length-append (asked r₀ (take (i + 1) piece))
+                (asked (past r₀ (take (i + 1) piece)) (drop (i + 1) piece)),
+          )
+
+      -- Its reply is written.
+      module _ {part : List ℕ} (p : part ≡ reply_in as_text (before_open q).reply) {clear : Reader}
+          (e : clear ≡ emptied r) where
+        abbrev out' : List ℕ
+        out' = put_mid (15 * n) (15 * n + 15 - 15 * n) out part
+
+        size : length part ≡ 15
+        size = ap length p
+
+        count' : n + 1 ≡ length (asked r₀ (take (i + 1) piece))
+        count' =
+            sym
+            (ap length all_asked ∙ length-append (asked r₀ (take i piece)) (q ∷ [])
+            ∙ ap (λ (k : ℕ). k + 1) (sym u.count))
+
+        hub' : after unopened (asked r₀ (take (i + 1) piece)) ≡ (before_open q).hub
+        unfolding after
+        hub' =
+            ap (after unopened) all_asked
+            ∙ after-append (asked r₀ (take i piece)) (q ∷ []) unopened
+            ∙ ap (λ (h : Hub). after h (q ∷ [])) u.none
+            ∙ ap (λ (t : Response). t.hub) (respond-before unopened q shut)
+
+        said : lines unopened (asked r₀ (take (i + 1) piece))
+            ≡ lines unopened (asked r₀ (take i piece)) ++ part
+        unfolding replies rendered
+        said =
+            ap (lines unopened) all_asked
+            ∙ replies-append (asked r₀ (take i piece)) (q ∷ []) unopened
+            ∙ ap (λ (h : Hub). lines unopened (asked r₀ (take i piece)) ++ lines h (q ∷ [])) u.none
+            ∙ ap (λ (l : List ℕ). lines unopened (asked r₀ (take i piece)) ++ l)
+            (ap (λ (t : Response). reply_in as_text t.reply ++ []) (respond-before unopened q shut)
+            ∙ append-nil (reply_in as_text (before_open q).reply) ∙ sym p)
+
+        front : length (lines unopened (asked r₀ (take i piece))) ≡ 15 * n
+        front =
+            replies-size (asked r₀ (take i piece)) unopened
+            ∙ ap (λ (k : ℕ). 15 * k) (sym u.count)
+
+        out'-is : out' ≡ lines unopened (asked r₀ (take (i + 1) piece)) ++ drop (15 * (n + 1)) out₀
+        out'-is =
+            parts out part (15 * n) 15 room-for-one size
+            ∙ (λ j. (take (15 * n) (u.same j) ++ part) ++ drop (15 * n + 15) (u.same j))
+            ∙ (λ j. (take_at (lines unopened (asked r₀ (take i piece))) (drop (15 * n) out₀) (15 * n)
+            front j ++ part)
+            ++ back j)
+            ∙ (λ j. sym said j ++ drop (up n j) out₀)
           where
-            go : (b : Bool) → eqb c 0x0A ≡ b
-                → read.count ≡ length (cond b (request_of (line_in r) ∷ []) []) → eqb c 0x0A ≡ true
-            go true b z = b
-            go false b z = absurd (some z)
+            up : (n : ℕ) → 15 * n + 15 ≡ 15 * (n + 1)
+            up n = omega arith
 
-        asks : asked r chunk ≡ q ∷ []
-        asks = asked_is ∙ if-true (eqb c 0x0A) _ _ ends
+            back : drop (15 * n + 15)
+                (lines unopened (asked r₀ (take i piece)) ++ drop (15 * n) out₀)
+                ≡ drop (15 * n + 15) out₀
+            back =
+                sym (drop-drop 15 (15 * n) (lines unopened (asked r₀ (take i piece)) ++ drop (15 * n) out₀))
+                ∙ ap (drop 15)
+                (drop_at (lines unopened (asked r₀ (take i piece))) (drop (15 * n) out₀) (15 * n) front)
+                ∙ drop-drop 15 (15 * n) out₀
 
-        pub room-for-one : 15 * n + 15 ≤ length out
-        room-for-one =
-            omega (
-              arith,
-              u.room,
-              u.count,
-              ap length asked-so-far,
-              length-append (asked r₀ (take i piece)) (asked r chunk),
-              ap length asks,
-              ap length
-                  (ap (asked r₀) (sym (take-append-drop (i + 1) piece))
-                  ∙ asked-append (take (i + 1) piece) (drop (i + 1) piece) r₀),
-              length-append (asked r₀ (take (i + 1) piece))
-                  (asked (past r₀ (take (i + 1) piece)) (drop (i + 1) piece)),
+        is : clear ≡ next r c
+        is = e ∙ sym (if-true (eqb c 0x0A) _ _ ends)
+
+        long-still : length out' ≡ length out
+        long-still = put-length out part (15 * n) 15 room-for-one size
+
+        -- No hub is open yet.
+        pub onward : opens_hub q ≡ false → Upto r₀ piece out₀ clear out' (n + 1) (i + 1)
+        onward o =
+            record {
+              within = omega arith;
+              kept = subst Kept (sym e) (record { size = u.kept.size; short = omega arith });
+              long = long-still ∙ u.long;
+              room = omega (arith, u.room, long-still);
+              reader = is ∙ sym past-so-far;
+              count = count';
+              none = hub' ∙ stays-shut q o;
+              same = out'-is;
+              ahead =
+                  ap (λ (q : Reader). i + 1 + until_open q (drop (i + 1) piece)) is
+                  ∙ sym (ahead-is ∙ rw (ends, o)) ∙ u.ahead;
+            }
+
+        -- This line opens it.
+        pub opened : opens_hub q ≡ true → (h₀ : Hub) → h₀ ≡ unopened → (h : Hub)
+            → h ≡ (before_open q).hub
+            → Stops h₀ r₀ piece out₀
+            (record { hub = h; reader = clear; read = i + 1; lines = n + 1 }) out'
+        opened o h₀ none h g =
+            let here : i + 1 ≡ until_open r₀ piece = nought i ∙ sym (ahead-is ∙ rw (ends, o)) ∙ u.ahead in
+            let s = stops r₀ piece out₀ (i + 1) here in
+            subst
+            (λ (h₀ : Hub). Stops h₀ r₀ piece out₀
+            (record { hub = h; reader = clear; read = i + 1; lines = n + 1 }) out')
+            (sym none) (
+              (λ j. record {
+                hub = (g ∙ sym hub') j;
+                reader = (is ∙ sym past-so-far) j;
+                read = i + 1;
+                lines = count' j;
+              })
+                  ∙ s.0,
+              out'-is
+                  ∙ ap (λ (k : ℕ). lines unopened (asked r₀ (take (i + 1) piece)) ++ drop (15 * k) out₀)
+                  count'
+                  ∙ s.1,
             )
-
-        header_is : header' ≡ header_bytes (header_of q) ++ drop 2 header
-        unfolding request_bytes
-        header_is = f ∙ ap (λ (l : List Request). requests_written l header) asks
-
-        pub code_is : get_or header' 0 0 ≡ (header_of q).code
-        code_is = ap (λ (l : List ℕ). get_or l 0 0) header_is
-
-        pub party-is : get_or header' 1 0 ≡ (header_of q).party
-        party-is = ap (λ (l : List ℕ). get_or l 1 0) header_is
-
-        -- Its reply is written.
-        module _ {part : List ℕ} (p : part ≡ reply_in as_text (before_open q).reply) where
-          abbrev out' : List ℕ
-          out' = put_mid (15 * n) (15 * n + 15 - 15 * n) out part
-
-          size : length part ≡ 15
-          size = ap length p
-
-          all_asked : asked r₀ (take (i + 1) piece) ≡ asked r₀ (take i piece) ++ (q ∷ [])
-          all_asked = asked-so-far ∙ ap (λ (l : List Request). asked r₀ (take i piece) ++ l) asks
-
-          count' : n + 1 ≡ length (asked r₀ (take (i + 1) piece))
-          count' =
-              sym
-              (ap length all_asked ∙ length-append (asked r₀ (take i piece)) (q ∷ [])
-              ∙ ap (λ (k : ℕ). k + 1) (sym u.count))
-
-          hub' : after unopened (asked r₀ (take (i + 1) piece)) ≡ (before_open q).hub
-          unfolding after
-          hub' =
-              ap (after unopened) all_asked
-              ∙ after-append (asked r₀ (take i piece)) (q ∷ []) unopened
-              ∙ ap (λ (h : Hub). after h (q ∷ [])) u.none
-              ∙ ap (λ (t : Response). t.hub) (respond-before unopened q shut)
-
-          said : lines unopened (asked r₀ (take (i + 1) piece))
-              ≡ lines unopened (asked r₀ (take i piece)) ++ part
-          unfolding replies rendered
-          said =
-              ap (lines unopened) all_asked
-              ∙ replies-append (asked r₀ (take i piece)) (q ∷ []) unopened
-              ∙ ap (λ (h : Hub). lines unopened (asked r₀ (take i piece)) ++ lines h (q ∷ [])) u.none
-              ∙ ap (λ (l : List ℕ). lines unopened (asked r₀ (take i piece)) ++ l)
-              (ap (λ (t : Response). reply_in as_text t.reply ++ []) (respond-before unopened q shut)
-              ∙ append-nil (reply_in as_text (before_open q).reply) ∙ sym p)
-
-          front : length (lines unopened (asked r₀ (take i piece))) ≡ 15 * n
-          front =
-              replies-size (asked r₀ (take i piece)) unopened
-              ∙ ap (λ (k : ℕ). 15 * k) (sym u.count)
-
-          out'-is : out' ≡ lines unopened (asked r₀ (take (i + 1) piece)) ++ drop (15 * (n + 1)) out₀
-          out'-is =
-              parts out part (15 * n) 15 room-for-one size
-              ∙ (λ j. (take (15 * n) (u.same j) ++ part) ++ drop (15 * n + 15) (u.same j))
-              ∙ (λ j. (take_at (lines unopened (asked r₀ (take i piece))) (drop (15 * n) out₀) (15 * n)
-              front j ++ part)
-              ++ back j)
-              ∙ (λ j. sym said j ++ drop (up n j) out₀)
-            where
-              up : (n : ℕ) → 15 * n + 15 ≡ 15 * (n + 1)
-              up n = omega arith
-
-              back : drop (15 * n + 15)
-                  (lines unopened (asked r₀ (take i piece)) ++ drop (15 * n) out₀)
-                  ≡ drop (15 * n + 15) out₀
-              back =
-                  sym (drop-drop 15 (15 * n) (lines unopened (asked r₀ (take i piece)) ++ drop (15 * n) out₀))
-                  ∙ ap (drop 15)
-                  (drop_at (lines unopened (asked r₀ (take i piece))) (drop (15 * n) out₀) (15 * n) front)
-                  ∙ drop-drop 15 (15 * n) out₀
-
-          is : read.reader ≡ past r chunk
-          is = ap (λ (x : Read). x.reader) e
-
-          long-still : length out' ≡ length out
-          long-still = put-length out part (15 * n) 15 room-for-one size
-
-          -- No hub is open yet.
-          pub onward : opens_hub q ≡ false → Upto r₀ piece out₀ read.reader out' (n + 1) (i + 1)
-          onward o =
-              record {
-                within = omega arith;
-                kept = subst Kept (sym is) (past-kept chunk r u.kept);
-                long = long-still ∙ u.long;
-                room = omega (arith, u.room, long-still);
-                reader = is ∙ sym past-so-far;
-                count = count';
-                none = hub' ∙ stays-shut q o;
-                same = out'-is;
-                ahead =
-                    ap (λ (q : Reader). i + 1 + until_open q (drop (i + 1) piece)) (is ∙ next-is)
-                    ∙ sym (ahead-is ∙ rw (ends, o)) ∙ u.ahead;
-              }
-
-          -- This line opens it.
-          pub opened : opens_hub q ≡ true → (h₀ : Hub) → h₀ ≡ unopened → (h : Hub)
-              → h ≡ (before_open q).hub
-              → Stops h₀ r₀ piece out₀
-              (record { hub = h; reader = read.reader; read = i + 1; lines = n + 1 }) out'
-          opened o h₀ none h g =
-              let here : i + 1 ≡ until_open r₀ piece = nought i ∙ sym (ahead-is ∙ rw (ends, o)) ∙ u.ahead in
-              let s = stops r₀ piece out₀ (i + 1) here in
-              subst
-              (λ (h₀ : Hub). Stops h₀ r₀ piece out₀
-              (record { hub = h; reader = read.reader; read = i + 1; lines = n + 1 }) out')
-              (sym none) (
-                (λ j. record {
-                  hub = (g ∙ sym hub') j;
-                  reader = (is ∙ sym past-so-far) j;
-                  read = i + 1;
-                  lines = count' j;
-                })
-                    ∙ s.0,
-                out'-is
-                    ∙ ap (λ (k : ℕ). lines unopened (asked r₀ (take (i + 1) piece)) ++ drop (15 * k) out₀)
-                    count'
-                    ∙ s.1,
-              )
-            where
-              nought : (i : ℕ) → i + 1 ≡ i + 1 + 0
-              nought i = omega arith
+          where
+            nought : (i : ℕ) → i + 1 ≡ i + 1 + 0
+            nought i = omega arith

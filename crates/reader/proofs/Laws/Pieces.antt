@@ -86,7 +86,7 @@ pub record Kept (r : Reader) : Type 0 where
   pub size : length r.line ≡ KEPT
   pub short : r.len ≤ KEPT
 
-pushed-kept : (r : Reader) (c : ℕ) → Kept r → Kept (pushed r c)
+pub pushed-kept : (r : Reader) (c : ℕ) → Kept r → Kept (pushed r c)
 pushed-kept r c k = pushes (ltb r.len KEPT) refl
   where
     pushes : (b : Bool) → ltb r.len KEPT ≡ b
