@@ -1,16 +1,16 @@
 -- A run over an input that comes in pieces, and what makes the pieces one.
-use Rattle.std.specs.Prelude.{ℕ, ◌≤◌, ◌≡◌, cond, List, [], ◌∷◌, ◌++◌, eqb, length, replicate}
+use Rattle.std.specs.Prelude.{ℕ, ◌≤◌, ◌≡◌, cond, List, [], ◌∷◌, ◌++◌, eqb, length}
 use Rattle.encoding.specs.Form.{as_text}
 use Rattle.line.specs.Program.{unopened, replies_in, after, closing, output_of}
 use Rattle.line.specs.Requests.{Request, request_of}
 use Rattle.reader.specs.declared.Reader.{Reader}
 use Rattle.frame.specs.declared.session.Session.{Session}
 use Rattle.beforeopen.specs.Opening.{SessionHub}
-use Rattle.reader.specs.Reading.{KEPT, line_in, past, asked}
+use Rattle.reader.specs.Reading.{KEPT, at_line_start, line_in, past, asked}
 
 -- Before the first piece.
 abbrev pub at_start : Session
-at_start = record { hub = unopened; reader = record { line = replicate KEPT 0; len = 0 } }
+at_start = record { hub = unopened; reader = at_line_start }
 
 -- Past a piece, and what is printed for it.
 unfoldable pub fed : Session → List ℕ → Session

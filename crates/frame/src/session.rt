@@ -10,7 +10,7 @@ use beforeopen::opening::{is_open, until_open};
 use hub::Hub;
 use line::values;
 use openhub::sized;
-use reader::{KEPT, Reader, read_piece};
+use reader::{Reader, read_piece};
 use requests::answer_requests;
 use writer::form::Text;
 
@@ -34,10 +34,7 @@ pub fn begin() -> Session
 {
     Session {
         hub: Hub::open(sized(0, 0)),
-        reader: Reader {
-            line: [0; KEPT],
-            len: 0,
-        },
+        reader: Reader::new(),
     }
 }
 
@@ -57,16 +54,13 @@ fn feed_open(session: Session, piece: &[u8], requests: &mut [u8], out: &mut [u8]
         × (out.new ≡ told session piece.now
         ++ drop (15 * length (asked session.reader piece.now)) out.old) }
 {
-    let reader = session.reader;
     let table = values::table();
-    let read = read_piece(&table, reader, piece, requests);
-    let lines = read.count;
-    let before = session.hub;
-    let hub = answer_requests::<Text>(before, requests, lines, out);
-    let past = read.reader;
+    let read = read_piece(&table, session.reader, piece, requests);
+    let hub = answer_requests::<Text>(session.hub, requests, read.count, out);
+    let reader = read.reader;
     Fed {
-        session: Session { hub, reader: past },
-        lines,
+        session: Session { hub, reader },
+        lines: read.count,
     }
 }
 
@@ -85,29 +79,21 @@ pub fn feed(session: Session, piece: &[u8], requests: &mut [u8], out: &mut [u8])
         × (out.new ≡ told session piece.now
         ++ drop (15 * length (asked session.reader piece.now)) out.old) }
 {
-    let hub = session.hub;
-    let reader = session.reader;
-    let begun = until_open(hub, reader, piece, out);
-    let lines = begun.lines;
-    let opened = begun.hub;
-    let current = begun.reader;
+    let begun = until_open(session.hub, session.reader, piece, out);
     let early = Session {
-        hub: opened,
-        reader: current,
+        hub: begun.hub,
+        reader: begun.reader,
     };
-    if !is_open(opened) {
+    if !is_open(early.hub) {
         return Fed {
             session: early,
-            lines,
+            lines: begun.lines,
         };
     }
-    let from = begun.read;
-    let at = 15 * lines;
-    let end = out.len();
-    let rest = feed_open(early, &piece[from..], requests, &mut out[at..end]);
-    let past = rest.session;
+    let left = &mut out[15 * begun.lines..];
+    let rest = feed_open(early, &piece[begun.read..], requests, left);
     Fed {
-        session: past,
-        lines: lines + rest.lines,
+        session: rest.session,
+        lines: begun.lines + rest.lines,
     }
 }

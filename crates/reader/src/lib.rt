@@ -110,8 +110,8 @@ pub fn read_piece(values: &[u16; 256], reader: Reader, piece: &[u8], requests: &
     let mut current = reader;
     let mut count: usize = 0;
     let mut rest = piece;
-    while let [c, after @ ..] = rest {
-        rest = after;
+    while let [c, others @ ..] = rest {
+        rest = others;
         if *c != b'\n' {
             current.keep(*c);
             continue;

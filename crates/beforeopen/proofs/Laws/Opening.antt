@@ -36,7 +36,7 @@ use Rattle.reader.specs.Reading.{line_in, pushed, emptied, next, past, asked}
 use Rattle.reader.proofs.Laws.Pieces.{Kept, pushed-kept}
 use Rattle.beforeopen.proofs.Laws.Appended.{lines, replies-append, after-append}
 use Rattle.beforeopen.proofs.Laws.Appended.{past-append, asked-append}
-use Rattle.beforeopen.proofs.Laws.Sizes.{replies-size, asked-few}
+use Rattle.beforeopen.proofs.Laws.Sizes.{replies-size}
 
 not-both : {A : Type 0} {b : Bool} → b ≡ true → b ≡ false → A
 not-both e f = let z : ◌≡◌ {A = ℕ} 0 1 = cc in let y : ⊥ = omega arith in absurd y

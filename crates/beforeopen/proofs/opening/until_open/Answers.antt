@@ -1,11 +1,10 @@
 -- `until_open` meets its contract: what the characters read so far came to, and how far it is to the
 -- line that opens a hub.
-use Rattle.std.proofs.Common.{rules, arith, ◌≡◌, ◌+◌, ◌*◌, ◌≤◌, ◌<◌, length, ℕ, List, Option}
+use Rattle.std.proofs.Common.{rules, arith, ◌≡◌, ◌+◌, ◌*◌, ◌≤◌, length, ℕ, List}
 use mathlib.Core.Path.{sym, ap, ◌∙◌}
-use Rattle.hub.specs.declared.record.Hub.{Hub}
 use Rattle.encoding.specs.Form.{as_text}
 use Rattle.line.specs.Program.{unopened, before_open, reply_in}
-use Rattle.line.specs.Requests.{Request, request_of}
+use Rattle.line.specs.Requests.{request_of}
 use Rattle.reader.specs.Reading.{line_in}
 use Rattle.beforeopen.specs.Opening.{hub_opened}
 use Rattle.beforeopen.proofs.Laws.Opening.{session-shut, already-open, start, ended, within-line, room-for-one}

@@ -30,9 +30,9 @@ returns-then-not-is_open c =
     feeds-early (early (goal.at.returns-then-not-is_open c).After-until_open-begun)
     (sym c.is_open.ensures ∙ not-true _ c.if-not-is_open.true-raw) _
 
-pub overflow_mul-at : goal.overflow_mul-at
-overflow_mul-at c =
-    omega (arith, lines-few (early (goal.at.overflow_mul-at c).After-until_open-begun), c.well_formed)
+pub overflow_mul-left : goal.overflow_mul-left
+overflow_mul-left c =
+    omega (arith, lines-few (early (goal.at.overflow_mul-left c).After-until_open-begun), c.well_formed)
 
 pub slice_bounds-feed_open-count : goal.slice_bounds-feed_open-count
 slice_bounds-feed_open-count c =
@@ -42,13 +42,13 @@ pub slice_bounds-feed_open-start : goal.slice_bounds-feed_open-start
 slice_bounds-feed_open-start c =
     omega (arith, read-few (early (goal.at.slice_bounds-feed_open-start c).After-until_open-begun))
 
-pub slice_bounds-feed_open-count-2 : goal.slice_bounds-feed_open-count-2
-slice_bounds-feed_open-count-2 c =
-    omega (arith, lines-few (early (goal.at.slice_bounds-feed_open-count-2 c).After-until_open-begun))
+pub slice_bounds-left-count : goal.slice_bounds-left-count
+slice_bounds-left-count c =
+    omega (arith, lines-few (early (goal.at.slice_bounds-left-count c).After-until_open-begun))
 
-pub slice_bounds-feed_open-start-2 : goal.slice_bounds-feed_open-start-2
-slice_bounds-feed_open-start-2 c =
-    omega (arith, lines-few (early (goal.at.slice_bounds-feed_open-start-2 c).After-until_open-begun))
+pub slice_bounds-left-start : goal.slice_bounds-left-start
+slice_bounds-left-start c =
+    omega (arith, lines-few (early (goal.at.slice_bounds-left-start c).After-until_open-begun))
 
 pub feed_open-rest-requires : goal.feed_open-rest-requires
 feed_open-rest-requires c =
