@@ -1,6 +1,6 @@
 -- The whole output, and a run over an input that comes in pieces.
-use Rattle.std.specs.Prelude.{ℕ, ◌≤◌, ◌≡◌, List, [], ◌∷◌, ◌++◌, map, length, replicate}
-use Rattle.reader.specs.Reading.{KEPT, asked, past}
+use Rattle.std.specs.Prelude.{ℕ, ◌≤◌, ◌≡◌, List, [], ◌∷◌, ◌++◌, map, length}
+use Rattle.reader.specs.Reading.{KEPT, asked, at_line_start, past}
 use Rattle.frame.specs.Session.{joined, rest}
 use Rattle.line.specs.Program.{lines_of}
 use Rattle.line.specs.Requests.{Request, request_of}
@@ -26,7 +26,7 @@ output_of input = said no_line (map request_of (lines_of input))
 
 -- Before the first piece.
 abbrev pub at_start : Session
-at_start = record { line = no_line; reader = record { line = replicate KEPT 0; len = 0 } }
+at_start = record { line = no_line; reader = at_line_start }
 
 -- Past a piece, and what is printed for it; at the end a line left without its end mark counts.
 unfoldable pub fed : Session → List ℕ → Session

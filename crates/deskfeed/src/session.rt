@@ -8,7 +8,7 @@ ghost use Rattle.deskline.specs.Text.{LONGEST_TEXT};
 use deskline::text::put_line_text;
 use deskreply::reply_to;
 use openhub::sized;
-use reader::{KEPT, Reader};
+use reader::Reader;
 use screen::Line;
 
 // The screen's line, and the line of text that is being read.
@@ -31,10 +31,7 @@ pub fn begin() -> Session
 {
     Session {
         line: Line::open(sized(0, 0)),
-        reader: Reader {
-            line: [0; KEPT],
-            len: 0,
-        },
+        reader: Reader::new(),
     }
 }
 
@@ -49,35 +46,22 @@ pub fn feed(session: Session, piece: &[u8], out: &mut [u8]) -> Fed
         × (out.new ≡ told session piece.now
         ++ drop (length (told session piece.now)) out.old) }
 {
-    let reader = session.reader;
     let mut line = session.line;
-    let mut text = reader.line;
-    let mut len = reader.len;
-    let mut at: usize = 0;
-    let mut i: usize = 0;
-    while i < piece.len() {
-        let c = piece[i];
-        i += 1;
-        if c != 0x0A {
-            if KEPT <= len {
-                continue;
-            }
-            text[len] = c;
-            len += 1;
+    let mut reader = session.reader;
+    let mut size: usize = 0;
+    for c in piece {
+        if *c != b'\n' {
+            reader.keep(*c);
             continue;
         }
-        let reply = reply_to(line, &text[0..len]);
-        at = put_line_text(out, at, reply);
-        let next = reply.line;
-        line = next;
-        len = 0;
+        let reply = reply_to(line, reader.kept());
+        size = put_line_text(out, size, reply);
+        line = reply.line;
+        reader.clear();
     }
     Fed {
-        session: Session {
-            line,
-            reader: Reader { line: text, len },
-        },
-        size: at,
+        session: Session { line, reader },
+        size,
     }
 }
 
@@ -88,10 +72,8 @@ pub fn finish(session: Session, out: &mut [u8]) -> usize
     ensures { (result ≡ length (finished session))
         × (out.new ≡ finished session ++ drop (length (finished session)) out.old) }
 {
-    let len = session.reader.len;
-    if len == 0 {
+    if session.reader.len == 0 {
         return 0;
     }
-    let last = feed(session, b"\n", out);
-    last.size
+    feed(session, b"\n", out).size
 }

@@ -6,13 +6,15 @@ use mathlib.Core.List.{List, [], ◌∷◌, ◌++◌, append_assoc, append-nil}
 use native.Mathlib.Numerals.{add-one}
 use native.Mathlib.Omega.{arith}
 use borrow.Author.Tests.{eq-eqb, ne_eqb}
-use lib.ListN.{length, get_or, drop, drop_of_length-le, length-replicate, length-set, set}
+use lib.Dec.{eqb}
+use lib.ListN.{length, get_or, drop, drop_of_length-le, length-replicate}
 use lib.Seq.{drop-cons}
 use Rattle.hub.specs.declared.opening.Opening.{Opening}
+use Rattle.hub.proofs.Laws.Bools.{if-true, if-false}
 use Rattle.hub.specs.Opening.{all_passed, nobody, tests}
 use Rattle.reader.specs.declared.Reader.{Reader}
-use Rattle.reader.specs.Reading.{KEPT, asked, emptied, line_in, next, past}
-use Rattle.reader.proofs.Laws.Pieces.{asked-end, asked-within, ended, full, kept, past_one}
+use Rattle.reader.specs.Reading.{KEPT, asked, emptied, line_in, next, past, pushed}
+use Rattle.reader.proofs.Laws.Pieces.{Kept, pushed-kept, asked-end, asked-within, past_one}
 use Rattle.line.specs.Requests.{Request, request_of}
 use Rattle.screen.specs.declared.record.Line.{Line}
 use Rattle.screen.specs.declared.record.Operation.{Operation}
@@ -112,11 +114,13 @@ module _ {l₀ : Line} {r₀ : Reader} {piece out₀ : List ℕ} {l : Line} {r :
   here h = rw (add-one, drop-cons piece i 0 h)
 
   -- A character within a line.
-  onward : i < length piece → (get_or piece i 0 ≡ 0x0A → ⊥) → (q : Reader) → q.len ≤ KEPT
-      → length q.line ≡ KEPT → next r (get_or piece i 0) ≡ q → Upto l₀ r₀ piece out₀ l q out at (i + 1)
-  onward h f q s t e =
+  pub onward : i < length piece → (get_or piece i 0 ≡ 0x0A → ⊥) → {q : Reader}
+      → q ≡ pushed r (get_or piece i 0) → Upto l₀ r₀ piece out₀ l q out at (i + 1)
+  onward h f {q} x =
       let c = get_or piece i 0 in
       let cs = drop (i + 1) piece in
+      let e : next r c ≡ q = if-false (eqb c 0x0A) _ _ (ne_eqb c 0x0A f) ∙ sym x in
+      let k : Kept q = subst Kept (sym x) (pushed-kept r c (record { size = u.size; short = u.short })) in
       let a : asked r (drop i piece) ≡ asked q cs =
       ap (asked r) (here h) ∙ asked-within r c cs (ne_eqb c 0x0A f) ∙ ap (λ (p : Reader). asked p cs) e in
       record {
@@ -124,8 +128,8 @@ module _ {l₀ : Line} {r₀ : Reader} {piece out₀ : List ℕ} {l : Line} {r :
         text = u.text;
         within = omega arith;
         printable = u.printable;
-        short = s;
-        size = t;
+        short = k.short;
+        size = k.size;
         room = u.room;
         long = u.long;
         small = u.small;
@@ -137,15 +141,8 @@ module _ {l₀ : Line} {r₀ : Reader} {piece out₀ : List ℕ} {l : Line} {r :
         sum = ap (λ (x : List Request). u.text ++ said l x) (sym a) ∙ u.sum;
       }
 
-  pub char-kept : i < length piece → (get_or piece i 0 ≡ 0x0A → ⊥) → r.len < KEPT
-      → Upto l₀ r₀ piece out₀ l (record { line = set r.line r.len (get_or piece i 0); len = r.len + 1 }) out at
-      (i + 1)
-  char-kept h f m =
-      onward h f _ (omega arith) (length-set r.line r.len (get_or piece i 0) ∙ u.size) (kept r _ f m)
-
-  pub char-lost : i < length piece → (get_or piece i 0 ≡ 0x0A → ⊥) → KEPT ≤ r.len
-      → Upto l₀ r₀ piece out₀ l r out at (i + 1)
-  char-lost h f m = onward h f r u.short u.size (full r _ f m)
+  ended : get_or piece i 0 ≡ 0x0A → next r (get_or piece i 0) ≡ emptied r
+  ended f = if-true (eqb (get_or piece i 0) 0x0A) _ _ (eq-eqb (get_or piece i 0) 0x0A f)
 
   asked_here : i < length piece → get_or piece i 0 ≡ 0x0A
       → asked r (drop i piece) ≡ request_of (line_in r) ∷ asked (emptied r) (drop (i + 1) piece)
@@ -153,7 +150,7 @@ module _ {l₀ : Line} {r₀ : Reader} {piece out₀ : List ℕ} {l : Line} {r :
       let c = get_or piece i 0 in
       let cs = drop (i + 1) piece in
       ap (asked r) (here h) ∙ asked-end r c cs (eq-eqb c 0x0A f)
-      ∙ ap (λ (p : Reader). request_of (line_in r) ∷ asked p cs) (ended r c f)
+      ∙ ap (λ (p : Reader). request_of (line_in r) ∷ asked p cs) (ended f)
 
   -- There is room for one line more.
   pub line-room : i < length piece → get_or piece i 0 ≡ 0x0A → at + LONGEST_TEXT ≤ length out
@@ -161,12 +158,12 @@ module _ {l₀ : Line} {r₀ : Reader} {piece out₀ : List ℕ} {l : Line} {r :
       omega (arith, u.room, u.long, u.small, u.count, ap length (asked_here h f))
 
   -- The end of a line: it is answered, and the answer is printed.
-  pub line-end : i < length piece → get_or piece i 0 ≡ 0x0A → (a : DeskReply)
+  answered : i < length piece → get_or piece i 0 ≡ 0x0A → (a : DeskReply)
       → a ≡ reply_to l (asked_by (request_of (line_in r))) → (end : ℕ) (v : List ℕ) → end ≡ at + length (line_text a)
       → v ≡ put_at at (line_text a) out → end ≤ at + LONGEST_TEXT
       → Upto l₀ r₀ piece out₀ a.line (emptied r) v end (i + 1)
   unfolding said left
-  line-end h f a e end v x y z =
+  answered h f a e end v x y z =
       let c = get_or piece i 0 in
       let cs = drop (i + 1) piece in
       let rs = asked (emptied r) cs in
@@ -183,7 +180,7 @@ module _ {l₀ : Line} {r₀ : Reader} {piece out₀ : List ℕ} {l : Line} {r :
         long = ap length y ∙ put-at-length out (line_text a) at (omega (arith, x)) ∙ u.long;
         small = omega (arith, u.small);
         reader =
-            sym (ap (past r) (here h) ∙ past_one r c cs ∙ ap (λ (p : Reader). past p cs) (ended r c f))
+            sym (ap (past r) (here h) ∙ past_one r c cs ∙ ap (λ (p : Reader). past p cs) (ended f))
             ∙ u.reader;
         line = ap (λ (p : DeskReply). left p.line rs) e ∙ ap (left l) (sym b) ∙ u.line;
         count = omega (arith, u.count, ap length b);
@@ -194,6 +191,13 @@ module _ {l₀ : Line} {r₀ : Reader} {piece out₀ : List ℕ} {l : Line} {r :
             ∙ ap (λ (q : List Request). u.text ++ said l q) (sym b)
             ∙ u.sum;
       }
+
+  pub line-end : i < length piece → get_or piece i 0 ≡ 0x0A → (a : DeskReply)
+      → a ≡ reply_to l (asked_by (request_of (line_in r))) → (end : ℕ) (v : List ℕ) → end ≡ at + length (line_text a)
+      → v ≡ put_at at (line_text a) out → end ≤ at + LONGEST_TEXT → {q : Reader} → q ≡ emptied r
+      → Upto l₀ r₀ piece out₀ a.line q v end (i + 1)
+  line-end h f a e end v x y z {q} k =
+      subst (λ (p : Reader). Upto l₀ r₀ piece out₀ a.line p v end (i + 1)) (sym k) (answered h f a e end v x y z)
 
 -- At the end of the piece.
 pub finished : (s : Session) (piece out₀ : List ℕ) {l : Line} {r : Reader} {out : List ℕ} {at i : ℕ}
