@@ -1,5 +1,5 @@
 -- `open_as` meets its contract: the hub and the answer are those of what the line asks for.
-use Rattle.std.proofs.Common.{ap, sym, ◌∙◌}
+use Rattle.std.proofs.Common.{ap, ◌∙◌}
 use Rattle.hub.specs.declared.record.Outcome.{Outcome}
 use Rattle.hub.specs.Answers.{Printed, printed}
 use Rattle.encoding.specs.Form.{as_text}
@@ -16,7 +16,7 @@ returns-in-Ok c =
     let outcome = c.in-Ok.ensures.outcome in
     let e = c.read_opening.ensures in (
       is-opened (request_of c.args.line.now)
-          (ap (λ (x : Outcome). x.hub) outcome ∙ ap (λ (q : Request). (before_open q).hub) e) (is-open _ outcome),
+          (ap (λ (x : Outcome). x.hub) outcome ∙ ap (λ (q : Request). (before_open q).hub) e) (is-open c.read_opening.result outcome),
       c.put_line.ensures
           ∙ ap (λ (x : Printed). text_of (frame_of 0xFF x))
           (c.print_of.ensures ∙ ap (λ (x : Outcome). printed x.answer) outcome)
