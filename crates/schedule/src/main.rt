@@ -2,114 +2,48 @@
 
 #![tactic(auto)]
 
-ghost use Rattle.std.specs.Prelude.{◌*◌, ◌≤◌, length};
 ghost use Rattle.frame.specs.Session.{Sound};
 
-use closing::finish;
-use frame::session::{Session, begin, feed};
-use std::io::Read;
+use frame::session::{self, Session};
+use stream::{Answerer, run};
 
-// The session past a piece. Without more there is nothing to read; a run is whole as long as
-// every piece was read and every answer written.
-#[derive(Clone, Copy)]
-pub struct Taken {
-    pub session: Session,
-    pub more: bool,
-    pub whole: bool,
-}
-
-// Writes the lines that stand at the start of a buffer, of fifteen characters each.
-fn print(rt: &HostRuntime, out: &[u8], lines: usize) -> bool {
-    if out.len() / 15 < lines {
-        return false;
-    }
-    let end = 15 * lines;
-    if rt.write_all(&out[0..end]).is_err() {
-        let _ = rt.eprintln("schedule: standard output could not be written");
-        return false;
-    }
-    true
-}
-
-// Reads once, answers the lines that end in what came, and writes the answers.
-fn take_piece(
-    rt: &HostRuntime,
+// The session, and room for what the lines of a piece ask.
+#[derive(Drop)]
+struct Schedule {
     session: Session,
-    piece: &mut [u8],
-    requests: &mut [u8],
-    out: &mut [u8],
-) -> Taken
-    requires sound { Sound session }
-    requires piece_in_bounds { 2 * length piece.old ≤ length requests.old }
-    requires piece_in_bounds_2 { 15 * length piece.old ≤ length out.old }
-    ensures { Sound result.session }
-{
-    let Ok(n) = rt.stdin().read(piece) else {
-        let _ = rt.eprintln("schedule: standard input could not be read");
-        return Taken {
-            session,
-            more: false,
-            whole: false,
-        };
-    };
-    if n == 0 {
-        return Taken {
-            session,
-            more: false,
-            whole: true,
-        };
+    requests: [u8; 8192],
+}
+
+impl Answerer for Schedule {
+    ghost sound = { λ s. Sound s.session };
+
+    ghost longest = { 4096 };
+
+    // An answer has fifteen characters, and there is no more than one for a character.
+    ghost width = { 15 };
+
+    // The answer to a last line without its end mark, and the closing line.
+    ghost last = { 30 };
+
+    fn feed(&mut self, piece: &[u8], out: &mut [u8]) -> usize {
+        let fed = session::feed(self.session, piece, &mut self.requests, out);
+        self.session = fed.session;
+        15 * fed.lines
     }
-    let fed = feed(session, &piece[0..n], requests, out);
-    let past = fed.session;
-    let written = print(rt, out, fed.lines);
-    Taken {
-        session: past,
-        more: written,
-        whole: written,
+
+    fn finish(&mut self, out: &mut [u8]) -> usize {
+        15 * closing::finish(self.session, out)
     }
 }
 
-// Answers a last line without its end mark, and closes.
-fn close(rt: &HostRuntime, session: Session)
-    requires { Sound session }
-{
-    let mut out = [0u8; 30];
-    let lines = finish(session, &mut out);
-    print(rt, &out, lines);
-}
-
-// Piece after piece. A proved loop has to end, so they are counted up to a number that no input
-// reaches.
-fn take_all(rt: &HostRuntime, piece: &mut [u8], requests: &mut [u8], out: &mut [u8]) -> Taken
-    requires piece_in_bounds { 2 * length piece.old ≤ length requests.old }
-    requires piece_in_bounds_2 { 15 * length piece.old ≤ length out.old }
-    ensures { Sound result.session }
-{
-    let mut session = begin();
-    for _ in 0..u64::MAX {
-        let taken = take_piece(rt, session, piece, requests, out);
-        if !taken.more {
-            return taken;
-        }
-        let past = taken.session;
-        session = past;
-    }
-    Taken {
-        session,
-        more: true,
-        whole: false,
-    }
-}
-
-// Where reading or writing fails the program has said so, and the closing line is left out: what was
+// Where reading or writing fails the program says so, and the closing line is left out: what was
 // printed is not whole.
 fn main(rt: HostRuntime) {
-    let mut piece = [0u8; 4096];
-    let mut requests = [0u8; 8192];
-    let mut out = [0u8; 61440];
-    let taken = take_all(&rt, &mut piece, &mut requests, &mut out);
-    if taken.whole {
-        let session = taken.session;
-        close(&rt, session);
+    let mut schedule = Schedule {
+        session: session::begin(),
+        requests: [0; 8192],
+    };
+    if let Err(why) = run(&rt, &mut schedule, &mut [0; 4096], &mut [0; 61440]) {
+        let _ = eprintln!(rt; "schedule: {why}");
     }
 }

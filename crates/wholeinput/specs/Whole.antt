@@ -1,6 +1,11 @@
 -- A whole input into a buffer.
-use Rattle.std.specs.Prelude.{ℕ, Bool, cond, List, ◌++◌, leb, length, drop}
+use Rattle.std.specs.Prelude.{ℕ, Bool, false, not, cond, List, [], ◌∷◌, ◌++◌, eqb, leb, length, drop, slice_index}
 use Rattle.line.specs.Program.{output_of}
+
+-- Is the last line of an input left without its end mark?
+abbrev pub unended : List ℕ → Bool
+unended [] = false
+unended (c ∷ cs) = not (eqb (slice_index (c ∷ cs) (length cs)) 0x0A)
 
 -- Is there room for the whole output?
 abbrev pub has_room : List ℕ → List ℕ → Bool

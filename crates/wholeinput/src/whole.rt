@@ -1,43 +1,32 @@
 // A whole input into a buffer.
 
-ghost use Rattle.std.specs.Prelude.{◌≡◌, ◌++◌, ◌-◌, ◌≤◌, ◌<◌, length, drop};
+ghost use Rattle.std.specs.Prelude.{◌≡◌, ◌++◌, ◌≤◌, eqb, length, drop};
+ghost use Rattle.std.specs.List.{count_by};
 ghost use Rattle.line.specs.Program.{lines_of, output_of};
-ghost use Rattle.wholeinput.specs.Whole.{filled, size};
+ghost use Rattle.wholeinput.specs.Whole.{filled, size, unended};
 
 use closing::finish;
 use frame::session::{begin, feed};
+
+// The lines that end in an input.
+fn count_ended(input: &[u8]) -> usize
+    ensures { result ≡ count_by (λ c. eqb c 0x0A) input.now }
+{
+    input.iter().filter(|c| **c == b'\n').count()
+}
+
+// Is the last line left without its end mark?
+fn is_unended(input: &[u8]) -> bool
+    ensures { result ≡ unended input.now }
+{
+    matches!(input, [.., last] if *last != b'\n')
+}
 
 // The lines of an input; one left without its end mark counts.
 fn count_lines(input: &[u8]) -> usize
     ensures { result ≡ length (lines_of input.now) }
 {
-    let mut ended: usize = 0;
-    let mut within: usize = 0; // 1 within a line
-    let mut i: usize = 0;
-    while i < input.len() {
-        let c = input[i];
-        i += 1;
-        if c == 0x0A {
-            ended += 1;
-            within = 0;
-            continue;
-        }
-        within = 1;
-    }
-    ended + within
-}
-
-// Where the piece that begins at `from` ends.
-fn piece_end(from: usize, len: usize) -> usize
-    requires { from < len }
-    ensures later { from < result }
-    ensures within { result ≤ len }
-    ensures small { result - from ≤ 4096 }
-{
-    if len - from <= 4096 {
-        return len;
-    }
-    from + 4096
+    count_ended(input) + usize::from(is_unended(input))
 }
 
 // What the lines of a piece ask goes to `requests`, which nobody reads afterwards.
@@ -47,21 +36,14 @@ fn write_output(input: &[u8], requests: &mut [u8], out: &mut [u8])
     ensures { out.new
         ≡ output_of input.now ++ drop (length (output_of input.now)) out.old }
 {
-    let end = out.len();
     let mut session = begin();
     let mut lines: usize = 0;
-    let mut from: usize = 0;
-    while from < input.len() {
-        let to = piece_end(from, input.len());
-        let at = 15 * lines;
-        let fed = feed(session, &input[from..to], requests, &mut out[at..end]);
-        let next = fed.session;
-        session = next;
+    for piece in input.chunks(4096) {
+        let fed = feed(session, piece, requests, &mut out[15 * lines..]);
+        session = fed.session;
         lines += fed.lines;
-        from = to;
     }
-    let at = 15 * lines;
-    finish(session, &mut out[at..end]);
+    finish(session, &mut out[15 * lines..]);
 }
 
 // The whole output of an input, and how many characters it has; without room for all of it

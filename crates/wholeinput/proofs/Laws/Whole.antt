@@ -2,7 +2,7 @@
 use Prim.Native.Nat.{ℕ, suc, ◌+◌, ◌-◌, ◌*◌, ◌/◌, ◌≤◌, ◌<◌}
 use mathlib.Core.Path.{◌≡◌, refl, sym, ap, ◌∙◌, subst}
 use mathlib.Core.Bool.{true, false}
-use mathlib.Core.List.{List, ◌++◌, append_assoc}
+use mathlib.Core.List.{List, [], ◌∷◌, ◌++◌, append_assoc}
 use native.Mathlib.Omega.{arith}
 use borrow.Author.Tests.{le-leb, lt-leb}
 use borrow.Rule.Slice.PartMut.{put_mid}
@@ -39,89 +39,66 @@ over-append a b out =
     ∙ ap (λ (l : List ℕ). a ++ (b ++ l))
     (ap (λ (n : ℕ). drop n out) (length-append a b) ∙ sym (drop-drop (length b) (length a) out))
 
--- With n lines printed and `from` characters read.
-pub record Printing (input out₀ : List ℕ) (s : Session) (out : List ℕ) (n from : ℕ) : Type 0 where
-  pub within : from ≤ length input
+-- With n lines printed, and `rest` of the input still to come.
+pub record Printing (input out₀ : List ℕ) (s : Session) (out : List ℕ) (n : ℕ) (rest_of : List ℕ) : Type 0 where
   pub sound : Sound s
   pub long : length out ≡ length out₀
-  pub room : 15 * n + length (wholly s (drop from input)) ≤ length out
-  pub same : take (15 * n) out ++ over (wholly s (drop from input)) (drop (15 * n) out)
+  pub room : 15 * n + length (wholly s rest_of) ≤ length out
+  pub same : take (15 * n) out ++ over (wholly s rest_of) (drop (15 * n) out)
       ≡ over (output_of input) out₀
 
-pub nothing-printed : (input out : List ℕ) → length (output_of input) ≤ length out
-    → Printing input out at_start out 0 0
-nothing-printed input out l =
-    record {
-      within = omega arith;
+pub nothing-printed : (input out : List ℕ) → length (output_of input) ≤ length out → {s : Session} → s ≡ at_start
+    → {rest_of : List ℕ} → rest_of ≡ input → Printing input out s out 0 rest_of
+nothing-printed input out l {s} e {rest_of} f =
+    subst (λ (s : Session). Printing input out s out 0 rest_of) (sym e)
+    (subst (Printing input out at_start out 0) (sym f)
+    (record {
       sound = start-sound;
       long = refl;
       room = omega (arith, ap length (in_one input));
       same = ap (λ (t : List ℕ). over t out) (in_one input);
-    }
+    }))
 
-module _ (input out₀ : List ℕ) (s : Session) (out : List ℕ) (n from : ℕ)
-    (u : Printing input out₀ s out n from) where
+module _ {input out₀ : List ℕ} {s : Session} {out : List ℕ} {n : ℕ} {rest_of : List ℕ}
+    (u : Printing input out₀ s out n rest_of) where
   -- The part of the buffer that is lent.
   abbrev lent : List ℕ
-  lent = take (length out₀ - 15 * n) (drop (15 * n) out)
+  lent = take (length out - 15 * n) (drop (15 * n) out)
 
   lent_is : lent ≡ drop (15 * n) out
-  lent_is = take_all (length out₀ - 15 * n) (drop (15 * n) out) (simp length-drop (omega (arith, u.long)))
+  lent_is = take_all (length out - 15 * n) (drop (15 * n) out) (simp length-drop (omega arith))
 
-  lent-size : length lent ≡ length out₀ - 15 * n
-  lent-size = ap length lent_is ∙ length-drop (15 * n) out ∙ ap (λ (m : ℕ). m - 15 * n) u.long
+  lent-size : length lent ≡ length out - 15 * n
+  lent-size = ap length lent_is ∙ length-drop (15 * n) out
 
   pub before-end : 15 * n ≤ length out
   before-end = omega (arith, u.room)
 
-  module _ (to : ℕ) (a : from ≤ to) (b : to ≤ length input) where
-    abbrev piece : List ℕ
-    piece = take (to - from) (drop from input)
-
+  -- One piece of what is still to come.
+  module _ (piece others : List ℕ) (joins : rest_of ≡ piece ++ others) where
     abbrev k : ℕ
     k = length (asked s.reader piece)
 
-    -- A piece is short, so that what it asks has room.
-    module _ (m : ℕ) (short : to - from ≤ 4096) (l : 8192 ≤ m) where
-      pub piece-fits : 2 * length piece ≤ m
-      piece-fits =
-          omega (
-            arith,
-            length-take-le (to - from) (drop from input) (simp length-drop (omega arith)),
-          )
+    cut : wholly s rest_of ≡ told s piece ++ wholly (fed s piece) others
+    cut = ap (wholly s) joins ∙ wholly-append s piece others
 
-      pub asked-fits : 2 * length (asked_open s.hub s.reader piece) ≤ m
-      asked-fits = omega (arith, piece-fits, asked-few piece s.reader, asked-count s piece)
-
-    cut : wholly s (drop from input) ≡ told s piece ++ wholly (fed s piece) (drop to input)
-    cut =
-        ap (wholly s)
-        (sym (take-append-drop (to - from) (drop from input))
-        ∙ ap (λ (l : List ℕ). piece ++ l)
-        (drop-drop (to - from) from input ∙ ap (λ (m : ℕ). drop m input) (up from to a)))
-        ∙ wholly-append s piece (drop to input)
-      where
-        up : (x y : ℕ) → x ≤ y → x + (y - x) ≡ y
-        up x y l = omega arith
-
-    cut-size : length (wholly s (drop from input))
-        ≡ 15 * k + length (wholly (fed s piece) (drop to input))
+    cut-size : length (wholly s rest_of) ≡ 15 * k + length (wholly (fed s piece) others)
     cut-size =
         ap length cut
-        ∙ length-append (told s piece) (wholly (fed s piece) (drop to input))
-        ∙ ap (λ (m : ℕ). m + length (wholly (fed s piece) (drop to input))) (told-size s piece)
+        ∙ length-append (told s piece) (wholly (fed s piece) others)
+        ∙ ap (λ (m : ℕ). m + length (wholly (fed s piece) others)) (told-size s piece)
 
     pub piece-room : 15 * k ≤ length lent
-    piece-room = omega (arith, u.room, u.long, cut-size, lent-size)
+    piece-room = omega (arith, u.room, cut-size, lent-size)
 
     module _ (part : List ℕ) (e : part ≡ told s piece ++ drop (15 * k) lent) where
-      part-size : length part ≡ length out₀ - 15 * n
+      part-size : length part ≡ length out - 15 * n
       part-size =
           ap length e ∙ length-append (told s piece) (drop (15 * k) lent)
           ∙ omega (arith, told-size s piece, length-drop (15 * k) lent, piece-room, lent-size)
 
       abbrev out' : List ℕ
-      out' = put_mid (15 * n) (length out₀ - 15 * n) out part
+      out' = put_mid (15 * n) (length out - 15 * n) out part
 
       front : List ℕ
       front = take (15 * n) out ++ told s piece
@@ -129,7 +106,7 @@ module _ (input out₀ : List ℕ) (s : Session) (out : List ℕ) (n from : ℕ)
       out'-is : out' ≡ front ++ drop (15 * k) (drop (15 * n) out)
       unfolding front
       out'-is =
-          tail-put out part (15 * n) (length out₀) before-end u.long part-size
+          tail-put out part (15 * n) (length out) before-end refl part-size
           ∙ ap (λ (l : List ℕ). take (15 * n) out ++ l)
           (e ∙ ap (λ (l : List ℕ). told s piece ++ drop (15 * k) l) lent_is)
           ∙ sym (append_assoc (take (15 * n) out) (told s piece) _)
@@ -142,16 +119,15 @@ module _ (input out₀ : List ℕ) (s : Session) (out : List ℕ) (n from : ℕ)
 
       long-still : length out' ≡ length out
       long-still =
-          ap length (tail-put out part (15 * n) (length out₀) before-end u.long part-size)
-          ∙ tail-size out part (15 * n) (length out₀) before-end u.long part-size
+          ap length (tail-put out part (15 * n) (length out) before-end refl part-size)
+          ∙ tail-size out part (15 * n) (length out) before-end refl part-size
 
-      on : Printing input out₀ (fed s piece) out' (n + k) to
+      on : Printing input out₀ (fed s piece) out' (n + k) others
       unfolding front
       on =
           let rest_out = drop (15 * n) out in
-          let w = wholly (fed s piece) (drop to input) in
+          let w = wholly (fed s piece) others in
           record {
-            within = b;
             sound = fed-sound s piece u.sound;
             long = long-still ∙ u.long;
             room = omega (arith, long-still, cut-size, u.room);
@@ -168,35 +144,38 @@ module _ (input out₀ : List ℕ) (s : Session) (out : List ℕ) (n from : ℕ)
           }
 
       -- What `feed` gave.
-      module _ (r : Fed) (g : r ≡ record { session = fed s piece; lines = k }) where
-        pub printed-on : Printing input out₀ r.session out' (n + r.lines) to
+      module _ {r : Fed} (g : r ≡ record { session = fed s piece; lines = k }) where
+        pub printed-on : Printing input out₀ r.session out' (n + r.lines) others
         printed-on =
-            subst (λ (q : Fed). Printing input out₀ q.session out' (n + q.lines) to) (sym g) on
+            subst (λ (q : Fed). Printing input out₀ q.session out' (n + q.lines) others) (sym g) on
 
-        pub few-lines : n + r.lines ≤ length out₀
-        few-lines = omega (arith, ap (λ (q : Fed). q.lines) g, u.room, u.long, cut-size)
+        pub few-lines : 15 * (n + r.lines) ≤ length out
+        few-lines = omega (arith, ap (λ (q : Fed). q.lines) g, u.room, cut-size)
 
   -- At the end of the input.
-  module _ (no_more : length input ≤ from) where
-    at-end : wholly s (drop from input) ≡ finished s
-    at-end =
-        ap (wholly s) (drop_of_length-le input {i = from} no_more) ∙ sym (one_piece s)
+  module _ (no_more : length rest_of ≡ 0) where
+    at-end : wholly s rest_of ≡ finished s
+    at-end = ap (wholly s) (none rest_of no_more) ∙ sym (one_piece s)
+      where
+        none : (l : List ℕ) → length l ≡ 0 → l ≡ []
+        none [] e = refl
+        none (c ∷ l) e = absurd (omega arith)
 
     pub end-room : 15 * suc (length (rest s.reader)) ≤ length lent
-    end-room = omega (arith, u.room, u.long, ap length at-end, finished-size s, lent-size)
+    end-room = omega (arith, u.room, ap length at-end, finished-size s, lent-size)
 
     pub all-printed : (part : List ℕ)
         → part ≡ finished s ++ drop (15 * suc (length (rest s.reader))) lent
-        → (put_mid (15 * n) (length out₀ - 15 * n) out part ≡ over (output_of input) out₀)
+        → (put_mid (15 * n) (length out - 15 * n) out part ≡ over (output_of input) out₀)
     all-printed part e =
-        tail-put out part (15 * n) (length out₀) before-end u.long part-size
+        tail-put out part (15 * n) (length out) before-end refl part-size
         ∙ ap (λ (l : List ℕ). take (15 * n) out ++ l)
         (e
         ∙ (λ i. finished s ++ drop (sym (finished-size s) i) (lent_is i))
         ∙ ap (λ (t : List ℕ). over t (drop (15 * n) out)) (sym at-end))
         ∙ u.same
       where
-        part-size : length part ≡ length out₀ - 15 * n
+        part-size : length part ≡ length out - 15 * n
         part-size =
             ap length e ∙ length-append (finished s) (drop (15 * suc (length (rest s.reader))) lent)
             ∙ omega (

@@ -1,62 +1,49 @@
 -- `write_output` meets its contract: what is printed and what is still to come are the whole.
-use Prim.Native.Nat.{◌≤◌}
 use native.Mathlib.Omega.{arith}
-use lib.ListN.{length}
-use mathlib.Core.Path.{refl, sym, ap, ◌∙◌, subst}
-use Rattle.frame.specs.declared.session.Session.{Session}
-use Rattle.frame.proofs.Laws.Feeding.{written-size}
-use Rattle.wholeinput.proofs.Laws.Whole.{Printing, nothing-printed, piece-room}
-use Rattle.wholeinput.proofs.Laws.Whole.{piece-fits, asked-fits, printed-on, few-lines, end-room}
-use Rattle.wholeinput.proofs.Laws.Whole.{all-printed}
+use mathlib.Core.Path.{◌∙◌}
+use Rattle.std.proofs.Common.{rules}
+use Rattle.wholeinput.proofs.Laws.Whole.{nothing-printed, before-end, piece-room, printed-on, few-lines}
+use Rattle.wholeinput.proofs.Laws.Whole.{end-room, all-printed}
 use Rattle.wholeinput.proofs.whole.write_output.Goals as goal
 
-pub loop-from-init : goal.loop-from-init
-loop-from-init c =
-    let out = c.args.out.now in (
-      subst (λ (s : Session). Printing c.args.input.now out s out 0 0) (sym c.begin-session.ensures)
-          (nothing-printed _ _ c.requires.input_in_bounds),
-      refl,
-    )
+pub loop-piece-init : goal.loop-piece-init
+loop-piece-init c =
+    record {
+      printing = nothing-printed _ _ c.requires.input_in_bounds c.begin-session.ensures (search rules);
+      size = search rules;
+    }
 
-pub feed-fed-requires : goal.feed-fed-requires
-feed-fed-requires c =
-    let e = c.piece_end-to.ensures in
-    let i = c.loop-from.invariant in
-    let after : c.loop-from.from ≤ c.piece_end-to.result = omega (arith, e.later) in
-    let spare : 8192 ≤ length c.loop-from.requests =
-    omega (arith, i.1, c.requires.in_bounds) in record { sound = i.0.sound; piece_in_bounds = piece-fits _ _ _ _ _ _ i.0 c.piece_end-to.result after e.within _ e.small spare; piece_in_bounds_2 = piece-room _ _ _ _ _ _ i.0 c.piece_end-to.result after e.within }
+pub overflow_mul-lines : goal.overflow_mul-lines
+overflow_mul-lines c = omega (arith, before-end c.loop-piece.invariant.printing, c.well_formed)
+
+pub slice_bounds-feed-count : goal.slice_bounds-feed-count
+slice_bounds-feed-count c = before-end c.loop-piece.invariant.printing
+
+pub feed-fed-requires-clause-sound : goal.feed-fed-requires-clause-sound
+feed-fed-requires-clause-sound c = c.loop-piece.invariant.printing.sound
+
+pub feed-fed-requires-clause-piece_in_bounds_2 : goal.feed-fed-requires-clause-piece_in_bounds_2
+feed-fed-requires-clause-piece_in_bounds_2 c =
+    piece-room c.loop-piece.invariant.printing c.in-Some.piece.now c.next.new.self.rest.now c.in-Some.ensures.steps.1.0
 
 pub overflow_add-lines : goal.overflow_add-lines
 overflow_add-lines c =
-    let e = c.piece_end-to.ensures in
     let few =
-    few-lines _ _ _ _ _ _ c.loop-from.invariant.0 c.piece_end-to.result (omega (arith, e.later)) e.within _
-    c.feed-fed.ensures.2 c.feed-fed.result c.feed-fed.ensures.0 in
+    few-lines c.loop-piece.invariant.printing _ _ c.in-Some.ensures.steps.1.0 _ c.feed-fed.ensures.2
+    c.feed-fed.ensures.0 in
     omega (arith, few, c.well_formed)
 
-pub loop-from-preserved : goal.loop-from-preserved
-loop-from-preserved c =
-    let e = c.piece_end-to.ensures in
-    let i = c.loop-from.invariant in
-    let after : c.loop-from.from ≤ c.piece_end-to.result = omega (arith, e.later) in
-    let spare : 8192 ≤ length c.loop-from.requests =
-    omega (arith, i.1, c.requires.in_bounds) in (
-      printed-on _ _ _ _ _ _ i.0 c.piece_end-to.result after e.within _ c.feed-fed.ensures.2
-          c.feed-fed.result c.feed-fed.ensures.0,
-      ap length c.feed-fed.ensures.1
-          ∙ written-size _ _
-          (asked-fits _ _ _ _ _ _ i.0 c.piece_end-to.result after e.within _ e.small spare)
-          ∙ i.1,
-    )
-
-pub finish-requires : goal.finish-requires
-finish-requires c =
+pub loop-piece-preserved : goal.loop-piece-preserved
+loop-piece-preserved c =
     record {
-      sound = c.loop-from.invariant.0.sound;
-      reader_in_bounds = end-room _ _ _ _ _ _ c.loop-from.invariant.0 c.loop-from-test.false;
+      printing = printed-on c.loop-piece.invariant.printing c.in-Some.piece.now c.next.new.self.rest.now
+          c.in-Some.ensures.steps.1.0 _ c.feed-fed.ensures.2 c.feed-fed.ensures.0;
+      size = c.in-Some.ensures.steps.0 ∙ c.loop-piece.invariant.size;
     }
 
+pub finish-requires-clause-reader_in_bounds : goal.finish-requires-clause-reader_in_bounds
+finish-requires-clause-reader_in_bounds c =
+    end-room c.loop-piece.invariant.printing c.in-None.ensures.steps.1.0
+
 pub returns : goal.returns
-returns c =
-    all-printed _ _ _ _ _ _ c.loop-from.invariant.0 c.loop-from-test.false _
-    c.finish.ensures.1
+returns c = all-printed c.loop-piece.invariant.printing c.in-None.ensures.steps.1.0 _ c.finish.ensures.1
