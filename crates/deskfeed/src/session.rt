@@ -11,7 +11,8 @@ use openhub::sized;
 use reader::Reader;
 use screen::Line;
 
-// The screen's line, and the line of text that is being read.
+// The screen's line, and the line of text that is being read. Of the shape of frame's session, and a
+// type of its own: callers read frame's `hub` by its name, and what each answers is its own definition.
 #[derive(Clone, Copy)]
 pub struct Session {
     pub line: Line,
