@@ -1,19 +1,15 @@
 -- How long the output is: fifteen characters for each line, and as many for the closing line.
-use Prim.Native.Nat.{ℕ, zero, suc, ◌+◌, ◌*◌, ◌≤◌, ◌<◌}
-use mathlib.Core.Path.{◌≡◌, refl, ap, ◌∙◌}
+use Prim.Native.Nat.{ℕ, suc, ◌+◌, ◌*◌, ◌≤◌}
+use mathlib.Core.Path.{◌≡◌, refl, ◌∙◌}
 use mathlib.Core.Bool.{Bool, true, false, cond}
-use mathlib.Core.List.{List, [], ◌∷◌, ◌++◌, map}
+use mathlib.Core.List.{List, [], ◌∷◌, map}
 use native.Mathlib.Omega.{arith}
-use borrow.Author.Tests.{eq-eqb, ne_eqb}
 use lib.Dec.{eqb}
-use lib.ListN.{length, get_or, take, drop, length-append, length-map, drop_of_length-le}
-use lib.ListN.{take-append-drop}
-use lib.Seq.{drop-cons}
+use lib.ListN.{length, length-append, length-map}
 use Rattle.hub.specs.declared.record.Hub.{Hub}
-use Rattle.hub.proofs.Laws.Bools.{if-true, if-false}
 use Rattle.encoding.specs.Form.{as_text}
 use Rattle.line.specs.Program.{unopened, respond, replies, after, rendered, replies_in, closing}
-use Rattle.line.specs.Program.{lines_from, lines_of, output_of}
+use Rattle.line.specs.Program.{lines_of, output_of}
 use Rattle.line.specs.Requests.{Request, request_of}
 use Rattle.reader.specs.declared.Reader.{Reader}
 use Rattle.reader.specs.Reading.{next, asked}
