@@ -6,22 +6,20 @@ use mathlib.Core.List.{List, [], ◌∷◌, ◌++◌, append_assoc}
 use native.Mathlib.Omega.{arith}
 use borrow.Author.Tests.{le-leb, lt-leb}
 use borrow.Rule.Slice.PartMut.{put_mid}
-use lib.ListN.{length, take, drop, length-append, length-drop, take-append-drop}
-use lib.ListN.{drop_of_length-le}
+use lib.ListN.{length, take, drop, length-append, length-drop}
 use lib.Seq.{drop-drop, take_at, drop_at, take_all, length-take-le}
 use Rattle.line.specs.Program.{after, closing, lines_of, output_of}
 use Rattle.frame.specs.declared.session.Fed.{Fed}
 use Rattle.frame.specs.declared.session.Session.{Session}
-use Rattle.beforeopen.specs.Opening.{asked_open}
 use Rattle.reader.specs.Reading.{asked}
 use Rattle.frame.specs.Session.{at_start, fed, told, rest, finished, Sound}
 use Rattle.wholeinput.specs.Whole.{has_room, size, filled}
 use Rattle.hub.proofs.Laws.Bools.{if-true, if-false}
-use Rattle.frame.proofs.Laws.Feeding.{start-sound, fed-sound, asked-count, told-size}
+use Rattle.frame.proofs.Laws.Feeding.{start-sound, fed-sound, told-size}
 use Rattle.frame.proofs.Laws.Feeding.{tail-put, tail-size}
 use Rattle.beforeopen.proofs.Laws.Appended.{lines}
 use Rattle.frame.proofs.Laws.Sessions.{wholly, in_one, wholly-append, one_piece}
-use Rattle.beforeopen.proofs.Laws.Sizes.{replies-size, output-size, asked-few}
+use Rattle.beforeopen.proofs.Laws.Sizes.{replies-size, output-size}
 
 pub finished-size : (s : Session) → length (finished s) ≡ 15 * suc (length (rest s.reader))
 unfolding finished

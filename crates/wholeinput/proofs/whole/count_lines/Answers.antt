@@ -1,5 +1,5 @@
 -- `count_lines` meets its contract: the lines that end, and a last one that does not.
-use Rattle.std.proofs.Common.{ap, cond, refl, ◌≡◌, ◌∙◌, ◌+◌, ℕ, Bool, true, false}
+use Rattle.std.proofs.Common.{ap, cond, refl, ◌≡◌, ◌∙◌, ◌+◌, Bool, true, false}
 use mir.Val.{bool_byte}
 use Rattle.wholeinput.specs.Whole.{unended}
 use Rattle.wholeinput.proofs.Laws.Lines.{lines-are}
