@@ -102,6 +102,7 @@ fn rank(portions: &[Portion], p: usize) -> u32
     before
 }
 
+// `Billable` is asked of each method and is no invariant of `Terms`: `EveryBill` speaks of any terms.
 impl Terms {
     // The links that the n parties got together.
     fn total_grants(&self) -> u64
@@ -153,7 +154,7 @@ impl Terms {
 }
 
 // The bill of n parties for a fee in cents, from answer lines of seven bytes each: the shares in
-// cents, 0 from n up.
+// cents, 0 from n up (fixed memory, so that there are 32 of them).
 #[tactic(auto, unfolding(crate::specs::Bill::answer_to))]
 pub fn share_fee(parties: u8, fee: u32, lines: &[u8]) -> Result<[u32; 32], Refusal>
     ensures { result ≡ answer_to parties fee lines.now }

@@ -92,7 +92,7 @@ impl Book {
         Book { locks: [NONE; 200] }
     }
 
-    // The lock at a door: 0 if none or the door is above 199.
+    // The lock at a door: 0 if none or the door is above 199, as the request has it (`lock_at`).
     #[tactic(auto, unfolding(crate::specs::Book::lock_at))]
     pub fn lock(&self, door: u8) -> u32
         ensures { result ≡ lock_at self.now.locks door }
