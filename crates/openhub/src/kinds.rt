@@ -3,56 +3,37 @@
 ghost use Rattle.std.specs.Prelude.{◌≡◌};
 ghost use Rattle.hub.specs.Kinds.{built_in, has_desk, kind_in, kinds_known};
 
-// 0 desk, 1 door, 2 replacement, 3 battery round.
-const KINDS: [u8; 32] = [
-    0, 0, 0, 0, 0, 0, 0, 0, 1, 1, 1, 1, 1, 1, 1, 1, 1, 1, 1, 1, 1, 1, 1, 1, 1, 1, 1, 1, 2, 2, 3, 3,
-];
+use hub::kinds::Kind;
 
 pub fn built_in() -> [u8; 32]
     ensures { result ≡ built_in }
 {
-    KINDS
+    let mut kinds = [Kind::Desk as u8; 32];
+    kinds[8..28].fill(Kind::Door as u8);
+    kinds[28..30].fill(Kind::Replacement as u8);
+    kinds[30..32].fill(Kind::BatteryRound as u8);
+    kinds
 }
 
 // The kind of a party; past the table, a desk.
+#[tactic(auto, unfolding(hub::specs::Kinds::kind_in))]
 pub fn kind_in(kinds: [u8; 32], party: u8) -> u8
     ensures { result ≡ kind_in kinds party }
 {
-    let p = party as usize;
-    if p < 32 {
-        return kinds[p];
-    }
-    0
+    kinds.get(usize::from(party)).copied().unwrap_or(Kind::Desk as u8)
 }
 
 // Is none above 3? Every one is asked, so that the compiler asks many at once.
 pub fn kinds_known(kinds: [u8; 32]) -> bool
     ensures { result ≡ kinds_known kinds }
 {
-    let mut known = true;
-    let mut i: usize = 0;
-    while i < 32 {
-        let kind = kinds[i];
-        i += 1;
-        if 3 < kind {
-            known = false;
-        }
-    }
-    known
+    kinds.iter().fold(true, |known, kind| known & (*kind <= Kind::BatteryRound as u8))
 }
 
 // Is one of them 0?
+#[tactic(auto, unfolding(hub::specs::Kinds::has_desk))]
 pub fn has_desk(kinds: [u8; 32]) -> bool
     ensures { result ≡ has_desk kinds }
 {
-    let mut found = false;
-    let mut i: usize = 0;
-    while i < 32 {
-        let kind = kinds[i];
-        i += 1;
-        if kind == 0 {
-            found = true;
-        }
-    }
-    found
+    kinds.contains(&(Kind::Desk as u8))
 }

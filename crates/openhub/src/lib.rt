@@ -49,15 +49,13 @@ fn differ(radios: [u8; 32], count: usize) -> bool
     requires { count ≤ 32 }
     ensures { result ≡ differ (take count radios) }
 {
-    let mut met = [0u8; 256];
-    let mut i: usize = 0;
-    while i < count {
-        let radio = radio_index(radios[i]);
-        if met[radio] != 0 {
+    let mut met = [false; 256];
+    for radio in &radios[..count] {
+        let radio = usize::from(*radio);
+        if met[radio] {
             return false;
         }
-        met[radio] = 1;
-        i += 1;
+        met[radio] = true;
     }
     true
 }
@@ -67,8 +65,7 @@ pub fn radios_differ(o: Opening) -> bool
     requires { o.permits ≤ 32 }
     ensures { result ≡ radios_differ o }
 {
-    let radios = o.radios;
-    !o.named || differ(radios, usize::from(o.permits))
+    !o.named || differ(o.radios, usize::from(o.permits))
 }
 
 // Do the kinds of a record fit?
@@ -76,8 +73,7 @@ pub fn radios_differ(o: Opening) -> bool
 pub fn kinds_fit(o: Opening) -> bool
     ensures { result ≡ kinds_fit o }
 {
-    let kinds = o.kinds;
-    o.counted && kinds_known(kinds) && has_desk(kinds)
+    o.counted && kinds_known(o.kinds) && has_desk(o.kinds)
 }
 
 // What the kinds of an opening are refused by: 15, 16 or 17.
@@ -88,11 +84,10 @@ fn check_kinds(o: Opening) -> Result<(), Refusal>
     if !o.counted {
         return Err(Refusal::MiscountedKinds);
     }
-    let kinds = o.kinds;
-    if !kinds_known(kinds) {
+    if !kinds_known(o.kinds) {
         return Err(Refusal::UnknownKind);
     }
-    if !has_desk(kinds) {
+    if !has_desk(o.kinds) {
         return Err(Refusal::NoDesk);
     }
     Ok(())

@@ -136,76 +136,66 @@ differ-end (y ∷ l) x e f = go (among l y) refl (eqb x y) refl e f (differ-end 
         ap (λ (b : Bool). not b && differ (l ++ (x ∷ []))) n ∙ ih e f
 
 -- The first i of the radios l are met, all different, and marked.
-pub record Met (l met : List ℕ) (n i : ℕ) : Type 0 where
+pub record Met (l : List ℕ) (met : List Bool) (i : ℕ) : Type 0 where
   pub size : length met ≡ 256
-  pub within : i ≤ n
-  pub marks : (b : ℕ) → b < 256 → get_or met b 0 ≡ bit (among (take i l) b)
+  pub within : i ≤ length l
+  pub marks : (b : ℕ) → b < 256 → get_or met b false ≡ among (take i l) b
   pub new : differ (take i l) ≡ true
 
-pub met-none : (l : List ℕ) (n : ℕ) → Met l (replicate 256 0) n 0
+pub met-none : (l : List ℕ) → Met l (replicate 256 false) 0
 unfolding differ
-met-none l n =
+met-none l =
     record { size = refl; within = omega arith; marks = λ b i. all 256 b; new = refl }
   where
-    all : (n b : ℕ) → ◌≡◌ {A = ℕ} (get_or (replicate n 0) b 0) 0
+    all : (n b : ℕ) → get_or (replicate n false) b false ≡ false
     all zero b = refl
     all (suc n) zero = refl
     all (suc n) (suc b) = all n b
 
-module _ (l met : List ℕ) (n i : ℕ) (m : Met l met n i) (s : i < n) (z : n ≤ length l)
+module _ {l : List ℕ} {met : List Bool} {i : ℕ} (m : Met l met i) (s : i < length l)
     (x : ℕ) (y : x ≡ get_or l i 0) (w : x < 256) where
   next : take (suc i) l ≡ take i l ++ (x ∷ [])
-  next = take-suc l i 0 (omega arith) ∙ ap (λ (k : ℕ). take i l ++ (k ∷ [])) (sym y)
+  next = take-suc l i 0 s ∙ ap (λ (k : ℕ). take i l ++ (k ∷ [])) (sym y)
 
   -- One that is marked was met before.
-  pub met-again : (get_or met x 0 ≡ 0 → ⊥) → differ (take n l) ≡ false
-  met-again v = go (differ (take n l)) refl
+  pub met-again : get_or met x false ≡ true → false ≡ differ l
+  met-again v = go (differ l) refl
     where
-      front : take n l ≡ (take i l ++ (x ∷ [])) ++ drop (suc i) (take n l)
-      front =
-          sym (take-append-drop (suc i) (take n l))
-          ∙ ap (λ (k : List ℕ). k ++ drop (suc i) (take n l)) (take-take (suc i) n l (omega arith) ∙ next)
+      front : l ≡ (take i l ++ (x ∷ [])) ++ drop (suc i) l
+      front = sym (take-append-drop (suc i) l) ∙ ap (λ (k : List ℕ). k ++ drop (suc i) l) next
 
-      go : (b : Bool) → differ (take n l) ≡ b → b ≡ false
+      go : (b : Bool) → differ l ≡ b → false ≡ b
       go false e = refl
       go true e =
-          let q = differ-last (take i l) x (differ-front _ _ (sym (ap differ front) ∙ e)) in
-          absurd (v (m.marks x w ∙ ap bit q))
+          sym (differ-last (take i l) x (differ-front _ _ (sym (ap differ front) ∙ e)))
+          ∙ sym (m.marks x w) ∙ v
 
   -- One that is not is marked.
-  pub met-new : get_or met x 0 ≡ 0 → Met l (set met x 1) n (i + 1)
+  pub met-new : get_or met x false ≡ false → Met l (set met x true) (i + 1)
   met-new v =
       let e : suc i ≡ i + 1 = omega arith in
-      subst (Met l (set met x 1) n) e
+      subst (Met l (set met x true)) e
       (record {
-        size = length-set met x 1 ∙ m.size;
-        within = omega arith;
+        size = length-set met x true ∙ m.size;
+        within = omega (arith, s);
         marks = λ b j. marked b j (ℕ_discrete b x);
-        new = ap differ next ∙ differ-end (take i l) x m.new unmet;
+        new = ap differ next ∙ differ-end (take i l) x m.new (sym (m.marks x w) ∙ v);
       })
     where
-      zero_bit : (b : Bool) → bit b ≡ 0 → b ≡ false
-      zero_bit true e = let z : ⊥ = omega (arith, e) in absurd z
-      zero_bit false e = refl
-
-      unmet : among (take i l) x ≡ false
-      unmet = zero_bit _ (sym (m.marks x w) ∙ v)
-
       more : (b : ℕ) → among (take (suc i) l) b ≡ among (take i l) b || eqb b x
       more b = ap (λ (k : List ℕ). among k b) next ∙ among-end (take i l) x b
 
       marked : (b : ℕ) → b < 256 → Dec (b ≡ x)
-          → get_or (set met x 1) b 0 ≡ bit (among (take (suc i) l) b)
+          → get_or (set met x true) b false ≡ among (take (suc i) l) b
       marked b j (yes e) =
-          ap (λ (k : ℕ). get_or (set met x 1) k 0) e
-          ∙ get_or-set_same met x 1 0 (omega (arith, m.size))
-          ∙ sym (ap bit (more b ∙ ap (λ (c : Bool). among (take i l) b || c) (eq-eqb b x e)
-          ∙ or-true (among (take i l) b)))
+          ap (λ (k : ℕ). get_or (set met x true) k false) e
+          ∙ get_or-set_same met x true false (omega (arith, m.size, w))
+          ∙ sym (more b ∙ ap (λ (c : Bool). among (take i l) b || c) (eq-eqb b x e)
+          ∙ or-true (among (take i l) b))
       marked b j (no e) =
-          get_or-set_other met x b 1 0 e ∙ m.marks b j
-          ∙ sym (ap bit (more b ∙ ap (λ (c : Bool). among (take i l) b || c) (ne_eqb b x e)
-          ∙ or-false (among (take i l) b)))
+          get_or-set_other met x b true false e ∙ m.marks b j
+          ∙ sym (more b ∙ ap (λ (c : Bool). among (take i l) b || c) (ne_eqb b x e)
+          ∙ or-false (among (take i l) b))
 
-pub met_all : (l met : List ℕ) (n i : ℕ) → Met l met n i → n ≤ i → differ (take n l) ≡ true
-met_all l met n i m j =
-    subst (λ (k : ℕ). differ (take k l) ≡ true) (le_antisymm m.within j) m.new
+pub met-all : {l : List ℕ} {met : List Bool} {i : ℕ} → Met l met i → length l ≤ i → true ≡ differ l
+met-all {l} {met} {i} m j = sym m.new ∙ ap differ (take_all i l j)

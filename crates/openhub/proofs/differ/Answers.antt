@@ -1,21 +1,18 @@
 -- `differ` meets its contract: a radio that is marked was met before.
-use borrow.Author.Rules.{rules}
-use mathlib.Core.Path.{sym}
-use Prim.Native.Nat.{◌-◌}
-use Rattle.hub.proofs.Laws.Radios.{met-again, met-new, met-none}
+use Rattle.std.proofs.Common.{rules}
+use Rattle.hub.proofs.Laws.Radios.{met-again, met-all, met-new, met-none}
 use Rattle.openhub.proofs.differ.Goals as goal
 
-pub loop-i-init : goal.loop-i-init
-loop-i-init c = met-none _ _
+pub loop-radio-init : goal.loop-radio-init
+loop-radio-init c = met-none _
 
-pub returns-then-met-radio-ne0 : goal.returns-then-met-radio-ne0
-returns-then-met-radio-ne0 c =
-    sym (met-again _ _ _ _ c.loop-i.invariant (search rules) (search rules)
-    c.radio_index-radio.result c.radio_index-radio.ensures.0 c.radio_index-radio.ensures.1
-    c.if-met-radio-ne0.true)
+pub returns-then-met-radio : goal.returns-then-met-radio
+returns-then-met-radio c =
+    met-again c.loop-radio.invariant c.loop-radio-test.true _ c.from-radio.ensures (search rules) c.if-met-radio.true
 
-pub loop-i-preserved : goal.loop-i-preserved
-loop-i-preserved c =
-    met-new _ _ _ _ c.loop-i.invariant (search rules) (search rules)
-    c.radio_index-radio.result c.radio_index-radio.ensures.0 c.radio_index-radio.ensures.1
-    c.if-met-radio-ne0.false
+pub loop-radio-preserved : goal.loop-radio-preserved
+loop-radio-preserved c =
+    met-new c.loop-radio.invariant c.loop-radio-test.true _ c.from-radio.ensures (search rules) c.if-met-radio.false
+
+pub returns : goal.returns
+returns c = met-all c.loop-radio.invariant c.loop-radio-test.false

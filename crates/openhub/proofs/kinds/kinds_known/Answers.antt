@@ -1,14 +1,14 @@
--- `kinds_known` meets its contract: those still to come say the rest.
-use borrow.Author.Rules.{rules}
-use Prim.Native.Nat.{◌-◌}
-use Rattle.hub.proofs.Laws.Kinds.{all_known, known, unknown}
+-- `kinds_known` meets its contract: the fold asks what the definition asks.
+use Rattle.std.proofs.Common.{leb, rules, tests, true, ◌&&◌, ◌∙◌}
+use Rattle.std.proofs.lemmas.Iterator.{YieldsList-from_slice}
+use Rattle.std.proofs.lemmas.Iterator.Consumers.{fold_from_yields_List}
+use Rattle.hub.specs.Kinds.{kinds_known}
+use Rattle.hub.proofs.Laws.Kinds.{all_asked}
 use Rattle.openhub.proofs.kinds.kinds_known.Goals as goal
 
-pub loop-i-preserved-then-kind-gt3 : goal.loop-i-preserved-then-kind-gt3
-loop-i-preserved-then-kind-gt3 c = unknown _ _ _ c.loop-i.invariant (search rules) c.if-kind-gt3.true
-
-pub loop-i-preserved : goal.loop-i-preserved
-loop-i-preserved c = known _ _ _ c.loop-i.invariant (search rules) c.if-kind-gt3.false
-
 pub returns : goal.returns
-returns c = all_known _ _ _ c.loop-i.invariant (search rules)
+unfolding kinds_known
+returns c =
+    fold_from_yields_List _ (λ b k. b && leb k 3) _ _ c.fold.ensures.ran (YieldsList-from_slice c.args.kinds cc)
+    (λ a x b q k. search (rules, tests))
+    ∙ all_asked (λ k. leb k 3) true c.args.kinds
