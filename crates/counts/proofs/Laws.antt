@@ -1,4 +1,3 @@
--- The laws of counting a record.
-pub mod Counting  -- a loop that counts
-pub mod Counter  -- the counter as the code reads it
-pub mod Shown  -- what a record shows
+-- Lemmas: a loop that counts; what is asked of slots and of places.
+pub mod Counting
+pub mod Shown

@@ -7,16 +7,11 @@ use crate::count_drawing;
 use hub::record::Hub;
 
 // The bound of any record, in an integer that every record's has room in.
+#[tactic(auto, unfolding(hub::specs::Calm::steps_to_calm))]
 pub fn steps_to_calm(hub: Hub) -> u64
     ensures { result ≡ steps_to_calm hub }
 {
-    let slots = hub.slots;
-    let drawing = count_drawing(slots) as u64;
-    let parties = hub.control.opening.parties as u64;
-    let drawn = (hub.control.figures.issued as u64) + drawing;
-    let handed = hub.control.figures.resumed as u64;
-    if drawn < handed {
-        return 5 * parties;
-    }
-    5 * parties + 2 * (drawn - handed)
+    let drawn = u64::from(hub.control.figures.issued) + u64::from(count_drawing(hub.slots));
+    let handed = u64::from(hub.control.figures.resumed);
+    5 * u64::from(hub.control.opening.parties) + 2 * drawn.saturating_sub(handed)
 }

@@ -20,14 +20,20 @@ pub fn built_in() -> [u8; 32]
 pub fn kind_in(kinds: [u8; 32], party: u8) -> u8
     ensures { result ≡ kind_in kinds party }
 {
-    kinds.get(usize::from(party)).copied().unwrap_or(Kind::Desk as u8)
+    kinds
+        .get(usize::from(party))
+        .copied()
+        .unwrap_or(Kind::Desk as u8)
 }
 
 // Is none above 3? Every one is asked, so that the compiler asks many at once.
 pub fn kinds_known(kinds: [u8; 32]) -> bool
     ensures { result ≡ kinds_known kinds }
 {
-    kinds.iter().fold(true, |known, kind| known & (*kind <= Kind::BatteryRound as u8))
+    kinds.iter().fold(
+        true,
+        |known, kind| known & (*kind <= Kind::BatteryRound as u8),
+    )
 }
 
 // Is one of them 0?

@@ -1,10 +1,9 @@
--- `count_drawing` meets its contract: the tally is of those that may draw a ticket.
-use mathlib.Core.Path.{◌∙◌}
-use Rattle.hub.specs.Record.{phases_of}
-use Rattle.counts.proofs.Laws.Shown.{drawing-tallied}
+-- `count_drawing` meets its contract: a phase is asked of its slot.
+use Rattle.std.proofs.Common.{rules, tests, ◌∙◌}
+use Rattle.hub.specs.Phases.{draws_ticket}
+use Rattle.counts.proofs.Laws.Shown.{of-phases}
 use Rattle.counts.proofs.count_drawing.Goals as goal
 
 pub returns : goal.returns
 returns c =
-    let r = c.count_parties.ensures in
-    (r.0 ∙ drawing-tallied (phases_of c.args.slots), r.1)
+    (c.count.ensures.value _ (λ x r q k. search (rules, tests)) ∙ of-phases draws_ticket c.args.slots, search rules)

@@ -1,44 +1,24 @@
 -- `counts` meets its contract: each figure is a count, or made of two.
-use borrow.Author.Rules.{rules}
-use mathlib.Core.Path.{refl, ap, ◌∙◌}
-use native.Mathlib.Omega.{arith}
+use Rattle.std.proofs.Common.{refl, rules, tests, ap, ◌∙◌}
 use mir.Facts.{to_z-of_z}
 use mir.Syntax.{w32}
 use mir.Val.{SFits}
 use Rattle.hub.specs.Ledger.{at_counter}
-use Rattle.counts.proofs.Laws.Shown.{shown}
+use Rattle.hub.specs.Counts.{counts_of}
+use Rattle.hub.specs.Phases.{holds, is_permit, is_refused, is_waiting, refuses, resumes}
+use Rattle.counts.proofs.Laws.Shown.{of-phases, of-places}
 use Rattle.counts.proofs.counts.Goals as goal
 
-pub returns-then-declined-coming : goal.returns-then-declined-coming
-returns-then-declined-coming c =
-    let s = c.before.before.before.before.before.before.before.before.before.before.before in
-    let h = s.args.hub in
+pub returns-clause-value : goal.returns-clause-value
+unfolding counts_of
+returns-clause-value c =
+    let held = c.count-5.ensures.value _ (λ x r q k. search (rules, tests)) ∙ of-phases holds c.args.hub.slots in
+    let brought = c.count.ensures.value _ (λ x r q k. search (rules, tests)) ∙ of-phases resumes c.args.hub.slots in
+    let laid = c.count-2.ensures.value _ (λ x r q k. search (rules, tests)) ∙ of-places is_permit c.args.hub.places in
+    let refusing = c.count-3.ensures.value _ (λ x r q k. search (rules, tests)) ∙ of-phases refuses c.args.hub.slots in
+    let refused = c.count-4.ensures.value _ (λ x r q k. search (rules, tests)) ∙ of-places is_refused c.args.hub.places in
+    let waiting = c.count-6.ensures.value _ (λ x r q k. search (rules, tests)) ∙ of-phases is_waiting c.args.hub.slots in
     -- The counter is of its width.
-    let f : SFits w32 h.control.figures.counter = search rules in record {
-      value = shown h _ _ _ _ _ _ _ _
-          c.count_parties.ensures.0
-          c.count_places.ensures.0
-          c.count_parties-2.ensures.0
-          c.count_places-2.ensures.0
-          c.count_parties-held.ensures.0
-          (c.at_counter-available.ensures ∙ ap at_counter (to_z-of_z f))
-          c.count_parties-waiting.ensures.0 refl;
-      few = omega (arith, c.count_parties-held.ensures.1);
-    }
-
-pub returns : goal.returns
-returns c =
-    let s = c.before.before.before.before.before.before.before.before.before.before.before in
-    let h = s.args.hub in
-    -- The counter is of its width.
-    let f : SFits w32 h.control.figures.counter = search rules in record {
-      value = shown h _ _ _ _ _ _ _ _
-          c.count_parties.ensures.0
-          c.count_places.ensures.0
-          c.count_parties-2.ensures.0
-          c.count_places-2.ensures.0
-          c.count_parties-held.ensures.0
-          (c.at_counter-available.ensures ∙ ap at_counter (to_z-of_z f))
-          c.count_parties-waiting.ensures.0 (omega (arith, c.if-declined-coming.false));
-      few = omega (arith, c.count_parties-held.ensures.1);
-    }
+    let fits : SFits w32 c.args.hub.control.figures.counter = search rules in
+    let available = c.at_counter.ensures ∙ ap at_counter (to_z-of_z fits) in
+    rw (c.saturating_sub.ensures, held, brought, laid, refusing, refused, waiting, available) refl

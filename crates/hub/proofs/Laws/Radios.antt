@@ -5,17 +5,16 @@ use mathlib.Core.Path.{◌≡◌, refl, sym, ap, subst, ◌∙◌}
 use mathlib.Core.Bool.{Bool, true, false, not, ◌&&◌, ◌||◌}
 use mathlib.Core.List.{List, [], ◌∷◌, ◌++◌}
 use native.Mathlib.Decide.{ℕ_discrete}
-use native.Mathlib.Nat.{le_antisymm}
 use native.Mathlib.Omega.{arith}
 use borrow.Author.Tests.{eq-eqb, ne_eqb, eqb-false}
 use lib.Dec.{eqb}
 use lib.ListN.{length, get_or, set, take, drop, replicate, length-append}
 use lib.ListN.{length-replicate, length-set, take-append-drop}
-use lib.Seq.{length-take-le, take-append-le, take_all, take-suc, take-take, get_or-set_same, get_or-set_other}
+use lib.Seq.{length-take-le, take-append-le, take_all, take-suc, get_or-set_same, get_or-set_other}
 use Rattle.hub.specs.declared.opening.Opening.{Opening}
 use Rattle.hub.specs.declared.record.Pool.{Pool}
 use Rattle.hub.specs.Answers.{Printed}
-use Rattle.hub.specs.Basics.{among, bit}
+use Rattle.hub.specs.Basics.{among}
 use Rattle.hub.specs.Radios.{STORE, differ, moved, radios_of, ring_from, padded}
 
 -- An answer with a refusal's code moves no radio.

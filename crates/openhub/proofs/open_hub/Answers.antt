@@ -3,7 +3,7 @@ use Rattle.std.proofs.Common.{◌≡◌, Ok, rules, sym, ap, ◌∙◌}
 use Rattle.hub.specs.declared.record.Hub.{Hub}
 use Rattle.hub.specs.declared.record.Outcome.{Outcome}
 use Rattle.hub.specs.Answers.{printed}
-use Rattle.hub.specs.Opening.{fresh, opened, opening, tests, unless_refused}
+use Rattle.hub.specs.Opening.{opened, opening, tests, unless_refused}
 use Rattle.hub.proofs.Laws.Opening.{accepted, by_err, by_ok, ends}
 use Rattle.openhub.proofs.open_hub.Goals as goal
 

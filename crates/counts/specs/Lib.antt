@@ -1,2 +1,0 @@
--- What the functions of this crate speak of besides the definitions of the crate hub.
-pub mod Tallies
