@@ -4,7 +4,7 @@
 
 pub mod kinds; // the kind of each party
 
-ghost use Rattle.std.specs.Prelude.{◌≡◌, ◌≤◌, ◌<◌, take};
+ghost use Rattle.std.specs.Prelude.{◌≡◌, ◌≤◌, take};
 ghost use Rattle.hub.specs.Answers.{printed};
 ghost use Rattle.hub.specs.Basics.{up_to32};
 ghost use Rattle.hub.specs.Fits.{kinds_fit};
@@ -35,13 +35,6 @@ pub fn up_to_32(n: u8) -> bool
     ensures { result ≡ up_to32 n }
 {
     1 <= n && n <= 32
-}
-
-// A radio as an index of a table of 256.
-pub fn radio_index(radio: u8) -> usize
-    ensures { (result ≡ radio) × (result < 256) }
-{
-    radio as usize
 }
 
 // Are the first `count` radios all different? Each is marked when it is met.
