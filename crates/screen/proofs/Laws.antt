@@ -5,6 +5,7 @@ pub mod Fit
 pub mod Walks
 pub mod Places
 pub mod Moves
+pub mod Chains
 pub mod Check
 pub mod Answers
 pub mod Steps

@@ -1,5 +1,5 @@
 -- Ask, give up and give back as single moves, refused as at the hub.
-use Rattle.std.specs.Prelude.{ℕ, Bool, true, false, cond, not, ◌&&◌, List, [], ◌∷◌, ◌++◌, eqb, leb, ltb, get_or, drop, set}
+use Rattle.std.specs.Prelude.{ℕ, Result, Ok, Err, Bool, true, false, cond, not, ◌&&◌, List, [], ◌∷◌, ◌++◌, eqb, leb, ltb, get_or, drop, set}
 use Rattle.hub.specs.declared.answers.Answer.{Answer}
 use Rattle.hub.specs.declared.answers.Refusal.{Refusal}
 use Rattle.hub.specs.declared.moves.Call.{Call}
@@ -26,6 +26,11 @@ refused_move r l = record { answer = Answer.Refused r; line = l }
 
 abbrev pub accepted_move : Line → Moved
 accepted_move l = record { answer = Answer.Accepted; line = l }
+
+-- What a move comes to: the line that is left, or why not.
+abbrev pub moved_by : Result Line Refusal → Line → Moved
+moved_by (Ok m) l = accepted_move m
+moved_by (Err r) l = refused_move r l
 
 -- Is a permit there? Does anybody wait?
 unfoldable pub has_permit : Line → Bool

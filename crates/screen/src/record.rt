@@ -1,7 +1,7 @@
 // The plain line of the desk screen.
 
-ghost use Rattle.std.specs.Prelude.{◌≡◌};
-ghost use Rattle.screen.specs.Line.{opened_line};
+ghost use Rattle.std.specs.Prelude.{◌≡◌, ◌≤◌};
+ghost use Rattle.screen.specs.Line.{opened_line, waiters};
 
 use hub::{Answer, Opening};
 
@@ -18,10 +18,11 @@ pub struct Line {
 
 impl Line {
     // The line of a hub that was just opened; nothing is checked here.
+    #[tactic(auto, unfolding(crate::specs::Line::opened_line))]
     pub fn open(o: Opening) -> Line
         ensures { result ≡ opened_line o }
     {
-        let kinds = o.kinds;
+        let kinds = o.kinds; // (c): an array of a field that goes straight into a literal gets no proof
         Line {
             permits: o.permits,
             parties: o.parties,
@@ -32,10 +33,19 @@ impl Line {
             waiting: 0,
         }
     }
+
+    // Those that wait, in their order.
+    #[tactic(auto, unfolding(crate::specs::Line::waiters))]
+    pub fn waiters(&self) -> &[u8]
+        requires { self.now.waiting ≤ 32 }
+        ensures { result.now ≡ waiters self.now }
+    {
+        &self.queue[..self.waiting as usize]
+    }
 }
 
 // The clerks' operations: ask (10), give up (12), give back (13).
-#[derive(Clone, Copy)]
+#[derive(Clone, Copy, Debug, PartialEq, Eq)]
 pub enum Operation {
     Acquire,
     Cancel,

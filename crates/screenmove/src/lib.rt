@@ -8,13 +8,13 @@ mod queue; // those who wait
 ghost use Rattle.std.specs.Prelude.{◌≡◌, true, ◌<◌};
 ghost use Rattle.hub.specs.Answers.{printed};
 ghost use Rattle.screen.specs.Fits.{line_fits};
-ghost use Rattle.screen.specs.Moves.{accepted_move, line_move, line_opening, own_move, refused_move};
+ghost use Rattle.screen.specs.Moves.{line_move, line_opening, moved_by, own_move, refused_move};
 
 use hub::answers::{Answer, Refusal};
 use hub::opening::Opening;
 use openhub::kinds::kind_in;
 use openhub::{check_opening, sized};
-use queue::{join, leave, place_of};
+use queue::{join, leave};
 use screen::record::{Line, Moved, Operation};
 use screenfit::{holder_count, line_fits};
 
@@ -23,15 +23,6 @@ fn refused_move(why: Refusal, line: Line) -> Moved
 {
     Moved {
         answer: Answer::Refused(why),
-        line,
-    }
-}
-
-fn accepted_move(line: Line) -> Moved
-    ensures { result ≡ accepted_move line }
-{
-    Moved {
-        answer: Answer::Accepted,
         line,
     }
 }
@@ -49,81 +40,84 @@ pub fn open_line(o: Opening) -> Moved
     }
 }
 
-// The moves on a line that fits and has the party.
-fn acquire_on(line: Line, party: u8) -> Moved
-    requires line_value { line_fits line ≡ true }
-    requires party_lt_parties { party < line.parties }
-    ensures { result ≡ own_move line Operation.Acquire party }
+// The moves on a line that fits and has the party: the line that is left, or why not.
+fn acquire_on(line: &Line, party: u8) -> Result<Line, Refusal>
+    requires line_value { line_fits line.now ≡ true }
+    requires party_lt_parties { party < line.now.parties }
+    ensures { moved_by result line.now ≡ own_move line.now Operation.Acquire party }
 {
-    let p = party as usize;
-    let holding = line.holding;
-    if holding[p] {
-        return refused_move(Refusal::NotFree, line);
+    if line.holding[party as usize] || line.waiters().contains(&party) {
+        return Err(Refusal::NotFree);
     }
-    if place_of(line, party) < line.waiting as usize {
-        return refused_move(Refusal::NotFree, line);
-    }
+    let mut next = *line;
     if holder_count(line) < line.permits {
-        let mut next = line;
-        next.holding[p] = true;
-        return accepted_move(next);
+        next.holding[party as usize] = true;
+    } else {
+        join(&mut next, party);
     }
-    accepted_move(join(line, party))
+    Ok(next)
 }
 
-fn cancel_on(line: Line, party: u8) -> Moved
-    requires { line_fits line ≡ true }
-    ensures { result ≡ own_move line Operation.Cancel party }
+fn cancel_on(line: &Line, party: u8) -> Result<Line, Refusal>
+    requires { line_fits line.now ≡ true }
+    ensures { moved_by result line.now ≡ own_move line.now Operation.Cancel party }
 {
-    let at = place_of(line, party);
-    if line.waiting as usize <= at {
-        return refused_move(Refusal::NotWaiting, line);
+    let Some(at) = line.waiters().iter().position(|p| *p == party) else {
+        return Err(Refusal::NotWaiting);
+    };
+    if kind_in(line.kinds, party) == 3 {
+        return Err(Refusal::NotCancellable);
     }
-    let kinds = line.kinds;
-    if kind_in(kinds, party) == 3 {
-        return refused_move(Refusal::NotCancellable, line);
-    }
-    accepted_move(leave(line, at))
+    let mut next = *line;
+    leave(&mut next, at);
+    Ok(next)
 }
 
-fn release_on(line: Line, party: u8) -> Moved
-    requires line_value { line_fits line ≡ true }
-    requires party_lt_parties { party < line.parties }
-    ensures { result ≡ own_move line Operation.Release party }
+fn release_on(line: &Line, party: u8) -> Result<Line, Refusal>
+    requires line_value { line_fits line.now ≡ true }
+    requires party_lt_parties { party < line.now.parties }
+    ensures { moved_by result line.now ≡ own_move line.now Operation.Release party }
 {
-    let p = party as usize;
-    let holding = line.holding;
-    if !holding[p] {
-        return refused_move(Refusal::NotHolding, line);
+    if !line.holding[party as usize] {
+        return Err(Refusal::NotHolding);
     }
-    if line.waiting < 1 {
-        let mut next = line;
-        next.holding[p] = false;
-        return accepted_move(next);
+    let mut next = *line;
+    next.holding[party as usize] = false;
+    if let Some(first) = line.waiters().first() {
+        leave(&mut next, 0);
+        next.holding[*first as usize] = true;
     }
-    let queue = line.queue;
-    let first = queue[0] as usize;
-    let mut next = leave(line, 0);
-    next.holding[p] = false;
-    next.holding[first] = true;
-    accepted_move(next)
+    Ok(next)
 }
 
-// Any of them: 1, then 4, then the operation's own.
-pub fn call(line: Line, operation: Operation, party: u8) -> Moved
-    ensures { (result ≡ line_move line operation party)
-        × (printed result.answer ≡ printed (line_move line operation party).answer) }
+// 1, then 4, then the operation's own.
+fn moved(line: &Line, operation: Operation, party: u8) -> Result<Line, Refusal>
+    ensures { moved_by result line.now ≡ line_move line.now operation party }
 {
     if !line_fits(line) {
-        return refused_move(Refusal::Unfit, line);
+        return Err(Refusal::Unfit);
     }
     if line.parties <= party {
-        return refused_move(Refusal::NoSuchParty, line);
+        return Err(Refusal::NoSuchParty);
     }
     match operation {
         Operation::Acquire => acquire_on(line, party),
         Operation::Cancel => cancel_on(line, party),
         Operation::Release => release_on(line, party),
+    }
+}
+
+// Any of them.
+pub fn call(line: Line, operation: Operation, party: u8) -> Moved
+    ensures { (result ≡ line_move line operation party)
+        × (printed result.answer ≡ printed (line_move line operation party).answer) }
+{
+    match moved(&line, operation, party) {
+        Ok(next) => Moved {
+            answer: Answer::Accepted,
+            line: next,
+        },
+        Err(why) => refused_move(why, line),
     }
 }
 

@@ -1,58 +1,30 @@
-// Those who wait: where one stands, who joins at the end, and who leaves.
+// Those who wait: who joins at the end, and who leaves.
 
-ghost use Rattle.std.specs.Prelude.{◌≡◌, true, [], ◌∷◌, ◌++◌, suc, ◌≤◌, ◌<◌, drop, take};
-ghost use Rattle.screen.specs.Fits.{line_fits};
-ghost use Rattle.screen.specs.Line.{place_of, waiters, with_waiters};
+ghost use Rattle.std.specs.Prelude.{◌≡◌, true, [], ◌∷◌, ◌++◌, suc, ◌≤◌, ◌<◌, drop, take, eqb};
+ghost use Rattle.hub.specs.Basics.{all_pass};
+ghost use Rattle.screen.specs.Line.{waiters, with_waiters};
 
 use screen::record::Line;
 
-// The place of a party in the queue; as many as wait if it is not there.
-pub(crate) fn place_of(line: Line, party: u8) -> usize
-    requires { line.waiting ≤ 32 }
-    ensures { result ≡ place_of party (waiters line) }
-{
-    let queue = line.queue;
-    let waiting = line.waiting as usize;
-    let mut i: usize = 0;
-    while i < waiting {
-        if queue[i] == party {
-            return i;
-        }
-        i += 1;
-    }
-    i
-}
-
 // A party joins the queue.
-pub(crate) fn join(line: Line, party: u8) -> Line
-    requires line_value { line_fits line ≡ true }
-    requires waiting_bound { line.waiting < 32 }
-    ensures { result ≡ with_waiters (waiters line ++ (party ∷ [])) line }
+pub(crate) fn join(line: &mut Line, party: u8)
+    requires rest_zero { all_pass (λ b. eqb b 0) (drop line.old.waiting line.old.queue) ≡ true }
+    requires waiting_bound { line.old.waiting < 32 }
+    ensures { line.new ≡ with_waiters (waiters line.old ++ (party ∷ [])) line.old }
 {
-    let end = line.waiting as usize;
-    let mut next = line;
-    next.queue[end] = party;
-    next.waiting = line.waiting + 1;
-    next
+    line.queue[line.waiting as usize] = party;
+    line.waiting += 1;
 }
 
 // Whoever stands at a place leaves, and those behind it move up.
-pub(crate) fn leave(line: Line, at: usize) -> Line
-    requires line_value { line_fits line ≡ true }
-    requires at_lt_waiting { at < line.waiting }
-    ensures { result ≡ with_waiters (take at (waiters line) ++ drop (suc at) (waiters line)) line }
+pub(crate) fn leave(line: &mut Line, at: usize)
+    requires rest_zero { all_pass (λ b. eqb b 0) (drop line.old.waiting line.old.queue) ≡ true }
+    requires waiting_bound { line.old.waiting ≤ 32 }
+    requires at_lt_waiting { at < line.old.waiting }
+    ensures { line.new ≡ with_waiters (take at (waiters line.old) ++ drop (suc at) (waiters line.old)) line.old }
 {
-    let mut queue = line.queue;
-    let waiting = line.waiting - 1;
-    let last = waiting as usize;
-    let mut i = at;
-    while i < last {
-        queue[i] = queue[i + 1];
-        i += 1;
-    }
-    queue[last] = 0;
-    let mut next = line;
-    next.queue = queue;
-    next.waiting = waiting;
-    next
+    let waiting = line.waiting as usize;
+    line.queue.copy_within(at + 1..waiting, at);
+    line.queue[waiting - 1] = 0;
+    line.waiting -= 1;
 }

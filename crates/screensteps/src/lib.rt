@@ -20,28 +20,27 @@ const TO_HAND_OVER: u8 = 3; // 27, 28, 2A
 fn to_counter(named: bool) -> u8
     ensures { result ≡ to_counter named }
 {
-    if named {
-        return 2;
-    }
-    1
+    if named { 2 } else { 1 }
 }
 
-fn own_steps(line: Line, operation: Operation) -> u8
-    ensures { result ≡ own_steps line operation }
+fn own_steps(line: &Line, operation: Operation) -> u8
+    ensures { result ≡ own_steps line.now operation }
 {
     match operation {
         Operation::Acquire => {
             if holder_count(line) < line.permits {
-                return to_counter(line.named);
+                to_counter(line.named)
+            } else {
+                TO_WAIT
             }
-            TO_WAIT
         }
         Operation::Cancel => TO_CANCEL,
         Operation::Release => {
             if 1 <= line.waiting {
-                return TO_HAND_OVER;
+                TO_HAND_OVER
+            } else {
+                to_counter(line.named)
             }
-            to_counter(line.named)
         }
     }
 }
@@ -50,10 +49,8 @@ fn own_steps(line: Line, operation: Operation) -> u8
 pub fn steps_to_rest(line: Line, operation: Operation, party: u8) -> u8
     ensures { result ≡ steps_to_rest line operation party }
 {
-    let m = call(line, operation, party);
-    let answer = m.answer;
-    let Answer::Accepted = answer else {
-        return 0;
-    };
-    own_steps(line, operation)
+    match call(line, operation, party).answer {
+        Answer::Accepted => own_steps(&line, operation),
+        _ => 0,
+    }
 }

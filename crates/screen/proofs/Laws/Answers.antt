@@ -1,13 +1,12 @@
 -- Each answer of an operation, by the tests that lead to it.
-use Prim.Native.Nat.{ℕ, suc, ◌+◌, ◌≤◌, ◌<◌}
-use mathlib.Core.Path.{◌≡◌, refl, sym, ap, ap₂, subst, ◌∙◌}
+use Prim.Native.Nat.{ℕ, suc, ◌≤◌, ◌<◌}
+use mathlib.Core.Path.{◌≡◌, refl, sym, ap, ap₂, ◌∙◌}
 use mathlib.Core.Bool.{Bool, true, false}
 use mathlib.Core.List.{List, [], ◌∷◌, ◌++◌}
 use native.Mathlib.Omega.{arith}
 use borrow.Author.Tests.{eq-eqb, le-leb, leb-true, lt-leb, lt-ltb, le-ltb, ne_eqb}
 use lib.Dec.{leb}
 use lib.ListN.{length, get_or, set, take, drop}
-use lib.Seq.{get_or-take}
 use Rattle.hub.specs.declared.answers.Refusal.{Refusal}
 use Rattle.hub.specs.Basics.{among}
 use Rattle.hub.specs.Kinds.{kind_in}
@@ -129,10 +128,6 @@ pub party-small : (l : Line) (p : ℕ) → Fit l → p < l.parties → p < 32
 party-small l p f h =
     omega (arith, leb-true l.parties 32 (second (leb 1 l.parties) _ f.bounds.parties))
 
-pub next-first : (l : Line) → 1 ≤ l.waiting → next_waiter l ≡ get_or l.queue 0 0
-unfolding next_waiter waiters
-next-first l h = get_or-take l.waiting l.queue 0 0 h
-
 pub first-waits : (l : Line) → Fit l → length l.queue ≡ 32 → 1 ≤ l.waiting
     → among (waiters l) (next_waiter l) ≡ true
 unfolding next_waiter
@@ -142,20 +137,29 @@ first-waits l f size h = go (waiters l) (omega (arith, waiters-length l f size))
     go [] k = absurd (omega arith)
     go (x ∷ w) k = among-here w x x refl
 
-pub first_small : (l : Line) → Fit l → length l.queue ≡ 32 → 1 ≤ l.waiting → get_or l.queue 0 0 < 32
-first_small l f size h =
-    party-small l _ f
-    (subst (λ (x : ℕ). x < l.parties) (next-first l h) (f.waits.below _ (first-waits l f size h)))
+pub first_small : (l : Line) → Fit l → length l.queue ≡ 32 → 1 ≤ l.waiting → next_waiter l < 32
+first_small l f size h = party-small l _ f (f.waits.below _ (first-waits l f size h))
+
+-- The first of those that wait, in a list w of them.
+module _ (l : Line) (f : Fit l) (size : length l.queue ≡ 32) (w : List ℕ) (e : w ≡ waiters l) where
+  pub some-wait : 0 < length w → 1 ≤ l.waiting
+  some-wait h = omega (arith, ap length e, waiters-length l f size)
+
+  pub none-waits : length w ≡ 0 → l.waiting < 1
+  none-waits h = omega (arith, ap length e, waiters-length l f size)
+
+  pub the-next : (x : ℕ) → ((d : ℕ) → x ≡ get_or w 0 d) → x ≡ next_waiter l
+  unfolding next_waiter
+  the-next x h = h 0 ∙ ap (λ (v : List ℕ). get_or v 0 0) e
 
 -- The line that a hand-over leaves, as the code makes it.
-pub handed-over : (l m : Line) (p : ℕ) → get_or l.holding p false ≡ true → 1 ≤ l.waiting
-    → m ≡ with_waiters (drop 1 (waiters l)) l
-    → accepted_move (with_holding (set (set m.holding p false) (get_or l.queue 0 0) true) m)
-    ≡ own_move l Operation.Release p
-handed-over l m p e h i =
-    ap (λ (n : Line). accepted_move (with_holding (set (set n.holding p false) (get_or l.queue 0 0) true) n)) i
+pub handed-over : (l m : Line) (p x : ℕ) → get_or l.holding p false ≡ true → 1 ≤ l.waiting → x ≡ next_waiter l
+    → m ≡ with_waiters (drop 1 (waiters l)) (with_holding (set l.holding p false) l)
+    → accepted_move (with_holding (set m.holding x true) m) ≡ own_move l Operation.Release p
+handed-over l m p x e h f i =
+    ap (λ (n : Line). accepted_move (with_holding (set n.holding x true) n)) i
     ∙ ap
     (λ (q : ℕ).
     accepted_move (with_waiters (drop 1 (waiters l)) (with_holding (set (set l.holding p false) q true) l)))
-    (sym (next-first l h))
+    f
     ∙ sym (hands-over l p e h)

@@ -6,7 +6,7 @@ use mathlib.Core.List.{List, [], ◌∷◌}
 use native.Mathlib.Decide.{ℕ_discrete}
 use native.Mathlib.Omega.{arith}
 use borrow.Author.Tests.{leb-true, le-leb, ltb-true, lt-ltb, eqb-true, eq-eqb}
-use lib.Dec.{ltb}
+use lib.Dec.{eqb, ltb}
 use lib.ListN.{length, get_or, set, drop, length-set}
 use lib.Seq.{get_or-drop, get_or-set_same, get_or-set_other}
 use Rattle.hub.specs.Basics.{all_pass, among, bit, implies, up_to32, weight}
@@ -194,6 +194,19 @@ module _ (l : Line) where
   front_below a =
       each-passes _ (holders l) (λ x e. pass-each _ (everybody l) a x (among-front (holders l) (waiters l) x e))
 
+  -- Behind those that wait the queue is 0.
+  pub unused : all_pass (λ b. eqb b 0) (drop l.waiting l.queue) ≡ true
+      → (i : ℕ) → l.waiting ≤ i → get_or l.queue i 0 ≡ 0
+  unused z i h =
+      let k : l.waiting + (i - l.waiting) ≡ i = omega arith in
+      ap (λ (j : ℕ). get_or l.queue j 0) (sym k)
+      ∙ sym (get_or-drop l.waiting l.queue (i - l.waiting) 0)
+      ∙ zeros _ z (i - l.waiting)
+
+  pub rest-zero : line_fits l ≡ true → all_pass (λ b. eqb b 0) (drop l.waiting l.queue) ≡ true
+  unfolding line_fits
+  rest-zero e = clause 7 (line_clauses l) e
+
   pub fit : line_fits l ≡ true → Fit l
   unfolding line_fits
   fit e =
@@ -211,11 +224,7 @@ module _ (l : Line) where
         waits = waits-of (clause 3 (line_clauses l) e) a;
         few = leb-true _ _ (clause 5 (line_clauses l) e);
         full = λ h. eqb-true _ _ (implied _ _ (clause 6 (line_clauses l) e) (le-leb _ _ h));
-        rest = λ i h.
-            let k : l.waiting + (i - l.waiting) ≡ i = omega arith in
-            ap (λ (j : ℕ). get_or l.queue j 0) (sym k)
-            ∙ sym (get_or-drop l.waiting l.queue (i - l.waiting) 0)
-            ∙ zeros _ (clause 7 (line_clauses l) e) (i - l.waiting);
+        rest = unused (clause 7 (line_clauses l) e);
       }
 
   pub fits : Fit l → line_fits l ≡ true

@@ -3,55 +3,20 @@ use Prim.Native.Nat.{ℕ, zero, suc, ◌+◌, ◌-◌, ◌≤◌, ◌<◌}
 use mathlib.Core.Path.{◌≡◌, refl, sym, ap, ◌∙◌}
 use mathlib.Core.Bool.{Bool, true, false, cond, ◌||◌}
 use mathlib.Core.List.{List, [], ◌∷◌, ◌++◌}
-use native.Mathlib.Decide.{ℕ_discrete, dec_le}
-use native.Mathlib.Numerals.{add-one}
+use native.Mathlib.Decide.{dec_le}
 use native.Mathlib.Omega.{arith}
-use borrow.Author.Tests.{eq-eqb, ne_eqb, lt-ltb, le-ltb}
+use borrow.Author.Tests.{lt-ltb, le-ltb}
 use lib.Dec.{eqb, ltb}
-use lib.ListN.{length, get_or, set, take, drop, replicate, drop_of_length-le, length-append, length-set}
+use lib.ListN.{length, get_or, set, take, drop, replicate, length-append, length-set}
 use lib.ListN.{get_or-append, get_or-eq_default}
-use lib.Seq.{drop-cons, ext_get_or, get_or-append-add, get_or-drop, get_or-set_other, get_or-set_same, get_or-take}
+use lib.Seq.{ext_get_or, get_or-append-add, get_or-drop, get_or-set_other, get_or-set_same, get_or-take}
 use lib.Seq.{length-take-le}
+use Rattle.std.specs.List.{CopiedTo, SameBelow, SameFrom}
 use Rattle.hub.specs.Basics.{among}
 use Rattle.hub.specs.Radios.{padded}
 use Rattle.hub.proofs.Laws.Radios.{padded-length}
 use Rattle.screen.specs.Line.{place_of}
 use Rattle.screen.specs.Moves.{without}
-
--- Of the m that wait in a queue q, the first i are not x.
-pub record Sought (x : ℕ) (q : List ℕ) (m i : ℕ) : Type 0 where
-  pub size : length q ≡ 32
-  pub short : m ≤ 32
-  pub within : i ≤ m
-  pub rest : i + place_of x (drop i (take m q)) ≡ place_of x (take m q)
-
-module _ (x : ℕ) (q : List ℕ) (m i : ℕ) (s : Sought x q m i) where
-  all : length (take m q) ≡ m
-  all = length-take-le m q (omega (arith, s.size, s.short))
-
-  one : i < m → drop i (take m q) ≡ get_or q i 0 ∷ drop (i + 1) (take m q)
-  one h = rw (add-one, drop-cons (take m q) i 0 (omega (arith, all)), get_or-take m q i 0 h)
-
-  pub sought-here : i < m → get_or q i 0 ≡ x → i ≡ place_of x (take m q)
-  unfolding place_of
-  sought-here h e =
-      let f : place_of x (drop i (take m q)) ≡ 0 =
-      ap (place_of x) (one h) ∙ rw (eq-eqb x (get_or q i 0) (sym e)) in
-      omega (arith, s.rest)
-
-  pub sought-next : i < m → (get_or q i 0 ≡ x → ⊥) → Sought x q m (i + 1)
-  unfolding place_of
-  sought-next h e =
-      let f : place_of x (drop i (take m q)) ≡ suc (place_of x (drop (i + 1) (take m q))) =
-      ap (place_of x) (one h) ∙ rw (ne_eqb x (get_or q i 0) (λ z. e (sym z))) in
-      record { size = s.size; short = s.short; within = omega arith; rest = omega (arith, s.rest) }
-
-  pub sought-all : m ≤ i → i ≡ place_of x (take m q)
-  unfolding place_of
-  sought-all h =
-      let f : place_of x (drop i (take m q)) ≡ 0 =
-      ap (place_of x) (drop_of_length-le (take m q) {i = i} (omega (arith, all))) in
-      omega (arith, s.rest)
 
 -- Who has a place is among them, and leaves it.
 pub place-among : (w : List ℕ) (x : ℕ) → among w x ≡ ltb (place_of x w) (length w)
@@ -106,38 +71,21 @@ pub record Shifted (q : List ℕ) (n at : ℕ) (v : List ℕ) (i : ℕ) : Type 0
   pub up : (j : ℕ) → at ≤ j → j < i → get_or v j 0 ≡ get_or q (suc j) 0
   pub after : (j : ℕ) → i ≤ j → get_or v j 0 ≡ get_or q j 0
 
-pub shifted_none : (q : List ℕ) (n at : ℕ) → length q ≡ 32 → n ≤ 32 → at < n → Shifted q n at q at
-shifted_none q n at size short h =
+pub shifted : (q v : List ℕ) (n at : ℕ) → length v ≡ 32 → n ≤ 32 → at < n
+    → CopiedTo q v (at + 1) at (n - (at + 1)) → SameBelow q v at → SameFrom q v (at + (n - (at + 1)))
+    → Shifted q n at v (n - 1)
+shifted q v n at size short h copied below behind =
     record {
       size = size;
       short = short;
       from = omega arith;
-      within = h;
-      before = λ j k. refl;
-      up = λ j a b. absurd (omega arith);
-      after = λ j k. refl;
-    }
-
-pub shifted_next : (q : List ℕ) (n at : ℕ) (v : List ℕ) (i : ℕ) → Shifted q n at v i → suc i < n
-    → Shifted q n at (set v i (get_or v (i + 1) 0)) (i + 1)
-shifted_next q n at v i s h =
-    record {
-      size = length-set v i _ ∙ s.size;
-      short = s.short;
-      from = omega (arith, s.from);
       within = omega arith;
-      before = λ j k. get_or-set_other v i j _ 0 (λ e. omega (arith, s.from)) ∙ s.before j k;
-      up = λ j a b. go j a b (ℕ_discrete j i);
-      after = λ j k. get_or-set_other v i j _ 0 (λ e. omega arith) ∙ s.after j (omega arith);
+      before = λ j k. below j 0 k;
+      up = λ j a b.
+          let e : at + 1 + (j - at) ≡ suc j = omega arith in
+          copied j 0 a (omega arith) ∙ ap (λ (z : ℕ). get_or q z 0) e;
+      after = λ j k. behind j 0 (omega arith);
     }
-  where
-    go : (j : ℕ) → at ≤ j → j < i + 1 → Dec (j ≡ i) → get_or (set v i (get_or v (i + 1) 0)) j 0 ≡ get_or q (suc j) 0
-    go j a b (yes e) =
-        let f : i + 1 ≡ suc j = omega arith in
-        ap (λ (z : ℕ). get_or (set v i (get_or v (i + 1) 0)) z 0) e
-        ∙ get_or-set_same v i (get_or v (i + 1) 0) 0 (omega (arith, s.size))
-        ∙ s.after (i + 1) (omega arith) ∙ ap (λ (z : ℕ). get_or q z 0) f
-    go j a b (no e) = get_or-set_other v i j _ 0 e ∙ s.up j a (omega arith)
 
 -- A queue q, whose bytes from the n-th on are 0.
 module _ (q : List ℕ) (n : ℕ) (size : length q ≡ 32) (short : n ≤ 32)

@@ -1,21 +1,18 @@
 -- `holders_below` meets its contract: from n on nobody holds.
-use borrow.Author.Rules.{rules}
-use native.Mathlib.Omega.{arith}
-use Prim.Native.Nat.{◌-◌}
+use Rattle.std.proofs.Common.{◌≡◌, ◌-◌, ◌∙◌, arith, rules, tests, not, drop, length, length-drop}
+use Rattle.std.proofs.lemmas.List.{take_all}
+use Rattle.std.proofs.lemmas.Iterator.{YieldsList-from_slice}
+use Rattle.std.proofs.lemmas.Iterator.Search.{all_from_yields_List}
 use Rattle.screen.specs.Line.{holders}
-use Rattle.screen.proofs.Laws.Walks.{below_all, below-found, below_next, below-start}
+use Rattle.screen.proofs.Laws.Chains.{holders-low}
 use Rattle.screenfit.proofs.holders_below.Goals as goal
-
-pub loop-p-init : goal.loop-p-init
-loop-p-init c = below-start _ _ (search rules)
-
-pub returns-then-holding-p : goal.returns-then-holding-p
-unfolding holders
-returns-then-holding-p c = below-found _ _ _ c.loop-p.invariant (omega arith) c.if-holding-p.true
-
-pub loop-p-preserved : goal.loop-p-preserved
-loop-p-preserved c = below_next _ _ _ c.loop-p.invariant (omega arith) c.if-holding-p.false
 
 pub returns : goal.returns
 unfolding holders
-returns c = below_all _ _ _ c.loop-p.invariant c.loop-p-test.false
+returns c =
+    let l = c.args.line.now in
+    let sizes : length l.holding ≡ 32 = search rules in
+    let tail = c.iter.ensures.rest ∙ take_all (32 - l.parties) (drop l.parties l.holding) (omega (arith, length-drop l.parties l.holding)) in
+    all_from_yields_List not _ _ _ c.all.ensures.ran (YieldsList-from_slice (drop l.parties l.holding) tail)
+    (λ x b q k. search (rules, tests))
+    ∙ holders-low l.parties l.holding

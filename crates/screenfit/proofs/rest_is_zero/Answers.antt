@@ -1,14 +1,16 @@
--- `rest_is_zero` meets its contract: the bytes still to come say the same.
-use native.Mathlib.Omega.{arith}
-use Prim.Native.Nat.{◌-◌}
-use Rattle.screen.proofs.Laws.Walks.{zero-all, zero-next, zero-not}
+-- `rest_is_zero` meets its contract.
+use Rattle.std.proofs.Common.{◌≡◌, ◌-◌, ◌∙◌, arith, rules, tests, eqb, drop, length, length-drop}
+use Rattle.std.proofs.lemmas.List.{take_all}
+use Rattle.std.proofs.lemmas.Iterator.{YieldsList-from_slice}
+use Rattle.std.proofs.lemmas.Iterator.Search.{all_from_yields_List}
+use Rattle.screen.proofs.Laws.Chains.{all-pass}
 use Rattle.screenfit.proofs.rest_is_zero.Goals as goal
 
-pub returns-then-queue-i-ne0 : goal.returns-then-queue-i-ne0
-returns-then-queue-i-ne0 c = zero-not _ _ _ c.loop-i.invariant (omega arith) c.if-queue-i-ne0.true
-
-pub loop-i-preserved : goal.loop-i-preserved
-loop-i-preserved c = zero-next _ _ _ c.loop-i.invariant (omega arith) c.if-queue-i-ne0.false
-
 pub returns : goal.returns
-returns c = zero-all _ _ _ c.loop-i.invariant c.loop-i-test.false
+returns c =
+    let l = c.args.line.now in
+    let sizes : length l.queue ≡ 32 = search rules in
+    let tail = c.iter.ensures.rest ∙ take_all (32 - l.waiting) (drop l.waiting l.queue) (omega (arith, length-drop l.waiting l.queue)) in
+    all_from_yields_List (λ b. eqb b 0) _ _ _ c.all.ensures.ran (YieldsList-from_slice (drop l.waiting l.queue) tail)
+    (λ x b q k. search (rules, tests))
+    ∙ all-pass _ _

@@ -12,13 +12,13 @@ use Rattle.screensteps.proofs.steps_to_rest.Goals as goal
 pub returns-in_default : goal.returns-in_default
 returns-in_default c =
     let a = c.args in
-    let e = ap (λ (m : Moved). m.answer) c.call-m.ensures.0 in
+    let e = ap (λ (m : Moved). m.answer) c.call.ensures.0 in
     sym (no_steps a.line a.operation a.party
     (not_taken (told a.line a.operation a.party)
     (subst (λ (y : Answer). OneOf OTHERS (tag_of answer.the_type y)) e (opened_keys c.in_default.in_default-own.keys2))))
 
-pub returns : goal.returns
-returns c =
+pub returns-in-Accepted : goal.returns-in-Accepted
+returns-in-Accepted c =
     c.own_steps.ensures
     ∙ sym (some-steps _ _ _ (sym (ap (λ (m : Moved). m.answer)
-    c.call-m.ensures.0) ∙ c.in-Accepted.is))
+    c.call.ensures.0) ∙ c.in-Accepted.is))
