@@ -1,5 +1,6 @@
 -- "20 05 3 held 0 3 waiting 7 5": an answer as a line.
-use Rattle.std.specs.Prelude.{ℕ, ◌+◌, ◌/◌, ◌%◌, cond, List, [], ◌∷◌, ◌++◌, eqb, ltb, length, take, drop}
+use Rattle.std.specs.Prelude.{ℕ, ◌+◌, ◌/◌, ◌%◌, cond, Option, Some, None, List, [], ◌∷◌, ◌++◌, ltb, length, take, drop}
+use Rattle.std.specs.Option.{unwrap_or}
 use Rattle.encoding.specs.Hex.{hex_of}
 use Rattle.screen.specs.declared.record.Line.{Line}
 use Rattle.screen.specs.Line.{holders, waiters}
@@ -24,8 +25,9 @@ numbers [] = []
 numbers (p ∷ ps) = SPACE ∷ (decimal p ++ numbers ps)
 
 -- The steps to rest; a dash for openings and refusals.
-unfoldable pub steps_text : ℕ → ℕ → List ℕ
-steps_text code steps = cond (eqb code 0x20) (decimal steps) (0x2D ∷ [])
+unfoldable pub steps_text : Option ℕ → List ℕ
+steps_text (Some steps) = decimal steps
+steps_text None = 0x2D ∷ []
 
 -- "held", "waiting".
 abbrev pub HELD : List ℕ
@@ -34,10 +36,10 @@ HELD = 0x68 ∷ 0x65 ∷ 0x6C ∷ 0x64 ∷ []
 abbrev pub WAITING : List ℕ
 WAITING = 0x77 ∷ 0x61 ∷ 0x69 ∷ 0x74 ∷ 0x69 ∷ 0x6E ∷ 0x67 ∷ []
 
--- The code, the party and the steps; then who holds and who waits.
-unfoldable pub head_text : ℕ → ℕ → ℕ → List ℕ
+-- The code, the party, FF if there is none, and the steps; then who holds and who waits.
+unfoldable pub head_text : ℕ → Option ℕ → Option ℕ → List ℕ
 head_text code party steps =
-    hex_of (code ∷ []) ++ SPACE ∷ (hex_of (party ∷ []) ++ SPACE ∷ steps_text code steps)
+    hex_of (code ∷ []) ++ SPACE ∷ (hex_of (unwrap_or party 0xFF ∷ []) ++ SPACE ∷ steps_text steps)
 
 unfoldable pub parties_text : Line → List ℕ
 parties_text l =

@@ -36,12 +36,9 @@ pub(crate) fn put_word(out: &mut [u8], at: usize, word: &[u8]) -> usize
     ensures { (result ≡ at + length word.now)
         × (out.new ≡ put_at at word.now out.old) }
 {
-    let mut i: usize = 0;
-    while i < word.len() {
-        out[at + i] = word[i];
-        i += 1;
-    }
-    at + i
+    let end = at + word.len();
+    out[at..end].copy_from_slice(word);
+    end
 }
 
 pub(crate) fn put_hex(out: &mut [u8], at: usize, byte: u8) -> usize

@@ -9,7 +9,7 @@ use crate::digits::{put_char, put_decimal, put_hex, put_word};
 use deskreply::DeskReply;
 use screen::Line;
 
-const SPACE: u8 = 0x20;
+const SPACE: u8 = b' ';
 
 // A party, behind a space.
 fn put_number(out: &mut [u8], at: usize, party: u8) -> usize
@@ -22,84 +22,75 @@ fn put_number(out: &mut [u8], at: usize, party: u8) -> usize
 }
 
 // Those that hold, rising.
-fn put_holders(out: &mut [u8], at: usize, line: Line) -> usize
+fn put_holders(out: &mut [u8], at: usize, line: &Line) -> usize
     requires { at + 128 ≤ length out.old }
-    ensures value { (result ≡ at + length (numbers (holders line)))
-        × (out.new ≡ put_at at (numbers (holders line)) out.old) }
+    ensures value { (result ≡ at + length (numbers (holders line.now)))
+        × (out.new ≡ put_at at (numbers (holders line.now)) out.old) }
     ensures short { result ≤ at + 128 }
 {
-    let holding = line.holding;
     let mut end = at;
-    let mut p: u8 = 0;
-    while p < 32 {
-        let party = p;
-        p += 1;
-        if !holding[party as usize] {
-            continue;
+    for (party, holds) in line.holding.iter().enumerate() {
+        if *holds {
+            end = put_number(out, end, party as u8);
         }
-        end = put_number(out, end, party);
     }
     end
 }
 
 // Those that wait, in their order.
-fn put_waiters(out: &mut [u8], at: usize, line: Line) -> usize
-    requires waiting_bound { line.waiting ≤ 32 }
+fn put_waiters(out: &mut [u8], at: usize, line: &Line) -> usize
+    requires waiting_bound { line.now.waiting ≤ 32 }
     requires at_in_bounds { at + 128 ≤ length out.old }
-    ensures value { (result ≡ at + length (numbers (waiters line)))
-        × (out.new ≡ put_at at (numbers (waiters line)) out.old) }
+    ensures value { (result ≡ at + length (numbers (waiters line.now)))
+        × (out.new ≡ put_at at (numbers (waiters line.now)) out.old) }
     ensures short { result ≤ at + 128 }
 {
-    let queue = line.queue;
-    let waiting = line.waiting as usize;
     let mut end = at;
-    let mut i: usize = 0;
-    while i < waiting {
-        end = put_number(out, end, queue[i]);
-        i += 1;
+    for party in line.waiters() {
+        end = put_number(out, end, *party);
     }
     end
 }
 
 // The steps to rest, or a dash.
-fn put_steps(out: &mut [u8], at: usize, code: u8, steps: u8) -> usize
+fn put_steps(out: &mut [u8], at: usize, steps: Option<u8>) -> usize
     requires { at + 3 ≤ length out.old }
-    ensures { (result ≡ at + length (steps_text code steps))
-        × (out.new ≡ put_at at (steps_text code steps) out.old) }
+    ensures { (result ≡ at + length (steps_text steps))
+        × (out.new ≡ put_at at (steps_text steps) out.old) }
 {
-    if code == 0x20 {
-        return put_decimal(out, at, steps);
+    match steps {
+        Some(n) => put_decimal(out, at, n),
+        None => put_char(out, at, b'-'),
     }
-    put_char(out, at, 0x2D)
 }
 
 // The code, the party and the steps.
-fn put_head(out: &mut [u8], at: usize, code: u8, party: u8, steps: u8) -> usize
+fn put_head(out: &mut [u8], at: usize, r: &DeskReply) -> usize
     requires { at + 9 ≤ length out.old }
-    ensures value { (result ≡ at + length (head_text code party steps))
-        × (out.new ≡ put_at at (head_text code party steps) out.old) }
+    ensures value { (result ≡ at + length (head_text r.now.code r.now.party r.now.steps))
+        × (out.new ≡ put_at at (head_text r.now.code r.now.party r.now.steps) out.old) }
     ensures short { result ≤ at + 9 }
 {
-    let a = put_hex(out, at, code);
+    let a = put_hex(out, at, r.code);
     let b = put_char(out, a, SPACE);
-    let c = put_hex(out, b, party);
+    let c = put_hex(out, b, r.party.unwrap_or(0xFF));
     let d = put_char(out, c, SPACE);
-    put_steps(out, d, code, steps)
+    put_steps(out, d, r.steps)
 }
 
 // Who holds and who waits.
-fn put_parties(out: &mut [u8], at: usize, line: Line) -> usize
-    requires waiting_bound { line.waiting ≤ 32 }
+fn put_parties(out: &mut [u8], at: usize, line: &Line) -> usize
+    requires waiting_bound { line.now.waiting ≤ 32 }
     requires at_in_bounds { at + 270 ≤ length out.old }
-    ensures value { (result ≡ at + length (parties_text line))
-        × (out.new ≡ put_at at (parties_text line) out.old) }
+    ensures value { (result ≡ at + length (parties_text line.now))
+        × (out.new ≡ put_at at (parties_text line.now) out.old) }
     ensures short { result ≤ at + 270 }
 {
     let a = put_word(out, at, b" held");
     let b = put_holders(out, a, line);
     let c = put_word(out, b, b" waiting");
     let d = put_waiters(out, c, line);
-    put_char(out, d, 0x0A)
+    put_char(out, d, b'\n')
 }
 
 // The whole line.
@@ -110,7 +101,6 @@ pub fn put_line_text(out: &mut [u8], at: usize, r: DeskReply) -> usize
         × (out.new ≡ put_at at (line_text r) out.old) }
     ensures short { result ≤ at + LONGEST_TEXT }
 {
-    let line = r.line;
-    let next = put_head(out, at, r.code, r.party, r.steps);
-    put_parties(out, next, line)
+    let next = put_head(out, at, &r);
+    put_parties(out, next, &r.line)
 }

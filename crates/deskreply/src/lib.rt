@@ -11,30 +11,30 @@ use hub::opening::Opening;
 use line::request::{OPENING, read_header, read_opening};
 use screen::{Line, Operation};
 use screenmove::{call, open_line};
-use screensteps::steps_to_rest;
+use screensteps::accepted_steps;
 
 #[derive(Clone, Copy)]
 pub struct DeskReply {
     pub code: u8,
-    pub party: u8, // FF for openings and for 12
-    pub steps: u8, // to rest; it counts where the code is 20
+    pub party: Option<u8>, // none for openings and for 12
+    pub steps: Option<u8>, // to rest, of an operation that is accepted
     pub line: Line, // as it is left
 }
 
 // A line with permits is open.
-fn is_open_line(line: Line) -> bool
-    ensures { result ≡ is_open_line line }
+fn is_open_line(line: &Line) -> bool
+    ensures { result ≡ is_open_line line.now }
 {
     1 <= line.permits
 }
 
-fn code_reply(code: u8, party: u8, line: Line) -> DeskReply
+fn code_reply(code: u8, party: Option<u8>, line: Line) -> DeskReply
     ensures { result ≡ code_reply code party line }
 {
     DeskReply {
         code,
         party,
-        steps: 0,
+        steps: None,
         line,
     }
 }
@@ -43,28 +43,21 @@ fn opening_reply(o: Opening) -> DeskReply
     ensures { result ≡ opening_reply o }
 {
     let m = open_line(o);
-    let answer = m.answer;
-    let p = print_of(answer);
-    let line = m.line;
-    code_reply(p.code, 0xFF, line)
+    code_reply(print_of(m.answer).code, None, m.line)
 }
 
 fn operation_reply(line: Line, operation: Operation, party: u8) -> DeskReply
     ensures { result ≡ operation_reply line operation party }
 {
-    if !is_open_line(line) {
-        return code_reply(13, party, line);
+    if !is_open_line(&line) {
+        return code_reply(13, Some(party), line);
     }
-    let steps = steps_to_rest(line, operation, party);
     let m = call(line, operation, party);
-    let answer = m.answer;
-    let p = print_of(answer);
-    let next = m.line;
     DeskReply {
-        code: p.code,
-        party,
-        steps,
-        line: next,
+        code: print_of(m.answer).code,
+        party: Some(party),
+        steps: accepted_steps(line, operation, party),
+        line: m.line,
     }
 }
 
@@ -74,19 +67,13 @@ pub fn reply_to(line: Line, text: &[u8]) -> DeskReply
 {
     let h = read_header(text);
     if h.code == OPENING {
-        if is_open_line(line) {
-            return code_reply(13, 0xFF, line);
+        if is_open_line(&line) {
+            return code_reply(13, None, line);
         }
         return opening_reply(read_opening(text));
     }
-    if h.code == 0x10 {
-        return operation_reply(line, Operation::Acquire, h.party);
+    match Operation::try_from(h.code) {
+        Ok(operation) => operation_reply(line, operation, h.party),
+        Err(_) => code_reply(12, None, line),
     }
-    if h.code == 0x12 {
-        return operation_reply(line, Operation::Cancel, h.party);
-    }
-    if h.code == 0x13 {
-        return operation_reply(line, Operation::Release, h.party);
-    }
-    code_reply(12, 0xFF, line)
 }

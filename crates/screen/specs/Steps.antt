@@ -1,5 +1,5 @@
 -- "How many steps the hub would take to come to rest", from the line alone; the call's own 20 is not counted.
-use Rattle.std.specs.Prelude.{ℕ, Bool, cond}
+use Rattle.std.specs.Prelude.{ℕ, Bool, Option, Some, None, cond}
 use Rattle.screen.specs.declared.record.Line.{Line}
 use Rattle.screen.specs.declared.record.Operation.{Operation}
 use Rattle.screen.specs.Moves.{has_permit, has_waiter, is_accepted, line_move, next_waiter}
@@ -23,6 +23,10 @@ unfoldable pub own_steps : Line → Operation → ℕ
 own_steps l Operation.Acquire = cond (has_permit l) (to_counter l.named) TO_WAIT
 own_steps l Operation.Cancel = TO_CANCEL
 own_steps l Operation.Release = cond (has_waiter l) TO_HAND_OVER (to_counter l.named)
+
+-- How many steps an operation that is accepted takes; a refused one has no such number.
+unfoldable pub accepted_steps : Line → Operation → ℕ → Option ℕ
+accepted_steps l o p = cond (is_accepted (line_move l o p).answer) (Some (own_steps l o)) None
 
 -- A refused operation takes none.
 unfoldable pub steps_to_rest : Line → Operation → ℕ → ℕ

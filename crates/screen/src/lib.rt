@@ -6,4 +6,4 @@
 
 pub mod record; // the line, a clerk's operations, and what one leaves
 
-pub use record::{Line, Moved, Operation};
+pub use record::{Line, Moved, Operation, UnknownOperation};

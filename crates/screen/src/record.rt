@@ -52,6 +52,28 @@ pub enum Operation {
     Release,
 }
 
+// A code that is no operation's.
+#[derive(Clone, Copy, Debug, PartialEq, Eq)]
+pub struct UnknownOperation(pub u8);
+
+impl TryFrom<u8> for Operation {
+    ghost use Rattle.std.specs.Prelude.{◌≡◌};
+    ghost use Rattle.screen.specs.Codes.{operation_coded};
+
+    type Error = UnknownOperation;
+
+    ghost try_from_gives = { λ code outcome. outcome ≡ operation_coded code };
+
+    fn try_from(code: u8) -> Result<Operation, UnknownOperation> {
+        match code {
+            0x10 => Ok(Operation::Acquire),
+            0x12 => Ok(Operation::Cancel),
+            0x13 => Ok(Operation::Release),
+            _ => Err(UnknownOperation(code)),
+        }
+    }
+}
+
 // What an opening or an operation answers, and the line that it leaves.
 #[derive(Clone, Copy)]
 pub struct Moved {

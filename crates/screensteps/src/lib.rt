@@ -3,7 +3,7 @@
 #![tactic(auto)]
 
 ghost use Rattle.std.specs.Prelude.{◌≡◌};
-ghost use Rattle.screen.specs.Steps.{own_steps, steps_to_rest, to_counter};
+ghost use Rattle.screen.specs.Steps.{accepted_steps, own_steps, steps_to_rest, to_counter};
 
 use hub::answers::Answer;
 use screen::record::{Line, Operation};
@@ -45,12 +45,19 @@ fn own_steps(line: &Line, operation: Operation) -> u8
     }
 }
 
+// How many steps the hub takes for an operation that is accepted.
+pub fn accepted_steps(line: Line, operation: Operation, party: u8) -> Option<u8>
+    ensures { result ≡ accepted_steps line operation party }
+{
+    match call(line, operation, party).answer {
+        Answer::Accepted => Some(own_steps(&line, operation)),
+        _ => None,
+    }
+}
+
 // How many steps the hub takes to come to rest; none for an operation that is refused.
 pub fn steps_to_rest(line: Line, operation: Operation, party: u8) -> u8
     ensures { result ≡ steps_to_rest line operation party }
 {
-    match call(line, operation, party).answer {
-        Answer::Accepted => own_steps(&line, operation),
-        _ => 0,
-    }
+    accepted_steps(line, operation, party).unwrap_or(0)
 }

@@ -6,10 +6,12 @@ use mathlib.Core.List.{List, [], ◌∷◌, ◌++◌, append_assoc, append-nil}
 use native.Mathlib.Numerals.{add-one}
 use native.Mathlib.Omega.{arith}
 use borrow.Author.Tests.{le-ltb, lt-ltb}
-use lib.Dec.{eqb, ltb}
-use lib.ListN.{length, get_or, take, drop, drop_of_length-le, length-append}
-use lib.Seq.{drop-cons, get_or-take, length-take-le}
-use Rattle.screen.specs.Line.{holders_from}
+use lib.Dec.{ltb}
+use lib.ListN.{length, get_or, drop, drop_of_length-le, length-append, length-take}
+use lib.Seq.{drop-cons}
+use Rattle.std.proofs.Common.{Option, Some, None}
+use Rattle.screen.specs.declared.record.Line.{Line}
+use Rattle.screen.specs.Line.{holders_from, waiters}
 use Rattle.deskline.specs.Text.{HELD, SPACE, WAITING, decimal, decimal_char, numbers, put_at, steps_text}
 use Rattle.deskline.proofs.Laws.PutAt.{Written, gives, next, none, put-at-length, text-is}
 
@@ -85,16 +87,17 @@ module _ {at : ℕ} {out₀ all rest : List ℕ} {i end : ℕ} {out : List ℕ} 
   pub number-room : i < 32 → end + 4 ≤ length out
   number-room h = omega (arith, l.done.past, l.few, l.room, l.long)
 
-  pub listed-skip : {rest' : List ℕ} → i < 32 → rest ≡ rest' → Listed at out₀ all rest' (i + 1) end out
-  listed-skip h e =
+  pub listed-skip : {rest' : List ℕ} {end' : ℕ} {out' : List ℕ} → i < 32 → rest ≡ rest' → end' ≡ end → out' ≡ out
+      → Listed at out₀ all rest' (i + 1) end' out'
+  listed-skip h e f g =
       record {
         text = l.text;
-        done = l.done;
+        done = record { past = f ∙ l.done.past; same = g ∙ l.done.same; room = l.done.room };
         sum = ap (λ (r : List ℕ). l.text ++ numbers r) (sym e) ∙ l.sum;
         few = omega (arith, l.few);
         within = omega arith;
         room = l.room;
-        long = l.long;
+        long = ap length g ∙ l.long;
       }
 
   pub listed-one : {rest' : List ℕ} {x end' : ℕ} {out' : List ℕ} → i < 32 → rest ≡ x ∷ rest'
@@ -134,25 +137,19 @@ unfolding holders_from
 none_left hs p s h =
     ap (holders_from p) (drop_of_length-le hs {i = p} (omega arith))
 
--- Of the m that wait in a queue q, the next, and the end.
-module _ (q : List ℕ) (m i : ℕ) (size : length q ≡ 32) (short : m ≤ 32) where
-  all : length (take m q) ≡ m
-  all = length-take-le m q (omega arith)
+-- Of a list, the next, and the end.
+pub next-of : (w : List ℕ) (i : ℕ) → i < length w → drop i w ≡ get_or w i 0 ∷ drop (i + 1) w
+next-of w i h = rw (add-one, drop-cons w i 0 h)
 
-  pub next-waits : i < m → drop i (take m q) ≡ get_or q i 0 ∷ drop (i + 1) (take m q)
-  next-waits h = rw (add-one, drop-cons (take m q) i 0 (omega (arith, all)), get_or-take m q i 0 h)
-
-  pub no_more : m ≤ i → drop i (take m q) ≡ []
-  no_more h = drop_of_length-le (take m q) {i = i} (omega (arith, all))
+pub few-wait : (l : Line) (w : List ℕ) → w ≡ waiters l → l.waiting ≤ 32 → length w ≤ 32
+unfolding waiters
+few-wait l w e h = omega (arith, ap length e, length-take l.waiting l.queue)
 
 -- How long the steps can be.
-pub steps-short : (code steps : ℕ) → length (steps_text code steps) ≤ 3
+pub steps-short : (steps : Option ℕ) → length (steps_text steps) ≤ 3
 unfolding steps_text
-steps-short code steps = go (eqb code 0x20)
-  where
-    go : (b : Bool) → length (cond b (decimal steps) (0x2D ∷ [])) ≤ 3
-    go true = decimal-short steps
-    go false = omega arith
+steps-short (Some n) = decimal-short n
+steps-short None = omega arith
 
 -- The parts of a line, one behind the other, are the line.
 pub head-laid : (a b s : List ℕ) → (((a ++ (SPACE ∷ [])) ++ b) ++ (SPACE ∷ [])) ++ s ≡ a ++ SPACE ∷ (b ++ SPACE ∷ s)

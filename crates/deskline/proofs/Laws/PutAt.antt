@@ -1,11 +1,10 @@
 -- Texts written one behind the other.
 use Prim.Native.Nat.{ℕ, suc, ◌+◌, ◌≤◌, ◌<◌}
-use mathlib.Core.Path.{◌≡◌, refl, sym, ap, subst, ◌∙◌}
+use mathlib.Core.Path.{◌≡◌, sym, ap, subst, ◌∙◌}
 use mathlib.Core.List.{List, [], ◌∷◌, ◌++◌, append_assoc}
-use native.Mathlib.Numerals.{add-one}
 use native.Mathlib.Omega.{arith}
-use lib.ListN.{length, get_or, take, drop, set, length-append, length-drop, length-set, take-append-drop}
-use lib.Seq.{drop_at, drop-drop, length-take-le, set_split, take_all, take_at, take-suc}
+use lib.ListN.{length, take, drop, set, length-append, length-drop, take-append-drop}
+use lib.Seq.{drop_at, drop-drop, length-take-le, set_split, take_at}
 use Rattle.deskline.specs.Text.{put_at}
 
 pub put-at-one : (out : List ℕ) (at c : ℕ) → at < length out → set out at c ≡ put_at at (c ∷ []) out
@@ -87,40 +86,3 @@ text-is {at} {end} {t} {u} {out₀} {out} e w = subst (λ (x : List ℕ). Writte
 pub from_start : (out t : List ℕ) → put_at 0 t out ≡ t ++ drop (length t) out
 unfolding put_at
 from_start out t = let e : 0 + length t ≡ length t = omega arith in ap (λ (n : ℕ). t ++ drop n out) e
-
--- A word, character by character: the first i of them are written.
-pub record Copied (at : ℕ) (word out₀ : List ℕ) (i : ℕ) (out : List ℕ) : Type 0 where
-  pub within : i ≤ length word
-  pub room : at + length word ≤ length out₀
-  pub long : length out ≡ length out₀
-  pub done : Written at (take i word) out₀ (at + i) out
-
-pub copied_none : (at : ℕ) (word out : List ℕ) → at + length word ≤ length out → Copied at word out 0 out
-copied_none at word out h =
-    let e : at + 0 ≡ at = omega arith in
-    record {
-      within = omega arith;
-      room = h;
-      long = refl;
-      done = subst (λ (n : ℕ). Written at [] out n out) (sym e) (none at out (omega arith));
-    }
-
-module _ {at : ℕ} {word out₀ : List ℕ} {i : ℕ} {out : List ℕ} (c : Copied at word out₀ i out) where
-  pub copied-one : i < length word → Copied at word out₀ (i + 1) (set out (at + i) (get_or word i 0))
-  copied-one h =
-      let x = get_or word i 0 in
-      let e : take i word ++ (x ∷ []) ≡ take (i + 1) word = rw (add-one, take-suc word i 0 h) in
-      record {
-        within = omega arith;
-        room = c.room;
-        long = length-set out (at + i) x ∙ c.long;
-        done =
-            text-is e
-            (next c.done (x ∷ []) (omega arith) (put-at-one out (at + i) x (omega (arith, c.room, c.long)))
-            (omega (arith, c.room)));
-      }
-
-  pub copied_all : length word ≤ i → (at + i ≡ at + length word) × (out ≡ put_at at word out₀)
-  copied_all h =
-      let e : i ≡ length word = omega (arith, c.within) in
-      (ap (λ (n : ℕ). at + n) e, (gives (text-is (take_all i word h) c.done)).1)

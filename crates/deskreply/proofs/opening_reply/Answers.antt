@@ -4,5 +4,4 @@ use Rattle.deskreply.proofs.Laws.Replies.{opens}
 use Rattle.deskreply.proofs.opening_reply.Goals as goal
 
 pub returns : goal.returns
-returns c = c.code_reply.ensures ∙ opens _ _ _ c.open_line-m.ensures.0
-    c.print_of-p.ensures
+returns c = c.code_reply.ensures ∙ opens _ _ _ c.open_line-m.ensures.0 c.print_of.ensures

@@ -9,4 +9,4 @@ returns-then-not-is_open_line c = c.code_reply.ensures ∙ sym (not_yet_lem _ _ 
 pub returns : goal.returns
 returns c =
     does _ _ _ _ _ _ (sym c.is_open_line.ensures ∙ c.if-not-is_open_line.false)
-    c.steps_to_rest-steps.ensures c.call-m.ensures.0 c.print_of-p.ensures
+    c.accepted_steps.ensures c.call-m.ensures.0 c.print_of.ensures

@@ -7,6 +7,8 @@ use native.Mathlib.Omega.{arith}
 use borrow.Author.Tests.{le-leb, le-ltb, lt-leb, lt-ltb}
 use types.Run.{OneOf, miss}
 use denote.Enum.Declared.{tag_of}
+use Rattle.std.proofs.Common.{Some, None, refl}
+use Rattle.std.specs.Option.{unwrap_or}
 use Rattle.hub.specs.declared.answers.Answer.{Answer}
 use Rattle.hub.specs.declared.answers.Refusal.{Refusal}
 use Rattle.hub.specs.declared.opening.Opening.{Opening}
@@ -24,7 +26,7 @@ use Rattle.screen.specs.Fits.{holder_count}
 use Rattle.screen.specs.Line.{opened_line}
 use Rattle.screen.specs.Moves.{acquire, cancel, checked_move, has_permit, has_waiter, is_accepted, line_move}
 use Rattle.screen.specs.Moves.{line_opening, no_line, own_move, refused_move, release}
-use Rattle.screen.specs.Steps.{TO_HAND_OVER, TO_WAIT, own_steps, steps_to_rest, to_counter}
+use Rattle.screen.specs.Steps.{TO_HAND_OVER, TO_WAIT, accepted_steps, own_steps, steps_to_rest, to_counter}
 
 pub with-printed : {m d : Moved} → m ≡ d → (m ≡ d) × (printed m.answer ≡ printed d.answer)
 with-printed e = (e, ap (λ (m : Moved). printed m.answer) e)
@@ -79,13 +81,21 @@ not_taken taken t = absurd (miss OTHERS 2 tt t)
 not_taken (turned r) t = no-refusal r 0x20 (omega arith)
 
 module _ (l : Line) (o : Operation) (p : ℕ) where
-  pub no_steps : is_accepted (line_move l o p).answer ≡ false → steps_to_rest l o p ≡ 0
-  unfolding steps_to_rest
+  pub no_steps : is_accepted (line_move l o p).answer ≡ false → accepted_steps l o p ≡ None
+  unfolding accepted_steps
   no_steps e = rw e
 
-  pub some-steps : (line_move l o p).answer ≡ Answer.Accepted → steps_to_rest l o p ≡ own_steps l o
-  unfolding steps_to_rest
+  pub some-steps : (line_move l o p).answer ≡ Answer.Accepted → accepted_steps l o p ≡ Some (own_steps l o)
+  unfolding accepted_steps
   some-steps e = rw e
+
+  pub steps-counted : unwrap_or (accepted_steps l o p) 0 ≡ steps_to_rest l o p
+  unfolding accepted_steps steps_to_rest
+  steps-counted = go (is_accepted (line_move l o p).answer)
+    where
+      go : (b : Bool) → unwrap_or (cond b (Some (own_steps l o)) None) 0 ≡ cond b (own_steps l o) 0
+      go true = refl
+      go false = refl
 
 -- The steps of each operation.
 module _ (l : Line) where

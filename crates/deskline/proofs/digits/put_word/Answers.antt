@@ -1,12 +1,18 @@
--- `put_word` meets its contract: the characters passed are written.
-use borrow.Author.Rules.{rules}
-use native.Mathlib.Omega.{arith}
-use Prim.Native.Nat.{◌-◌}
-use Rattle.deskline.proofs.Laws.PutAt.{copied_none, copied-one}
+-- `put_word` meets its contract: the characters are written, and the rest is as it was.
+use Rattle.std.proofs.Common.{refl, ap, ◌∙◌, arith, ◌≡◌, ◌+◌, ◌-◌, ◌++◌, List, ℕ, length, take}
+use borrow.Rule.Slice.PartMut.{put_mid}
+use lib.Seq.{drop-drop}
+use Rattle.deskline.specs.Text.{put_at}
 use Rattle.deskline.proofs.digits.put_word.Goals as goal
 
-pub loop-i-init : goal.loop-i-init
-loop-i-init c = copied_none _ _ _ (search rules)
-
-pub loop-i-preserved : goal.loop-i-preserved
-loop-i-preserved c = copied-one c.loop-i.invariant (omega arith)
+pub returns : goal.returns
+unfolding put_at
+returns c =
+    let a = c.args.at in
+    let w = c.args.word.now in
+    let out = c.args.out.now in
+    let e : a + length w - a ≡ length w = omega arith in (
+      refl,
+      (λ i. put_mid a (e i) out (c.copy_from_slice.ensures.after i))
+          ∙ ap (λ (r : List ℕ). take a out ++ (w ++ r)) (drop-drop (length w) a out),
+    )

@@ -1,6 +1,6 @@
 -- `put_head` meets its contract: its parts, one behind the other.
-use native.Mathlib.Omega.{arith}
-use mathlib.Core.List.{[], ◌∷◌}
+use Rattle.std.proofs.Common.{rules, arith, ◌≡◌, [], ◌∷◌}
+use Rattle.std.specs.Option.{unwrap_or}
 use Rattle.encoding.specs.Hex.{hex_of}
 use Rattle.deskline.specs.Text.{SPACE, head_text, steps_text}
 use Rattle.deskline.proofs.Laws.Numbers.{head-laid, steps-short}
@@ -10,21 +10,23 @@ use Rattle.deskline.proofs.text.put_head.Goals as goal
 pub returns : goal.returns
 unfolding head_text
 returns c =
-    let a = c.args in
-    let x = steps-short a.code a.steps in record {
-      value = gives
-          (text-is (head-laid (hex_of (a.code ∷ [])) (hex_of (a.party ∷ [])) (steps_text a.code a.steps))
-          (next (next (next (next (first (hex_of (a.code ∷ []))
+    let r = c.args.r.now in
+    let party : c.unwrap_or.result ≡ unwrap_or r.party 0xFF = search rules in
+    let x = steps-short r.steps in record {
+      value = rw (← party)
+          (gives
+          (text-is (head-laid (hex_of (r.code ∷ [])) (hex_of (c.unwrap_or.result ∷ [])) (steps_text r.steps))
+          (next (next (next (next (first (hex_of (r.code ∷ []))
           c.put_hex-a.ensures.0 c.put_hex-a.ensures.1 (omega arith))
           (SPACE ∷ [])
           c.put_char-b.ensures.0 c.put_char-b.ensures.1 (omega arith))
-          (hex_of (a.party ∷ []))
+          (hex_of (c.unwrap_or.result ∷ []))
           c.put_hex-c.ensures.0
           c.put_hex-c.ensures.1
           (omega arith))
           (SPACE ∷ []) c.put_char-d.ensures.0
           c.put_char-d.ensures.1 (omega arith))
-          (steps_text a.code a.steps) c.put_steps.ensures.0
-          c.put_steps.ensures.1 (omega arith)));
+          (steps_text r.steps) c.put_steps.ensures.0
+          c.put_steps.ensures.1 (omega arith))));
       short = omega arith;
     }

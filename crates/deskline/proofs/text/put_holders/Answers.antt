@@ -1,32 +1,24 @@
 -- `put_holders` meets its contract: those written and those still to come are all that hold.
-use borrow.Author.Rules.{rules}
-use native.Mathlib.Omega.{arith}
-use Prim.Native.Nat.{◌-◌}
+use Rattle.std.proofs.Common.{rules, arith, ◌∙◌}
 use Rattle.screen.specs.Line.{holders}
 use Rattle.screen.proofs.Laws.Holders.{next-free, next-holds}
-use Rattle.deskline.proofs.Laws.Numbers.{listed-all, listed-none}
-use Rattle.deskline.proofs.Laws.Numbers.{listed-one, listed-skip, none_left}
+use Rattle.deskline.proofs.Laws.Numbers.{listed-all, listed-none, listed-one, listed-skip, none_left}
 use Rattle.deskline.proofs.text.put_holders.Goals as goal
+use Rattle.deskline.proofs.text.put_holders.Goals.{then-holds, else-holds}
 
-pub loop-p-init : goal.loop-p-init
-loop-p-init c = listed-none _ _ _ (search rules)
+pub loop-party-init : goal.loop-party-init
+loop-party-init c = listed-none _ _ _ (search rules)
 
-pub loop-p-preserved-then-not-holding-party : goal.loop-p-preserved-then-not-holding-party
-loop-p-preserved-then-not-holding-party c =
-    listed-skip c.loop-p.invariant (omega arith)
-    (next-free _ _ (search rules) c.if-not-holding-party.true)
+pub loop-party-preserved : goal.loop-party-preserved
+loop-party-preserved c =
+    elim c.if-holds.branch [
+      | then-holds w ↦
+          listed-one c.loop-party.invariant (omega arith) (next-holds _ _ (search rules) w.if-holds.true)
+          (w.end-is ∙ w.put_number-end.ensures.0) (w.out-is ∙ w.put_number-end.ensures.1)
+      | else-holds w ↦
+          listed-skip c.loop-party.invariant (omega arith) (next-free _ _ (search rules) w.if-holds.false) w.end-is w.out-is
+    ]
 
-pub loop-p-preserved : goal.loop-p-preserved
-loop-p-preserved c =
-    listed-one c.loop-p.invariant (omega arith)
-    (next-holds _ _ (search rules) c.if-not-holding-party.false)
-    c.put_number-end.ensures.0 c.put_number-end.ensures.1
-
-pub returns : goal.returns
+pub returns-clause-value : goal.returns-clause-value
 unfolding holders
-returns c =
-    let l = c.loop-p.invariant in record {
-      value = listed-all c.loop-p.invariant (none_left _ _ (search rules) (omega arith));
-      short = omega
-          (arith, l.done.past, l.few, l.within);
-    }
+returns-clause-value c = listed-all c.loop-party.invariant (none_left _ _ (search rules) (omega arith))

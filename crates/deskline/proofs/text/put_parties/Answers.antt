@@ -12,16 +12,16 @@ unfolding parties_text
 returns c =
     let a = c.args in record {
       value = gives
-          (text-is (parties-laid (numbers (holders a.line)) (numbers (waiters a.line)))
+          (text-is (parties-laid (numbers (holders a.line.now)) (numbers (waiters a.line.now)))
           (next (next (next (next (first (SPACE ∷ HELD)
           c.put_word-a.ensures.0 c.put_word-a.ensures.1 (omega arith))
-          (numbers (holders a.line))
+          (numbers (holders a.line.now))
           c.put_holders-b.ensures.value.0 c.put_holders-b.ensures.value.1 (omega arith))
           (SPACE ∷ WAITING)
           c.put_word-c.ensures.0
           c.put_word-c.ensures.1
           (omega arith))
-          (numbers (waiters a.line))
+          (numbers (waiters a.line.now))
           c.put_waiters-d.ensures.value.0
           c.put_waiters-d.ensures.value.1 (omega arith))
           (0x0A ∷ []) c.put_char.ensures.0 c.put_char.ensures.1

@@ -1,12 +1,11 @@
 -- `put_steps` meets its contract: the number, or a dash.
-use borrow.Author.Tests.{eq-eqb, ne_eqb}
 use Rattle.deskline.specs.Text.{steps_text}
 use Rattle.deskline.proofs.text.put_steps.Goals as goal
 
-pub returns-then-code-eq32 : goal.returns-then-code-eq32
+pub returns-in-Some : goal.returns-in-Some
 unfolding steps_text
-returns-then-code-eq32 c = rw (eq-eqb _ _ c.if-code-eq32.true) c.put_decimal.ensures
+returns-in-Some c = rw c.in-Some.is c.put_decimal.ensures
 
-pub returns : goal.returns
+pub returns-in-None : goal.returns-in-None
 unfolding steps_text
-returns c = rw (ne_eqb _ _ c.if-code-eq32.false) c.put_char.ensures
+returns-in-None c = rw c.in-None.is c.put_char.ensures
