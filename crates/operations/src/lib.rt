@@ -5,7 +5,8 @@
 use hub::answers::Answer;
 use hub::record::Hub;
 
-// What an operation answers, whom it woke, how many steps it took, and the record that it leaves.
+// What an operation answers, whom it woke, how many steps it took, and the record that it leaves. FF for nobody is the
+// number that `ScreenShows` and `WritesShown` speak of (a).
 #[derive(Clone, Copy)]
 pub struct Operated {
     pub answer: Answer, // of the call: accepted (20) or refused

@@ -1,4 +1,7 @@
 // The plain line of the desk screen.
+//
+// A line is bytes as a clerk hands them in, and `line_fits` says which of them fit. So it has no invariant (a): a type
+// with one would ask more of the callers of `call`.
 
 ghost use Rattle.std.specs.Prelude.{◌≡◌, ◌≤◌};
 ghost use Rattle.screen.specs.Line.{opened_line, waiters};

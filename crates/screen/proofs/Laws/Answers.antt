@@ -91,15 +91,11 @@ module _ (l : Line) (p : ℕ) where
   unfolding own_move release holds_in has_waiter
   hands-over e h = rw (e, le-leb 1 l.waiting h)
 
--- Who has a place among those that wait, and who has none.
+-- Who has a place among those that wait.
 module _ (l : Line) (f : Fit l) (size : length l.queue ≡ 32) (p i : ℕ) (e : i ≡ place_of p (waiters l)) where
   pub has-place : i < l.waiting → among (waiters l) p ≡ true
   has-place h =
       place-among (waiters l) p ∙ lt-ltb (place_of p (waiters l)) (length (waiters l)) (omega (arith, e, waiters-length l f size))
-
-  pub no_place : l.waiting ≤ i → among (waiters l) p ≡ false
-  no_place h =
-      place-among (waiters l) p ∙ le-ltb (place_of p (waiters l)) (length (waiters l)) (omega (arith, e, waiters-length l f size))
 
   pub leaves-place : with_waiters (take i (waiters l) ++ drop (suc i) (waiters l)) l
       ≡ with_waiters (without p (waiters l)) l

@@ -24,9 +24,6 @@ never e = let z : ◌≡◌ {A = ℕ} 0 1 = cc in omega arith
 pub lt_by : {a b c : ℕ} → a ≡ b → a < c → b < c
 lt_by e h = omega arith
 
-pub gt-by : {a b c : ℕ} → a ≡ b → c < a → c < b
-gt-by e h = omega arith
-
 pub ge-by : {a b c : ℕ} → a ≡ b → c ≤ a → c ≤ b
 ge-by e h = omega arith
 
