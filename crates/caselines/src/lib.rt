@@ -18,16 +18,12 @@ pub fn put_text(out: &mut [u8], bytes: &[u8])
     ensures { out.new ≡ text_of bytes.now }
 {
     let pairs = table();
-    let mut i: usize = 0;
-    let mut at: usize = 0;
-    while i < bytes.len() {
-        let said = pairs[bytes[i] as usize];
-        out[at] = (said % 256) as u8;
-        out[at + 1] = (said / 256 % 256) as u8;
-        at += 2;
-        i += 1;
+    for (i, byte) in bytes.iter().enumerate() {
+        let [first, second] = pairs[*byte as usize].to_le_bytes();
+        out[2 * i] = first;
+        out[2 * i + 1] = second;
     }
-    out[at] = 0x0A;
+    out[2 * bytes.len()] = 0x0A;
 }
 
 pub fn answer_line(party: u8, answer: Answer) -> [u8; 15]

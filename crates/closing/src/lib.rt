@@ -19,16 +19,12 @@ pub fn finish(session: Session, out: &mut [u8]) -> usize
         × (out.new ≡ finished session
         ++ drop (15 * suc (length (rest session.reader))) out.old) }
 {
-    let len = session.reader.len;
-    if len == 0 {
-        let hub = session.hub;
-        put_closing(hub, &mut out[0..15]);
+    if session.reader.len == 0 {
+        put_closing(session.hub, &mut out[0..15]);
         return 1;
     }
     let mut requests = [0u8; 2];
     let last = feed(session, b"\n", &mut requests, &mut out[0..15]);
-    let past = last.session;
-    let hub = past.hub;
-    put_closing(hub, &mut out[15..30]);
+    put_closing(last.session.hub, &mut out[15..30]);
     2
 }
