@@ -1,6 +1,8 @@
 // One call on any record at all, also on one that no opening reaches. A case on standard input is a
 // record and a call, 1883 bytes; its reply is the answer and the record that is left, 1888 bytes.
 // tests/README.md lays them out.
+// latchprobe is this program over a latch: as one function it would take a record's size, how it is
+// read, called and written, and that is all that stands here.
 
 #![tactic(auto)]
 
@@ -12,8 +14,7 @@ use std::io::Read;
 use step::calls::call;
 
 fn op_of(byte: u8) -> Op {
-    let name = byte % 5;
-    match name {
+    match byte % 5 {
         0 => Op::Radio,
         1 => Op::Acquire,
         2 => Op::Step,
@@ -24,29 +25,20 @@ fn op_of(byte: u8) -> Op {
 
 // Whether all of the reply was written.
 fn print_reply(rt: &HostRuntime, party: u8, o: Outcome) -> bool {
-    let answer = o.answer;
     let mut line = [0u8; 7];
-    put(&mut line, party, print_of(answer));
-    if rt.write_all(&line).is_err() {
-        return false;
-    }
-    let record = record_bytes(o.hub);
-    rt.write_all(&record).is_ok()
+    put(&mut line, party, print_of(o.answer));
+    rt.write_all(&line).is_ok() && rt.write_all(&record_bytes(o.hub)).is_ok()
 }
 
 // False where the input ends, or writing fails.
 fn answer_one(rt: &HostRuntime) -> bool {
     let mut record = [0u8; 1881];
-    if rt.stdin().read_exact(&mut record).is_err() {
-        return false;
-    }
     let mut asked = [0u8; 2];
-    if rt.stdin().read_exact(&mut asked).is_err() {
+    if rt.stdin().read_exact(&mut record).is_err() || rt.stdin().read_exact(&mut asked).is_err() {
         return false;
     }
-    let party = asked[1];
-    let o = call(record_of(&record), op_of(asked[0]), party);
-    print_reply(rt, party, o)
+    let [op, party] = asked;
+    print_reply(rt, party, call(record_of(&record), op_of(op), party))
 }
 
 // A proved loop has to end, so the cases are counted up to a number that no input reaches.
