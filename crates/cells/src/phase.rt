@@ -1,4 +1,5 @@
-// A phase by its name, its ticket and its mark.
+// A phase by its name, its ticket and its mark. These are functions and no From: a byte alone is no phase, nor the other way
+// round.
 
 ghost use Rattle.std.specs.Prelude.{◌≡◌};
 ghost use Rattle.cells.specs.Phases.{mark_of, marked, phase_name, phase_named};

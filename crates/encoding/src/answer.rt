@@ -1,39 +1,18 @@
 // How an answer is written: its code, the party, the woken party and the number, seven bytes.
 
 ghost use Rattle.std.specs.Prelude.{◌≡◌, length};
-ghost use Rattle.hub.specs.Answers.{plain, printed, refusal_code, with_number};
+ghost use Rattle.hub.specs.Answers.{plain, printed, with_number};
 ghost use Rattle.encoding.specs.Frame.{frame_of, paper};
 
-use hub::answers::{Answer, Refusal};
+use hub::answers::Answer;
 
-// What an answer prints: its code, the woken party and the number.
+// What an answer prints: its code, the woken party and the number, as they are written. As options each of the two that
+// write a Print would put FF and FFFFFFFF back.
 #[derive(Clone, Copy)]
 pub struct Print {
     pub code: u8,
     pub woken: u32, // FF if nobody was woken
     pub number: u32, // FFFFFFFF if the answer has none
-}
-
-pub fn refusal_code(why: Refusal) -> u8
-    ensures { result ≡ refusal_code why }
-{
-    match why {
-        Refusal::Unfit => 1,
-        Refusal::BadPermits => 2,
-        Refusal::BadParties => 3,
-        Refusal::NoSuchParty => 4,
-        Refusal::NotFree => 5,
-        Refusal::Exhausted => 6,
-        Refusal::Full => 7,
-        Refusal::AtRest => 8,
-        Refusal::NotWaiting => 9,
-        Refusal::NotCancellable => 10,
-        Refusal::NotHolding => 11,
-        Refusal::SameRadios => 14,
-        Refusal::MiscountedKinds => 15,
-        Refusal::UnknownKind => 16,
-        Refusal::NoDesk => 17,
-    }
 }
 
 pub fn plain(code: u8) -> Print
@@ -55,11 +34,12 @@ fn with_number(code: u8, number: u32) -> Print
     }
 }
 
+// A function and no From: beside `plain` its name says what is made of an answer.
 pub fn print_of(answer: Answer) -> Print
     ensures { paper result ≡ printed answer }
 {
     match answer {
-        Answer::Refused(why) => plain(refusal_code(why)),
+        Answer::Refused(why) => plain(why.code()),
         Answer::Opened => plain(0x1F),
         Answer::Accepted => plain(0x20),
         Answer::Acquired => plain(0x21),

@@ -27,6 +27,8 @@ pub(crate) fn slots_of(bytes: &[u8]) -> [PartySlot; 32]
     array::from_fn(|p| slot_of(bytes, p))
 }
 
+// latchlayout has the same loop over its own slots and names. What is alike is `cell`; a closure that made a cell of a slot
+// would stand in both all the same.
 fn put_phases(out: &mut [u8], slots: &[PartySlot])
     requires { (length out.old ≡ 160) × (length slots.now ≡ 32) }
     ensures { out.new ≡ phase_bytes slots.now }

@@ -10,7 +10,8 @@ use hub::opening::Opening;
 // A line of more characters is malformed.
 pub const LONGEST: usize = 160;
 
-// A request in two bytes: the code of a call and its party, or one of these codes and FF.
+// A request in two bytes: the code of a call and its party, or one of these codes and FF. No enum, since requests stand
+// in a buffer as bytes, two each, in the form in which C gives its calls.
 #[derive(Clone, Copy)]
 pub struct Header {
     pub code: u8,

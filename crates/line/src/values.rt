@@ -8,7 +8,7 @@ ghost use Rattle.encoding.specs.Tables.{Values};
 
 use crate::request::{Header, malformed};
 
-// 256 is for a character that is no digit: no byte comes of it.
+// 256 is for a character that is no digit: no byte comes of it, so that one test of the sum serves both characters.
 const VALUES: [u16; 256] = [
     256, 256, 256, 256, 256, 256, 256, 256, 256, 256, 256, 256, 256, 256, 256, 256, 256, 256, 256,
     256, 256, 256, 256, 256, 256, 256, 256, 256, 256, 256, 256, 256, 256, 256, 256, 256, 256, 256,
