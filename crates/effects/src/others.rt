@@ -15,6 +15,7 @@ use hub::record::{Hub, Phase};
 use phases::has_radio;
 
 // Is there no place for one more ticket? Asked only of a party that is free.
+#[tactic(auto, unfolding(hub::specs::Table::decide, hub::specs::Table::acquire, hub::specs::Phases::is_one_of))]
 pub fn decide_acquire(full: bool, s: Sight) -> Effect
     ensures { result ≡ effect_of (decide Op.Acquire full s) s }
 {
@@ -36,6 +37,7 @@ pub fn decide_acquire(full: bool, s: Sight) -> Effect
 }
 
 // Can a party of this phase give up? 9, before kind 3 is looked at, 10.
+#[tactic(auto, unfolding(hub::specs::Table::cancel))]
 fn cancel_to(can: bool, next: Phase, s: Sight) -> Effect
     ensures { result ≡ effect_of (cancel can (eqb s.kind 3) next s) s }
 {
@@ -50,6 +52,7 @@ fn cancel_to(can: bool, next: Phase, s: Sight) -> Effect
 }
 
 // Before it waits a give-up is remembered, once.
+#[tactic(auto, unfolding(hub::specs::Table::decide, hub::specs::Table::cancel, hub::specs::Table::given_up, hub::specs::Phases::is_one_of))]
 fn cancel_early(s: Sight) -> Effect
     requires { is_waiting s.slot.phase ≡ false }
     ensures { result ≡ effect_of (decide Op.Cancel false s) s }
@@ -64,6 +67,7 @@ fn cancel_early(s: Sight) -> Effect
     }
 }
 
+#[tactic(auto, unfolding(hub::specs::Table::decide, hub::specs::Table::given_up, hub::specs::Phases::is_one_of))]
 pub fn decide_cancel(s: Sight) -> Effect
     ensures { result ≡ effect_of (decide Op.Cancel false s) s }
 {
@@ -75,6 +79,7 @@ pub fn decide_cancel(s: Sight) -> Effect
     cancel_to(true, Phase::Aborting(t), s)
 }
 
+#[tactic(auto, unfolding(hub::specs::Table::decide, hub::specs::Table::release, hub::specs::Phases::is_one_of))]
 pub fn decide_release(s: Sight) -> Effect
     ensures { result ≡ effect_of (decide Op.Release false s) s }
 {
@@ -87,6 +92,7 @@ pub fn decide_release(s: Sight) -> Effect
 }
 
 // A party may have a radio on a hub with radios alone.
+#[tactic(auto, unfolding(hub::specs::Table::decide, hub::specs::Table::tell_radio))]
 pub fn decide_radio(s: Sight) -> Effect
     ensures { result ≡ effect_of (decide Op.Radio false s) s }
 {

@@ -36,6 +36,7 @@ fn without_permit(named: bool) -> Phase
 }
 
 // `next`: unnumbered, with or without a mark.
+#[tactic(auto, unfolding(hub::specs::Table::step_acquiring))]
 fn step_acquiring(next: Phase, s: Sight) -> Effect
     requires { CounterFits s.figures.counter }
     ensures { result ≡ effect_of (step_acquiring next (above_zero s.figures.counter) s) s }
@@ -46,6 +47,7 @@ fn step_acquiring(next: Phase, s: Sight) -> Effect
     taken(next, Answer::MustWait, s)
 }
 
+#[tactic(auto, unfolding(hub::specs::Table::row_in, hub::specs::Table::step_suspending))]
 fn step_suspending(s: Sight) -> Effect
     requires { s.figures.issued ≤ 1000000 }
     ensures { result ≡ effect_of (step_in Phase.Suspending s) s }
@@ -56,6 +58,7 @@ fn step_suspending(s: Sight) -> Effect
     acted(Phase::Ticketed(t), drawn, Answer::DrewTicket(t), s)
 }
 
+#[tactic(auto, unfolding(hub::specs::Table::row_in, hub::specs::Table::step_suspending))]
 fn step_suspending_marked(s: Sight) -> Effect
     requires { s.figures.issued ≤ 1000000 }
     ensures { result ≡ effect_of (step_in Phase.SuspendingMarked s) s }
@@ -67,6 +70,7 @@ fn step_suspending_marked(s: Sight) -> Effect
 }
 
 // `next`: waiting, or giving up if there is a mark.
+#[tactic(auto, unfolding(hub::specs::Table::step_ticketed))]
 fn step_ticketed(next: Phase, t: u32, s: Sight) -> Effect
     ensures { result ≡ effect_of (step_ticketed next t s.seat.place s) s }
 {
@@ -79,6 +83,7 @@ fn step_ticketed(next: Phase, t: u32, s: Sight) -> Effect
     }
 }
 
+#[tactic(auto, unfolding(hub::specs::Table::row_in, hub::specs::Table::step_releasing))]
 fn step_releasing(s: Sight) -> Effect
     requires { CounterFits s.figures.counter }
     ensures { result ≡ effect_of (step_in Phase.Releasing s) s }
@@ -89,6 +94,7 @@ fn step_releasing(s: Sight) -> Effect
     given(without_permit(s.named), Answer::Returned, s)
 }
 
+#[tactic(auto, unfolding(hub::specs::Table::row_in, hub::specs::Table::step_resuming))]
 fn step_resuming(s: Sight) -> Effect
     requires { s.figures.resumed ≤ 1000000 }
     ensures { result ≡ effect_of (step_in Phase.Resuming s) s }
@@ -100,6 +106,7 @@ fn step_resuming(s: Sight) -> Effect
 }
 
 // The waiter is woken, or has given up and is left the permit.
+#[tactic(auto, unfolding(hub::specs::Table::resume_waiter, hub::specs::Phases::is_one_of))]
 fn resume_waiter(q: u32, t: u32, s: Sight) -> Effect
     ensures { result ≡ effect_of (resume_waiter (is_waiting s.waiter.phase) q t s) s }
 {
@@ -111,6 +118,7 @@ fn resume_waiter(q: u32, t: u32, s: Sight) -> Effect
     woke(q, t, s)
 }
 
+#[tactic(auto, unfolding(hub::specs::Table::row_in, hub::specs::Table::step_resuming_at))]
 fn step_resuming_at(t: u32, s: Sight) -> Effect
     ensures { result ≡ effect_of (step_in (Phase.ResumingAt t) s) s }
 {
@@ -125,6 +133,7 @@ fn step_resuming_at(t: u32, s: Sight) -> Effect
     }
 }
 
+#[tactic(auto, unfolding(hub::specs::Table::row_in, hub::specs::Table::step_aborting))]
 fn step_aborting(t: u32, s: Sight) -> Effect
     requires { CounterFits s.figures.counter }
     ensures { result ≡ effect_of (step_in (Phase.Aborting t) s) s }
@@ -135,6 +144,7 @@ fn step_aborting(t: u32, s: Sight) -> Effect
     given(Phase::Refusing(t), Answer::MustRefuse, s)
 }
 
+#[tactic(auto, unfolding(hub::specs::Table::row_in, hub::specs::Table::step_cancelling))]
 fn step_cancelling(t: u32, s: Sight) -> Effect
     ensures { result ≡ effect_of (step_in (Phase.Cancelling t) s) s }
 {
@@ -147,6 +157,7 @@ fn step_cancelling(t: u32, s: Sight) -> Effect
     }
 }
 
+#[tactic(auto, unfolding(hub::specs::Table::row_in, hub::specs::Table::step_refusing))]
 fn step_refusing(t: u32, s: Sight) -> Effect
     ensures { result ≡ effect_of (step_in (Phase.Refusing t) s) s }
 {
@@ -160,6 +171,7 @@ fn step_refusing(t: u32, s: Sight) -> Effect
 }
 
 // A radio is stored, or not yet.
+#[tactic(auto, unfolding(hub::specs::Table::row_in, hub::specs::Table::step_fetching))]
 fn step_fetching(s: Sight) -> Effect
     ensures { result ≡ effect_of (step_in Phase.Fetching s) s }
 {
@@ -169,6 +181,7 @@ fn step_fetching(s: Sight) -> Effect
     told(Answer::NotYet, s)
 }
 
+#[tactic(auto, unfolding(hub::specs::Table::row_in, hub::specs::Table::step_storing))]
 fn step_storing(s: Sight) -> Effect
     ensures { result ≡ effect_of (step_in Phase.Storing s) s }
 {
@@ -176,6 +189,7 @@ fn step_storing(s: Sight) -> Effect
 }
 
 // The step table.
+#[tactic(auto, unfolding(hub::specs::Table::row_in))]
 pub fn decide_step(s: Sight) -> Effect
     requires { Small s }
     ensures { result ≡ effect_of (Table.step s) s }

@@ -1,5 +1,4 @@
 -- The laws of one call, however the record is held.
-pub mod Tests
 pub mod Ops
 pub mod Sight  -- what a call looks at
 pub mod Unseen  -- and what it does not

@@ -14,6 +14,7 @@ use hub::record::PartySlot;
 use table::rows::decide_step;
 
 // `full`: is there no place for one more ticket? Only an ask looks at it.
+#[tactic(auto, unfolding(hub::specs::Table::decide))]
 pub fn decide_by(op: Op, full: bool, s: Sight) -> Effect
     requires { Small s }
     ensures { result ≡ effect_of (Table.decide op full s) s }
@@ -27,6 +28,7 @@ pub fn decide_by(op: Op, full: bool, s: Sight) -> Effect
     }
 }
 
+#[tactic(auto, unfolding(hub::specs::Table::decide))]
 pub fn decide(op: Op, oldest: u32, slots: [PartySlot; 32], s: Sight) -> Effect
     requires { Small s × (oldest ≤ 1000000) }
     ensures { result ≡ effect_of (Table.decide op (is_full oldest s.figures.issued slots) s) s }
