@@ -1,5 +1,5 @@
-// The calls by value, a function each: a record in, the answer and the record out, for every record
-// and every party byte. A refusal hands the record back as it came.
+// The calls by value: a record in, the answer and the record out, for every record and every party byte. A refusal hands
+// the record back as it came. There is a function for each, since README.md names them as what a user calls.
 
 ghost use Rattle.std.specs.Prelude.{◌≡◌};
 ghost use Rattle.hub.specs.Answers.{printed};
