@@ -11,7 +11,7 @@ ghost use Rattle.line.specs.Program.{after};
 ghost use Rattle.batch.specs.Batch.{Reachable, of_parts, replied, requests_in};
 
 use exchange::decision::{decide_for, full_by, radios_after};
-use exchange::wire::{admit_at, put_answer, put_refusal};
+use exchange::wire::{admit_at, code_at, party_at, put_answer, put_refusal};
 use hub::opening::Opening;
 use hub::record::{Figures, Hub, PartySlot, Pool};
 use ring::{PlaceRing, reclaim};
@@ -52,23 +52,24 @@ pub fn answer_in_turn<F: Form>(
         out.old) }
 {
     let kinds = opening.kinds;
-    let mut i: usize = 0;
-    while i < count {
-        let a = admit_at(requests, i, opening.parties);
-        if !a.admitted {
-            put_refusal::<F>(pairs, out, i, a);
-            i += 1;
-            continue;
+    for i in 0..count {
+        match admit_at(requests, i, opening.parties) {
+            Ok(()) => {}
+            Err(why) => {
+                put_refusal::<F>(pairs, out, i, why);
+                continue;
+            }
         }
-        let party = a.party;
+        let code = code_at(requests, i);
+        let party = party_at(requests, i);
         let own = party as usize;
         let slot = slots[own];
         let t = seat_index(slot);
         let seat = ring.places[t];
         let q = waiter_at(seat);
-        let full = full_by(a.code, ring.oldest, figures.issued, slots);
+        let full = full_by(code, ring.oldest, figures.issued, slots);
         let e = decide_for(
-            a.code,
+            code,
             full,
             party,
             kinds[own],
@@ -82,16 +83,12 @@ pub fn answer_in_turn<F: Form>(
         );
         let woken = e.woken;
         if woken < 32 {
-            let woke = e.waiter;
-            slots[woken as usize] = woke;
+            slots[woken as usize] = e.waiter;
         }
-        let becomes = e.slot;
-        slots[own] = becomes;
+        slots[own] = e.slot;
         figures = e.figures;
-        let put = e.seat;
-        ring.places[t] = put;
+        ring.places[t] = e.seat;
         put_answer::<F>(pairs, out, i, party, e);
-        i += 1;
         if opening.named {
             pool = radios_after(e, party, pool);
         }

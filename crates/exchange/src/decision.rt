@@ -69,6 +69,5 @@ pub fn radios_after(e: Effect, party: u8, pool: Pool) -> Pool
     requires { pool.stored ≤ 32 }
     ensures { result ≡ moved (printed e.answer) party pool }
 {
-    let answer = e.answer;
-    move_radio(answer, party, pool)
+    move_radio(e.answer, party, pool)
 }

@@ -5,10 +5,10 @@ ghost use Rattle.hub.specs.Answers.{plain, printed};
 ghost use Rattle.encoding.specs.Form.{reply_size};
 ghost use Rattle.encoding.specs.Frame.{frame_of, paper};
 ghost use Rattle.encoding.specs.Tables.{Pairs};
-ghost use Rattle.exchange.specs.Admission.{admission_of};
+ghost use Rattle.exchange.specs.Admission.{admission_of, code_of, party_of};
 ghost use Rattle.exchange.specs.Wire.{with_reply};
 
-use crate::admission::{Admission, admit};
+use crate::admission::{Unasked, admit};
 use effects::effect::Effect;
 use encoding::answer::{Print, plain, print_of};
 use writer::form::Form;
@@ -29,8 +29,8 @@ pub fn party_at(requests: &[u8], i: usize) -> u8
     requests[2 * i + 1]
 }
 
-// Request i, admitted or not.
-pub fn admit_at(requests: &[u8], i: usize, parties: u8) -> Admission
+// Is request i a call for the table?
+pub fn admit_at(requests: &[u8], i: usize, parties: u8) -> Result<(), Unasked>
     requires { 2 * i + 2 ≤ length requests.now }
     ensures { result
         ≡ admission_of (slice_index requests.now (2 * i)) (slice_index requests.now (2 * i + 1)) parties }
@@ -50,14 +50,14 @@ fn put_reply_at<F: Form>(pairs: &[u16; 256], out: &mut [u8], i: usize, party: u8
 }
 
 // What a request is answered that was not admitted.
-pub fn put_refusal<F: Form>(pairs: &[u16; 256], out: &mut [u8], i: usize, a: Admission)
+pub fn put_refusal<F: Form>(pairs: &[u16; 256], out: &mut [u8], i: usize, why: Unasked)
     requires pairs { Pairs pairs.now }
     requires form_in_bounds { reply_size F.form * i + reply_size F.form ≤ length out.old }
     ensures { out.new
-        ≡ with_reply F.form (reply_size F.form * i) (frame_of a.party (plain a.code))
+        ≡ with_reply F.form (reply_size F.form * i) (frame_of (party_of why) (plain (code_of why)))
         out.old }
 {
-    put_reply_at::<F>(pairs, out, i, a.party, plain(a.code));
+    put_reply_at::<F>(pairs, out, i, why.party(), plain(why.code()));
 }
 
 // What a call is answered.

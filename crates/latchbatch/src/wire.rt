@@ -13,16 +13,12 @@ use latch::moves::LatchOp;
 fn op_of(code: u8) -> LatchOp
     ensures { result ≡ op_of code }
 {
-    if code == 0x10 {
-        return LatchOp::Await;
+    match code {
+        0x10 => LatchOp::Await,
+        0x11 => LatchOp::Step,
+        0x12 => LatchOp::Cancel,
+        _ => LatchOp::CountDown,
     }
-    if code == 0x11 {
-        return LatchOp::Step;
-    }
-    if code == 0x12 {
-        return LatchOp::Cancel;
-    }
-    LatchOp::CountDown
 }
 
 // The operation of call i.
@@ -46,7 +42,5 @@ pub(crate) fn put_at(out: &mut [u8], i: usize, party: u8, answer: Answer)
     requires { 7 * i + 7 ≤ length out.old }
     ensures { out.new ≡ with_reply i (frame_of party (printed answer)) out.old }
 {
-    let at = 7 * i;
-    let end = at + 7;
-    put(&mut out[at..end], party, print_of(answer));
+    put(&mut out[7 * i..7 * i + 7], party, print_of(answer));
 }

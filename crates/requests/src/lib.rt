@@ -23,34 +23,34 @@ pub fn answer_requests<F: Form>(hub: Hub, requests: &[u8], count: usize, out: &m
         × (out.new
         ≡ replied F.form hub count requests.now out.old) }
 {
-    let opening = hub.control.opening;
-    let figures = hub.control.figures;
+    // an array is moved by a variable: the check covers no literal with a field's own
     let places = hub.places;
     let ring = PlaceRing {
         resumed: hub.control.figures.resumed,
         oldest: hub.control.oldest,
         places,
     };
-    let slots = hub.slots;
-    let pool = hub.control.pool;
-    let pairs = pairs::table();
     let left = answer_in_turn::<F>(
-        opening, figures, ring, slots, pool, &pairs, requests, count, out,
+        hub.control.opening,
+        hub.control.figures,
+        ring,
+        hub.slots,
+        hub.control.pool,
+        &pairs::table(),
+        requests,
+        count,
+        out,
     );
-    let figures = left.figures;
-    let ring = left.ring;
-    let places = ring.places;
+    let places = left.ring.places;
     let slots = left.slots;
-    let pool = left.pool;
-    let control = Control {
-        opening,
-        figures,
-        oldest: ring.oldest,
-        pool,
-    };
     Hub {
         places,
         slots,
-        control,
+        control: Control {
+            opening: hub.control.opening,
+            figures: left.figures,
+            oldest: left.ring.oldest,
+            pool: left.pool,
+        },
     }
 }

@@ -28,15 +28,12 @@ use Rattle.transition.proofs.Laws.Called.{admitted as by-table}
 use Rattle.transition.proofs.Laws.Ops.{as-asked}
 use Rattle.transition.proofs.Laws.Radios.{few-stored}
 use Rattle.transition.specs.Room.{full_for}
-use Rattle.exchange.specs.declared.admission.Admission.{Admission}
-use Rattle.exchange.specs.Admission.{admitted, admission_of, refused}
+use Rattle.exchange.specs.declared.admission.Unasked.{Unasked}
+use Rattle.exchange.specs.Admission.{admission_of, code_of, party_of}
+use Rattle.hub.specs.declared.moves.Call.{Call}
+use Rattle.std.specs.Prelude.{Result, Ok, Err}
 use Rattle.batch.specs.Batch.{request_for, Reachable}
 use Rattle.batch.proofs.Laws.Reachable.{reachable-fits, reachable-open}
-
--- What is admitted: a call of one of the n parties.
-pub record Admitted (c x n : ℕ) : Type 0 where
-  pub code : is_call c ≡ true
-  pub party : ltb x n ≡ true
 
 -- A party that there is, on a record whose counts leave room.
 pub record LetIn (h : Hub) (p : ℕ) : Type 0 where
@@ -44,28 +41,26 @@ pub record LetIn (h : Hub) (p : ℕ) : Type 0 where
   pub counts : Counted h
   pub store : h.control.opening.named ≡ true → h.control.pool.stored ≤ STORE
 
-not_so : {A : Type 0} → false ≡ true → A
-not_so e = let z : ◌≡◌ {A = ℕ} 0 1 = cc in let y : ⊥ = omega arith in absurd y
-
--- What is let in is what was asked.
-pub is-admitted : (c x n : ℕ) (d : Admission) → d ≡ admission_of c x n → d.admitted ≡ true
-    → Admitted d.code d.party n × (request_for c x ≡ request_for d.code d.party)
+-- What is let in is what was asked, of one of the n parties.
+pub is-admitted : (c x n : ℕ) (r : Result (Unit {0}) Unasked) → r ≡ admission_of c x n → r ≡ Ok (tt {0})
+    → (code party : ℕ) → code ≡ c → party ≡ x
+    → (ltb party n ≡ true) × (request_for c x ≡ to_call (asks (op_of code) party))
 unfolding admission_of
-is-admitted c x n d e t = go (is_call c) refl (ltb x n) refl (eqb c 1) e
-  where
-    go : (a : Bool) → is_call c ≡ a → (b : Bool) → ltb x n ≡ b → (o : Bool)
-        → d ≡ cond a (cond b (admitted c x) (refused x 4)) (cond o (refused 0xFF 13) (refused 0xFF 12))
-        → Admitted d.code d.party n × (request_for c x ≡ request_for d.code d.party)
-    go true ea true eb o z = (
-      record {
-        code = ap (λ (d : Admission). is_call d.code) z ∙ ea;
-        party = ap (λ (d : Admission). ltb d.party n) z ∙ eb;
-      },
-      sym (ap (λ (d : Admission). request_for d.code d.party) z),
+is-admitted c x n r e t code party p q =
+    let z = go (is_call c) (ltb x n) refl (eqb c 1) (sym t ∙ e) in (
+      ap (λ (y : ℕ). ltb y n) q ∙ z.0,
+      z.1 ∙ sym (λ i. to_call (asks (op_of (p i)) (q i))),
     )
-    go true ea false eb o z = not_so (sym (ap (λ (d : Admission). d.admitted) z) ∙ t)
-    go false ea b eb true z = not_so (sym (ap (λ (d : Admission). d.admitted) z) ∙ t)
-    go false ea b eb false z = not_so (sym (ap (λ (d : Admission). d.admitted) z) ∙ t)
+  where
+    go : (a b : Bool) → ltb x n ≡ b → (o : Bool)
+        → Ok (tt {0}) ≡ cond a (cond b (Ok (tt {0})) (Err (Unasked.NoSuchParty x)))
+        (cond o (Err Unasked.AlreadyOpen) (Err Unasked.Malformed))
+        → (ltb x n ≡ true)
+        × (cond a (to_call (asks (op_of c) x)) (cond o (to_open nobody) malformed) ≡ to_call (asks (op_of c) x))
+    go true true eb o z = (eb, refl)
+    go true false eb o z = absurd cc
+    go false b eb true z = absurd cc
+    go false b eb false z = absurd cc
 
 -- What is decided once refusal 7 is asked of an ask alone is what the table decides.
 pub effect-asked : (o : Op) (full b : Bool) (s : Sight) (r : Effect) → r ≡ effect_of (decide o b s) s
@@ -75,56 +70,51 @@ effect-asked o full b s r e f =
     ∙ ap (λ (b : Bool). effect_of (decide o b s) s) f
     ∙ ap (λ (m : Move). effect_of m s) (as-asked full s o)
 
-module _ (hub : Hub) (c x : ℕ) (r : Reachable hub) where
+module _ (hub : Hub) (c x : ℕ) (reached : Reachable hub) where
   fit : fits hub ≡ true
-  fit = reachable-fits hub r
+  fit = reachable-fits hub reached
 
   answers-open : (q : Request) → respond hub q ≡ when_open hub q
-  answers-open q = respond-open hub q (reachable-open hub r)
+  answers-open q = respond-open hub q (reachable-open hub reached)
 
   -- The response to a request that is refused at once.
-  abbrev turned-away : Admission → Response
-  turned-away d = record { reply = record { party = d.party; answer = plain d.code }; hub = hub }
+  abbrev turned-away : Unasked → Response
+  turned-away why = record { reply = record { party = party_of why; answer = plain (code_of why) }; hub = hub }
 
-  pub refused-response : (d : Admission) → d ≡ admission_of c x hub.control.opening.parties → d.admitted ≡ false
-      → respond hub (request_for c x) ≡ turned-away d
+  pub refused-response : (r : Result (Unit {0}) Unasked) (why : Unasked) → r ≡ admission_of c x hub.control.opening.parties
+      → r ≡ Err why → respond hub (request_for c x) ≡ turned-away why
   unfolding when_open admission_of
-  refused-response d e z =
+  refused-response r why e z =
       answers-open (request_for c x)
-      ∙ go (is_call c) (ltb x hub.control.opening.parties) refl (eqb c 1)
-      (sym (ap (λ (d : Admission). d.admitted) e) ∙ z)
-      ∙ ap turned-away (sym e)
+      ∙ go (is_call c) (ltb x hub.control.opening.parties) refl (eqb c 1) (sym z ∙ e)
     where
       go : (a b : Bool) → ltb x hub.control.opening.parties ≡ b → (o : Bool)
-          → (cond a (cond b (admitted c x) (refused x 4)) (cond o (refused 0xFF 13) (refused 0xFF 12))).admitted
-          ≡ false
-          → when_open hub
-          (cond a (to_call (asks (op_of c) x)) (cond o (to_open nobody) malformed))
-          ≡ turned-away
-          (cond a (cond b (admitted c x) (refused x 4)) (cond o (refused 0xFF 13) (refused 0xFF 12)))
-      go true true eb o w = not_so (sym w)
-      go true false eb o w = ap (reported x) (sym (no-such-party hub x (op_of c) fit eb))
-      go false b eb true w = refl
-      go false b eb false w = refl
+          → Err why ≡ cond a (cond b (Ok (tt {0})) (Err (Unasked.NoSuchParty x)))
+          (cond o (Err Unasked.AlreadyOpen) (Err Unasked.Malformed))
+          → when_open hub (cond a (to_call (asks (op_of c) x)) (cond o (to_open nobody) malformed)) ≡ turned-away why
+      go true true eb o w = absurd cc
+      go true false eb o w =
+          let same : Unasked.NoSuchParty x ≡ why = cc in
+          ap (reported x) (sym (no-such-party hub x (op_of c) fit eb)) ∙ ap turned-away same
+      go false b eb true w = let same : Unasked.AlreadyOpen ≡ why = cc in ap turned-away same
+      go false b eb false w = let same : Unasked.Malformed ≡ why = cc in ap turned-away same
 
   -- A call that is admitted is the table's to answer.
-  pub let-in : Admitted c x hub.control.opening.parties → LetIn hub x
-  let-in p =
+  pub let-in : (d : Call) → ltb d.party hub.control.opening.parties ≡ true → LetIn hub d.party
+  let-in d p =
       let n = counted hub fit in
       record {
-        party = omega (arith, ltb-true x hub.control.opening.parties p.party, n.parties);
+        party = omega (arith, ltb-true d.party hub.control.opening.parties p, n.parties);
         counts = n;
         store = few-stored hub fit;
       }
 
-  pub call-response : Admitted c x hub.control.opening.parties
-      → let m = decide (op_of c) (is_full hub.control.oldest hub.control.figures.issued hub.slots) (look hub x) in
-      respond hub (request_for c x)
+  pub call-response : (d : Call) → ltb d.party hub.control.opening.parties ≡ true
+      → let m = decide d.op (is_full hub.control.oldest hub.control.figures.issued hub.slots) (look hub d.party) in
+      respond hub (to_call d)
       ≡ record {
-        reply = record { party = x; answer = printed (answer_of m) };
-        hub = with_pool (radios_after hub x (answer_of m)) (apply hub (look hub x) m);
+        reply = record { party = d.party; answer = printed (answer_of m) };
+        hub = with_pool (radios_after hub d.party (answer_of m)) (apply hub (look hub d.party) m);
       }
   unfolding when_open
-  call-response p =
-      answers-open (request_for c x)
-      ∙ rw p.code (ap (reported x) (sym (by-table hub x (op_of c) fit p.party)))
+  call-response d p = answers-open (to_call d) ∙ ap (reported d.party) (sym (by-table hub d.party d.op fit p))

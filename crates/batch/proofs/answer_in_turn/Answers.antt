@@ -1,6 +1,5 @@
 -- `answer_in_turn` meets its contract: the record made of its parts is that of the requests so
 -- far, and what is written with what is still to come is the whole.
-use borrow.Author.Tests.{not-true, not-false}
 use mathlib.Core.Path.{◌≡◌, refl, sym, ap, ◌∙◌}
 use mathlib.Core.Bool.{Bool, cond}
 use mathlib.Core.List.{List}
@@ -24,13 +23,13 @@ use Rattle.hub.specs.Radios.{hand_of}
 use Rattle.hub.specs.Record.{PARTIES, control_of, empty_seat, free_slot, of_fields, read_slot, with_pool, write_slot}
 use Rattle.hub.specs.Ring.{PLACES, read_seat}
 use Rattle.hub.specs.Table.{decide}
-use Rattle.encoding.specs.Frame.{op_of, frame_of}
+use Rattle.encoding.specs.Frame.{frame_of, op_of}
 use Rattle.encoding.specs.Form.{reply_size}
 use Rattle.line.specs.Program.{respond}
 use Rattle.effects.specs.declared.effect.Effect.{Effect}
 use Rattle.effects.specs.Effect.{effect_of}
 use Rattle.transition.specs.Tidied.{tidied_by}
-use Rattle.transition.proofs.Laws.Called.{radios_after, said, left}
+use Rattle.transition.proofs.Laws.Called.{asks, radios_after, said, left}
 use Rattle.transition.proofs.Laws.Indexed.{reads, stores}
 use Rattle.transition.proofs.Laws.Loops.{tidy}
 use Rattle.transition.proofs.Laws.Radios.{with-radios, without-radios}
@@ -38,13 +37,16 @@ use Rattle.transition.proofs.Laws.Sight.{Reads, sight_of}
 use Rattle.transition.proofs.Laws.Stored.{nobody, still, few-turns}
 use Rattle.exchange.specs.Decision.{waiter_by}
 use Rattle.exchange.specs.Wire.{with_reply}
-use Rattle.batch.specs.Batch.{of_parts, request_for}
-use Rattle.batch.proofs.Laws.Answered.{Admitted, is-admitted, refused-response, LetIn}
+use Rattle.batch.specs.Batch.{of_parts}
+use Rattle.batch.proofs.Laws.Answered.{is-admitted, refused-response, LetIn}
 use Rattle.batch.proofs.Laws.Answered.{effect-asked, let-in, call-response}
 use Rattle.batch.proofs.Laws.Responses.{Upto, request_at}
 use Rattle.batch.proofs.Laws.Responses.{responded, ended}
 use Rattle.batch.specs.Batch.{Reachable}
-use Rattle.exchange.specs.declared.admission.Admission.{Admission}
+use Rattle.exchange.specs.declared.admission.Unasked.{Unasked}
+use Rattle.hub.specs.declared.moves.Call.{Call}
+use Rattle.line.specs.Requests.{to_call}
+use Rattle.std.specs.Prelude.{Result, Ok}
 use Rattle.exchange.specs.Admission.{admission_of}
 use mathlib.Core.Bool.{true}
 use Rattle.batch.proofs.answer_in_turn.Given.{Over}
@@ -52,52 +54,55 @@ use Rattle.batch.proofs.answer_in_turn.Goals as goal
 use Rattle.batch.proofs.answer_in_turn.Goals.{After-is_untidy, then-woken-lt32, else-woken-lt32, then-opening, else-opening}
 
 -- The party of a call that is admitted, by what is answered of it.
-let_in_by : (h : Hub) → Reachable h → (c x : ℕ) (a : Admission) → a ≡ admission_of c x h.control.opening.parties
-    → a.admitted ≡ true → LetIn h a.party
-let_in_by h r c x a e t = let-in _ _ _ r (is-admitted c x h.control.opening.parties a e t).0
+let_in_by : (h : Hub) → Reachable h → (c x : ℕ) (r : Result (Unit {0}) Unasked)
+    → r ≡ admission_of c x h.control.opening.parties → r ≡ Ok (tt {0})
+    → (code party : ℕ) → code ≡ c → party ≡ x → LetIn h party
+let_in_by h reached c x r e t code party p q =
+    let-in h c x reached (asks (op_of code) party)
+    (is-admitted c x h.control.opening.parties r e t code party p q).0
 
-pub loop-i-preserved-then-not-a : goal.loop-i-preserved-then-not-a
-loop-i-preserved-then-not-a g c = let u = c.loop-i.invariant.0 in (
+pub loop-i-preserved-in-Err : goal.loop-i-preserved-in-Err
+loop-i-preserved-in-Err g c = let u = c.loop-i.invariant.0 in (
   responded _ _ _ _ _ _ _ _ u c.loop-i-test.true _ _ _
-      (refused-response _ _ _ u.reachable _ c.admit_at-a.ensures (not-true _ c.if-not-a.true))
+      (refused-response _ _ _ u.reachable _ _ c.admit_at.ensures c.in-Err.is)
       c.put_refusal.ensures refl,
   c.loop-i.invariant.1,
 )
 
 pub bounds-slots-own : goal.bounds-slots-own
 bounds-slots-own g c =
-    let admitted = let_in_by _ c.loop-i.invariant.0.reachable _ _ _ c.admit_at-a.ensures (not-false _ c.if-not-a.false) in
+    let admitted = let_in_by _ c.loop-i.invariant.0.reachable _ _ _ c.admit_at.ensures c.in-Ok.is _ _ c.code_at-code.ensures c.party_at-party.ensures in
     omega (arith, admitted.party)
 
 pub full_by-full-requires : goal.full_by-full-requires
 full_by-full-requires g c =
-    let admitted = let_in_by _ c.loop-i.invariant.0.reachable _ _ _ c.admit_at-a.ensures (not-false _ c.if-not-a.false) in
+    let admitted = let_in_by _ c.loop-i.invariant.0.reachable _ _ _ c.admit_at.ensures c.in-Ok.is _ _ c.code_at-code.ensures c.party_at-party.ensures in
     (admitted.counts.oldest, admitted.counts.issued)
 
 pub bounds-kinds-own : goal.bounds-kinds-own
 bounds-kinds-own g c =
-    let admitted = let_in_by _ c.loop-i.invariant.0.reachable _ _ _ c.admit_at-a.ensures (not-false _ c.if-not-a.false) in
+    let admitted = let_in_by _ c.loop-i.invariant.0.reachable _ _ _ c.admit_at.ensures c.in-Ok.is _ _ c.code_at-code.ensures c.party_at-party.ensures in
     omega (arith, admitted.party)
 
 pub bounds-pool-own : goal.bounds-pool-own
 bounds-pool-own g c =
-    let admitted = let_in_by _ c.loop-i.invariant.0.reachable _ _ _ c.admit_at-a.ensures (not-false _ c.if-not-a.false) in
+    let admitted = let_in_by _ c.loop-i.invariant.0.reachable _ _ _ c.admit_at.ensures c.in-Ok.is _ _ c.code_at-code.ensures c.party_at-party.ensures in
     omega (arith, admitted.party)
 
 pub decide_for-e-requires : goal.decide_for-e-requires
 decide_for-e-requires g c =
-    let admitted = let_in_by _ c.loop-i.invariant.0.reachable _ _ _ c.admit_at-a.ensures (not-false _ c.if-not-a.false) in
+    let admitted = let_in_by _ c.loop-i.invariant.0.reachable _ _ _ c.admit_at.ensures c.in-Ok.is _ _ c.code_at-code.ensures c.party_at-party.ensures in
     let n = admitted.counts in
     record { counter = n.counter; issued = n.issued; resumed = n.resumed }
 
 pub bounds-slots-own-in-loop-i : goal.bounds-slots-own-in-loop-i
 bounds-slots-own-in-loop-i g c =
-    let admitted = let_in_by _ c.loop-i.invariant.0.reachable _ _ _ c.admit_at-a.ensures (not-false _ c.if-not-a.false) in
+    let admitted = let_in_by _ c.loop-i.invariant.0.reachable _ _ _ c.admit_at.ensures c.in-Ok.is _ _ c.code_at-code.ensures c.party_at-party.ensures in
     omega (arith, admitted.party)
 
 pub radios_after-pool-requires : goal.radios_after-pool-requires
 radios_after-pool-requires g c =
-    let admitted = let_in_by _ c.loop-i.invariant.0.reachable _ _ _ c.admit_at-a.ensures (not-false _ c.if-not-a.false) in
+    let admitted = let_in_by _ c.loop-i.invariant.0.reachable _ _ _ c.admit_at.ensures c.in-Ok.is _ _ c.code_at-code.ensures c.party_at-party.ensures in
     admitted.store c.if-opening.true
 
 -- Once `is_untidy` has answered, a turn ends in one of two ways: there is nothing to tidy, or
@@ -115,17 +120,17 @@ module _ (g : Over) where
   abbrev bytes : After-is_untidy g → List ℕ
   bytes c = c.args.requests.now
 
-  abbrev code : After-is_untidy g → ℕ
-  code c = c.admit_at-a.result.code
+  abbrev call : After-is_untidy g → Call
+  call c = asks (op_of c.code_at-code.result) c.party_at-party.result
 
   abbrev party : After-is_untidy g → ℕ
-  party c = c.admit_at-a.result.party
+  party c = (call c).party
 
   -- The call is admitted.
   pass : (c : After-is_untidy g)
-      → Admitted (code c) (party c) (hub c).control.opening.parties
-      × (request_at (bytes c) (2 * c.loop-i.i) ≡ request_for (code c) (party c))
-  pass c = is-admitted _ _ _ _ c.admit_at-a.ensures (not-false _ c.if-not-a.false)
+      → (ltb (party c) (hub c).control.opening.parties ≡ true)
+      × (request_at (bytes c) (2 * c.loop-i.i) ≡ to_call (call c))
+  pass c = is-admitted _ _ _ _ c.admit_at.ensures c.in-Ok.is _ _ c.code_at-code.ensures c.party_at-party.ensures
 
   -- What the code read for it is what the party sees.
   abbrev place_index : After-is_untidy g → ℕ
@@ -153,7 +158,7 @@ module _ (g : Over) where
 
   -- The effect is that of the call.
   abbrev op : After-is_untidy g → Op
-  op c = op_of (code c)
+  op c = (call c).op
 
   abbrev full : After-is_untidy g → Bool
   full c = is_full c.loop-i.ring.oldest c.loop-i.figures.issued c.loop-i.slots
@@ -188,7 +193,7 @@ module _ (g : Over) where
       }
   answered c =
       ap (respond (hub c)) (pass c).1
-      ∙ call-response _ _ _ c.loop-i.invariant.0.reachable (pass c).0
+      ∙ call-response _ 0 0 c.loop-i.invariant.0.reachable (call c) (pass c).0
 
   -- The record that the tidying starts from.
   abbrev untidied : After-is_untidy g → Hub
@@ -262,7 +267,7 @@ loop-i-preserved-then-not-is_untidy g c =
 pub reclaim-ring-requires : goal.reclaim-ring-requires
 reclaim-ring-requires g c =
     let s = (goal.at.reclaim-ring-requires g c).After-is_untidy in
-    let admitted = let-in _ _ _ s.loop-i.invariant.0.reachable (pass g s).0 in
+    let admitted = let-in _ 0 0 s.loop-i.invariant.0.reachable (call g s) (pass g s).0 in
     (admitted.counts.oldest, turns-most g s)
 
 pub loop-i-preserved : goal.loop-i-preserved
