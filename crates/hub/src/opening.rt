@@ -6,7 +6,8 @@ ghost use Rattle.hub.specs.Opening.{figures_at, fresh, pool_at};
 use crate::record::{Control, Figures, Hub, Pool};
 use crate::slots::{empty_seat, free_slot};
 
-// What an opening asks for.
+// What an opening asks for. Flags stand beside radios and kinds, and no options: a record may hold any bytes there, used or
+// not, and `with_radios`, `with_kinds` and the bytes of a record (crates/layout) are told of them.
 #[derive(Clone, Copy, PartialEq, Eq, Debug)]
 pub struct Opening {
     pub permits: u8, // links, K

@@ -36,7 +36,7 @@ pub enum Place {
     Done,
 }
 
-// What the record keeps of a place, and of a party. An element of an array is a struct.
+// What the record keeps of a place, and of a party: structs, as `with_place`, `with_phase` and the theorems have them.
 #[derive(Clone, Copy, PartialEq, Eq, Debug)]
 pub struct PlaceSlot {
     pub place: Place,

@@ -15,7 +15,7 @@ pub fn built_in() -> [u8; 32]
     kinds
 }
 
-// The kind of a party; past the table, a desk.
+// The kind of a party, a byte of the record, which may be any (`kind_in`); past the table, a desk.
 #[tactic(auto, unfolding(hub::specs::Kinds::kind_in))]
 pub fn kind_in(kinds: [u8; 32], party: u8) -> u8
     ensures { result ≡ kind_in kinds party }

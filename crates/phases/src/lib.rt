@@ -53,7 +53,7 @@ pub fn of_radios(phase: Phase) -> bool
     matches!(phase, Phase::Fetching | Phase::Storing)
 }
 
-// The index of a state in the list of states.
+// The index of a state in the list of states: a place's byte (crates/cells), as `place_rank` of the definitions has it.
 pub fn place_rank(place: Place) -> u8
     ensures { result ≡ place_rank place }
 {
