@@ -24,7 +24,7 @@ use Rattle.encoding.specs.Form.{as_text}
 use Rattle.encoding.specs.Frame.{code_of}
 use Rattle.line.specs.Program.{unopened, is_open, Response, before_open, respond, after}
 use Rattle.line.specs.Program.{replies, reply_in, rendered}
-use Rattle.line.specs.Requests.{Request, malformed, to_open, to_call, request_of, header_of, is_opening}
+use Rattle.line.specs.Requests.{Request, malformed, to_open, to_call, request_of, header_of}
 use Rattle.encoding.proofs.Laws.Parts.{parts, put-length}
 use Rattle.line.proofs.Laws.Schedules.{respond-before}
 use Rattle.batch.specs.Batch.{Reachable}
@@ -162,18 +162,6 @@ refused-line (to_call a) c p e f m = (
     call-code Op.Cancel = refl
     call-code Op.Release = refl
     call-code Op.Radio = refl
-
-pub opening-header : (q : Request) → (header_of q).code ≡ 0x01 → is_opening q ≡ true
-opening-header malformed e = absurd (omega arith)
-opening-header (to_open o) e = refl
-opening-header (to_call c) e = absurd (go c.op e)
-  where
-    go : (o : Op) → code_of o ≡ 0x01 → ⊥
-    go Op.Acquire e = omega arith
-    go Op.Step e = omega arith
-    go Op.Cancel e = omega arith
-    go Op.Release e = omega arith
-    go Op.Radio e = omega arith
 
 -- Does a line open a hub? By the hub that it opens, or that it opens none.
 pub some-opened : (q : Request) {o : Option Hub} → o ≡ hub_opened q → {h : Hub} → o ≡ Some h

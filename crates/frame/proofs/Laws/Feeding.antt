@@ -1,7 +1,7 @@
 -- Sessions stay sound, and what a piece asks is read back from the buffer.
 use Prim.Native.Nat.{ℕ, suc, ◌+◌, ◌-◌, ◌*◌, ◌≤◌}
 use mathlib.Core.Path.{◌≡◌, refl, sym, ap, ◌∙◌, subst}
-use mathlib.Core.Bool.{Bool, true, false, cond}
+use mathlib.Core.Bool.{true, false}
 use mathlib.Core.List.{List, [], ◌∷◌, ◌++◌, map, append_assoc, append-nil}
 use mathlib.Core.Logic.{inl}
 use native.Mathlib.Omega.{arith}
@@ -24,7 +24,6 @@ use Rattle.line.proofs.Laws.Schedules.{respond-open, still_open}
 use Rattle.batch.specs.Batch.{request_for, requests_in, replied, Reachable}
 use Rattle.batch.proofs.Laws.Reachable.{reachable-open}
 use Rattle.reader.specs.declared.Read.{Read}
-use Rattle.reader.specs.declared.Reader.{Reader}
 use Rattle.frame.specs.declared.session.Fed.{Fed}
 use Rattle.frame.specs.declared.session.Session.{Session}
 use Rattle.beforeopen.specs.declared.opening.Begun.{Begun}
@@ -381,13 +380,6 @@ module _ {s : Session} {piece out₀ : List ℕ} {b : Begun} {out₁ : List ℕ}
         )
 
 -- Finished: the closing line alone, or after the answer to the line left over.
-pub rest-few : (r : Reader) → length (rest r) ≤ 1
-rest-few r = go (eqb r.len 0)
-  where
-    go : (b : Bool) → length (cond b [] (request_of (line_in r) ∷ [])) ≤ 1
-    go true = omega arith
-    go false = omega arith
-
 module _ (s : Session) (out : List ℕ) where
   none_left : s.reader.len ≡ 0 → rest s.reader ≡ []
   none_left e = if-true (eqb s.reader.len 0) _ _ (eq-eqb s.reader.len 0 e)

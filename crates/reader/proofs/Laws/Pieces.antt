@@ -4,7 +4,7 @@ use mathlib.Core.Path.{◌≡◌, refl, sym, ap, ◌∙◌, subst}
 use mathlib.Core.Bool.{Bool, true, false, cond}
 use mathlib.Core.List.{List, [], ◌∷◌, ◌++◌, append_assoc}
 use native.Mathlib.Omega.{arith}
-use borrow.Author.Tests.{le-ltb, lt-ltb, ltb-true, ne_eqb, eq-eqb}
+use borrow.Author.Tests.{ltb-true, ne_eqb}
 use borrow.Rule.Slice.PartMut.{put_mid}
 use lib.Dec.{eqb, ltb}
 use lib.ListN.{length, get_or, take, drop, set, length-set, take-append-drop}
@@ -51,24 +51,6 @@ pub asked-end : (r : Reader) (c : ℕ) (cs : List ℕ) → eqb c 0x0A ≡ true
     → asked r (c ∷ cs) ≡ request_of (line_in r) ∷ asked (next r c) cs
 unfolding asked
 asked-end r c cs e = if-true (eqb c 0x0A) _ _ e
-
--- The line, as a part of the buffer from its first character on.
-pub whole : (r : Reader) → take (r.len - 0) r.line ≡ line_in r
-whole r = ap (λ (n : ℕ). take n r.line) (nought r.len)
-  where
-    nought : (n : ℕ) → n - 0 ≡ n
-    nought n = omega arith
-
--- The reader past a character of a line: full, or with room.
-pub full : (r : Reader) (c : ℕ) → (c ≡ 0x0A → ⊥) → KEPT ≤ r.len → next r c ≡ r
-full r c f l = rw (ne_eqb c 0x0A f, le-ltb r.len KEPT l)
-
-pub kept : (r : Reader) (c : ℕ) → (c ≡ 0x0A → ⊥) → r.len < KEPT
-    → next r c ≡ record { line = set r.line r.len c; len = r.len + 1 }
-kept r c f l = rw (ne_eqb c 0x0A f, lt-ltb r.len KEPT l)
-
-pub ended : (r : Reader) (c : ℕ) → c ≡ 0x0A → next r c ≡ emptied r
-ended r c e = rw (eq-eqb c 0x0A e)
 
 -- A request takes two bytes off the buffer.
 one_more : (q : Request) (rs : List Request) (l : List ℕ)
