@@ -17,7 +17,6 @@ use hub::slots::empty_seat;
 use latch::moves::LatchSight;
 use latch::record::Latch;
 use latchdecide::calls::decide_by;
-use latcheffect::effect::{answer_after, figures_after, seat_after, slot_after, waiter_after};
 use latchmove::room::full_for;
 use latchmove::sight::{by_ticket, seat_index, slot_within};
 use openhub::kinds;
@@ -25,7 +24,8 @@ use ring::{PlaceRing, reclaim};
 use transition::sight::waiter_at;
 use transition::tidy::is_untidy;
 
-// Answers the first `count` calls, of two bytes each, in seven bytes each.
+// Answers the first `count` calls, of two bytes each, in seven bytes each. It is not one function with the hub's
+// loop, for the reason that stands beside `latchcall::call`, and here the places are a local, not a ring of theirs.
 pub fn answer_calls(latch: Latch, calls: &[u8], count: usize, out: &mut [u8]) -> Latch
     requires lasting { Lasting latch }
     requires count_in_bounds { 2 * count ≤ length calls.now }
@@ -39,12 +39,10 @@ pub fn answer_calls(latch: Latch, calls: &[u8], count: usize, out: &mut [u8]) ->
     let mut places = latch.places;
     let mut slots = latch.slots;
     let kinds = kinds::built_in();
-    let mut i: usize = 0;
-    while i < count {
+    for i in 0..count {
         let party = party_at(calls, i);
         if parties <= party {
             put_at(out, i, party, Answer::Refused(Refusal::NoSuchParty));
-            i += 1;
             continue;
         }
         let own = party as usize;
@@ -53,29 +51,24 @@ pub fn answer_calls(latch: Latch, calls: &[u8], count: usize, out: &mut [u8]) ->
         let there = places[t];
         let seat = by_ticket(slot, there, empty_seat());
         let q = waiter_at(seat);
-        let near = slots[(q % 32) as usize];
-        let waiter = slot_within(q, near);
-        let kind = kinds[own];
         let op = op_at(calls, i);
         let full = full_for(op, oldest, figures.issued, slots);
         let s = LatchSight {
             party,
-            kind,
+            kind: kinds[own],
             slot,
             seat,
-            waiter,
+            waiter: slot_within(q, slots[(q % 32) as usize]),
             figures,
         };
         let e = decide_by(op, full, s);
-        let woken = e.woken;
-        if woken < 32 {
-            slots[woken as usize] = waiter_after(e);
+        if e.woken < 32 {
+            slots[e.woken as usize] = e.waiter;
         }
-        slots[own] = slot_after(e);
-        figures = figures_after(e);
-        places[t] = by_ticket(slot, seat_after(e), there);
-        put_at(out, i, party, answer_after(e));
-        i += 1;
+        slots[own] = e.slot;
+        figures = e.figures;
+        places[t] = by_ticket(slot, e.seat, there);
+        put_at(out, i, party, e.answer);
         // mostly there is nothing to tidy
         let ahead = places[(figures.resumed % Hub::PLACES) as usize];
         let behind = places[(oldest % Hub::PLACES) as usize];
@@ -90,8 +83,7 @@ pub fn answer_calls(latch: Latch, calls: &[u8], count: usize, out: &mut [u8]) ->
         let tidied = reclaim(ring, e.turns);
         figures.resumed = tidied.resumed;
         oldest = tidied.oldest;
-        let after = tidied.places;
-        places = after;
+        places = tidied.places;
     }
     Latch {
         parties,

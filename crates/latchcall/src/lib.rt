@@ -21,7 +21,9 @@ use transition::sight::waiter_at;
 use transition::tidy::is_untidy;
 
 // Check, look, store and tidy stand in one function, as the hub's, since a record that is
-// handed on is copied. A refused call stores what was there.
+// handed on is copied. A refused call stores what was there. It is not one function with the hub's: a latch
+// has no control block, radios or kinds of its own, so that one over both records would need a trait with a
+// function to read and one to store for each of ten fields, which is longer than the two are.
 pub fn call(mut latch: Latch, op: LatchOp, party: u8) -> LatchOutcome
     ensures { (result ≡ called latch (record { op = op; party = party }))
         × (printed result.answer ≡ printed (called latch (record { op = op; party = party })).answer) }
@@ -39,57 +41,44 @@ pub fn call(mut latch: Latch, op: LatchOp, party: u8) -> LatchOutcome
         };
     }
     let p = party as usize;
-    let kinds = built_in();
     let slot = latch.slots[p];
     let t = seat_index(slot);
     let there = latch.places[t];
     let seat = by_ticket(slot, there, empty_seat());
     let q = waiter_at(seat);
-    let w = (q % 32) as usize;
-    let near = latch.slots[w];
-    let waiter = slot_within(q, near);
-    let figures = latch.figures;
     let s = LatchSight {
         party,
-        kind: kind_in(kinds, party),
+        kind: kind_in(built_in(), party),
         slot,
         seat,
-        waiter,
-        figures,
+        waiter: slot_within(q, latch.slots[(q % 32) as usize]),
+        figures: latch.figures,
     };
-    let slots = latch.slots;
-    let e = decide(op, latch.oldest, slots, s);
-    let woken = e.woken;
-    if woken < 32 {
-        let v = woken as usize;
-        let woke = e.waiter;
-        latch.slots[v] = woke;
+    let e = decide(op, latch.oldest, latch.slots, s);
+    if e.woken < 32 {
+        latch.slots[e.woken as usize] = e.waiter;
     }
-    let becomes = e.slot;
-    latch.slots[p] = becomes;
-    let put = e.seat;
-    latch.places[t] = by_ticket(slot, put, there);
-    let after = e.figures;
-    latch.figures = after;
-    let answer = e.answer;
+    latch.slots[p] = e.slot;
+    latch.places[t] = by_ticket(slot, e.seat, there);
+    latch.figures = e.figures;
     // the tidying, if there is any
-    let r = (latch.figures.resumed % Hub::PLACES) as usize;
-    let o = (latch.oldest % Hub::PLACES) as usize;
-    let next = latch.places[r];
-    let first = latch.places[o];
-    if !is_untidy(next, first) {
-        return LatchOutcome { answer, latch };
+    let ahead = latch.places[(latch.figures.resumed % Hub::PLACES) as usize];
+    let behind = latch.places[(latch.oldest % Hub::PLACES) as usize];
+    if is_untidy(ahead, behind) {
+        let places = latch.places;
+        let ring = PlaceRing {
+            resumed: latch.figures.resumed,
+            oldest: latch.oldest,
+            places,
+        };
+        let tidied = reclaim(ring, e.turns);
+        latch.figures.resumed = tidied.resumed;
+        latch.oldest = tidied.oldest;
+        let left = tidied.places;
+        latch.places = left;
     }
-    let places = latch.places;
-    let ring = PlaceRing {
-        resumed: latch.figures.resumed,
-        oldest: latch.oldest,
-        places,
-    };
-    let tidied = reclaim(ring, e.turns);
-    latch.figures.resumed = tidied.resumed;
-    latch.oldest = tidied.oldest;
-    let left = tidied.places;
-    latch.places = left;
-    LatchOutcome { answer, latch }
+    LatchOutcome {
+        answer: e.answer,
+        latch,
+    }
 }

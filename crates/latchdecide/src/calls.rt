@@ -10,6 +10,7 @@ use latch::moves::{LatchOp, LatchSight};
 use latcheffect::effect::LatchEffect;
 
 // `full`: is there no place for one more ticket? Only an await looks at it.
+#[tactic(auto, unfolding(latcheffect::specs::Effect::effect_by, latch::specs::Table::decide))]
 pub fn decide_by(op: LatchOp, full: bool, s: LatchSight) -> LatchEffect
     requires { Small s }
     ensures { result ≡ effect_by op full s }

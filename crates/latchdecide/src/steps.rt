@@ -12,19 +12,18 @@ use latcheffect::changes::refused;
 use latcheffect::effect::LatchEffect;
 use latchtable::rows::{
     step_aborting, step_acquiring, step_cancelling, step_refusing, step_releasing, step_resuming,
-    step_resuming_at, step_suspending, step_suspending_marked, step_ticketed,
+    step_resuming_at, step_suspending, step_ticketed,
 };
 
+#[tactic(auto, unfolding(latch::specs::Table::step_in, latch::specs::Table::step_suspending, hub::specs::Phases::is_one_of))]
 pub(crate) fn decide_step(s: LatchSight) -> LatchEffect
     requires { Small s }
     ensures { result ≡ effect_of (Table.step s) s }
 {
-    let slot = s.slot;
-    let phase = slot.phase;
-    match phase {
+    match s.slot.phase {
         Phase::Free | Phase::Waiting(_) => refused(Refusal::AtRest, s),
         Phase::Acquiring => step_acquiring(Phase::Acquiring, Phase::Suspending, s),
-        Phase::Suspending => step_suspending(s),
+        Phase::Suspending => step_suspending(Phase::Ticketed(s.figures.issued), s),
         Phase::Ticketed(t) => step_ticketed(Phase::Waiting(t), t, s),
         Phase::Aborting(t) => step_aborting(t, s),
         Phase::Cancelling(t) => step_cancelling(t, s),
@@ -35,7 +34,7 @@ pub(crate) fn decide_step(s: LatchSight) -> LatchEffect
         Phase::AcquiringMarked => {
             step_acquiring(Phase::AcquiringMarked, Phase::SuspendingMarked, s)
         }
-        Phase::SuspendingMarked => step_suspending_marked(s),
+        Phase::SuspendingMarked => step_suspending(Phase::TicketedMarked(s.figures.issued), s),
         Phase::TicketedMarked(t) => step_ticketed(Phase::Aborting(t), t, s),
         _ => refused(Refusal::Unfit, s),
     }

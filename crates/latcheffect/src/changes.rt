@@ -17,17 +17,13 @@ use latch::record::{LatchFigures, LatchSlot};
 pub fn refused(why: Refusal, s: LatchSight) -> LatchEffect
     ensures { result ≡ effect_of (Refuse why) s }
 {
-    let waiter = s.waiter;
-    let slot = s.slot;
-    let seat = s.seat;
-    let figures = s.figures;
     LatchEffect {
         turns: 0,
         woken: 32,
-        waiter,
-        slot,
-        seat,
-        figures,
+        waiter: s.waiter,
+        slot: s.slot,
+        seat: s.seat,
+        figures: s.figures,
         answer: Answer::Refused(why),
     }
 }
@@ -36,14 +32,12 @@ pub fn refused(why: Refusal, s: LatchSight) -> LatchEffect
 pub fn acted(slot: LatchSlot, figures: LatchFigures, answer: Answer, s: LatchSight) -> LatchEffect
     ensures { result ≡ effect_of (act slot figures answer) s }
 {
-    let waiter = s.waiter;
-    let seat = s.seat;
     LatchEffect {
         turns: 256,
         woken: 32,
-        waiter,
+        waiter: s.waiter,
         slot,
-        seat,
+        seat: s.seat,
         figures,
         answer,
     }
@@ -53,25 +47,16 @@ pub fn acted(slot: LatchSlot, figures: LatchFigures, answer: Answer, s: LatchSig
 pub fn turned(slot: LatchSlot, answer: Answer, s: LatchSight) -> LatchEffect
     ensures { result ≡ effect_of (turn slot answer s) s }
 {
-    let figures = s.figures;
-    acted(slot, figures, answer, s)
+    acted(slot, s.figures, answer, s)
 }
 
 // The place of its ticket, too.
 pub fn placed(place: Place, slot: LatchSlot, answer: Answer, s: LatchSight) -> LatchEffect
     ensures { result ≡ effect_of (put place slot answer s) s }
 {
-    let waiter = s.waiter;
-    let seat = s.seat;
-    let figures = s.figures;
     LatchEffect {
-        turns: 256,
-        woken: 32,
-        waiter,
-        slot,
-        seat: with_place(place, seat),
-        figures,
-        answer,
+        seat: with_place(place, s.seat),
+        ..turned(slot, answer, s)
     }
 }
 
@@ -79,15 +64,9 @@ pub fn placed(place: Place, slot: LatchSlot, answer: Answer, s: LatchSight) -> L
 pub fn woke(q: u32, t: u32, slot: LatchSlot, s: LatchSight) -> LatchEffect
     ensures { result ≡ effect_of (wake q t slot s) s }
 {
-    let seat = s.seat;
-    let figures = s.figures;
     LatchEffect {
-        turns: 256,
         woken: q,
         waiter: free_slot(),
-        slot,
-        seat: with_place(Place::Done, seat),
-        figures,
-        answer: Answer::Woke(q, t),
+        ..placed(Place::Done, slot, Answer::Woke(q, t), s)
     }
 }

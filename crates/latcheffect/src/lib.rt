@@ -5,5 +5,4 @@
 
 pub mod effect; // a decision as it is stored
 pub mod slots; // what is kept of a party
-pub mod figures; // one of them changed
 pub mod changes; // what the rows are made of

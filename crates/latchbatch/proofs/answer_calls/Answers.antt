@@ -1,11 +1,10 @@
 -- `answer_calls` meets its contract: the record made of the locals is that of the calls so far, and what is
 -- written with what is still to come is the whole.
-use borrow.Author.Tests.{not-true}
 use mathlib.Core.Path.{◌≡◌, refl, sym, ap, ◌∙◌}
 use mathlib.Core.Bool.{Bool}
-use mathlib.Core.List.{List, map}
+use mathlib.Core.List.{List}
 use native.Mathlib.Omega.{arith}
-use Prim.Native.Nat.{ℕ, ◌+◌, ◌*◌, ◌%◌, ◌≤◌, ◌<◌}
+use Prim.Native.Nat.{ℕ, ◌+◌, ◌*◌, ◌%◌, ◌≤◌}
 use lib.ListN.{length, get_or, set}
 use Rattle.hub.specs.declared.answers.Answer.{Answer}
 use Rattle.hub.specs.declared.record.PlaceSlot.{PlaceSlot}
@@ -37,7 +36,7 @@ use Rattle.latchbatch.specs.Batch.{call_at, with_reply}
 use Rattle.latchbatch.proofs.Laws.Answered.{counts, has-slot, turned-away, let-in}
 use Rattle.latchbatch.proofs.Laws.Upto.{Upto, replied, ended}
 use Rattle.latchbatch.proofs.answer_calls.Goals as goal
-use Rattle.latchbatch.proofs.answer_calls.Goals.{After-is_untidy, then-woken-lt32, else-woken-lt32}
+use Rattle.latchbatch.proofs.answer_calls.Goals.{After-is_untidy, then-e-lt32, else-e-lt32}
 
 -- There is still a call to read, and a refused one is answered.
 pub loop-i-preserved-then-parties-party : goal.loop-i-preserved-then-parties-party
@@ -115,7 +114,7 @@ abbrev seat : After-is_untidy → PlaceSlot
 seat c = c.by_ticket-seat.result
 
 abbrev waiter : After-is_untidy → LatchSlot
-waiter c = c.slot_within-waiter.result
+waiter c = c.slot_within.result
 
 abbrev place_index : After-is_untidy → ℕ
 place_index c = c.seat_index-t.result
@@ -129,7 +128,7 @@ unfolding read_slot
 reading c =
     reads (latch c) (party c) (place_index c) (index c) _ _ _ _ c.loop-i.invariant.1
     c.empty_seat.ensures c.by_ticket-seat.ensures
-    c.waiter_at-q.ensures c.slot_within-waiter.ensures
+    c.waiter_at-q.ensures c.slot_within.ensures
 
 -- The effect is that of the call.
 abbrev full : After-is_untidy → Bool
@@ -168,21 +167,20 @@ turns-most c = few-turns (op c) (full c) (sight c) (effect c) (effect_is c)
 
 abbrev untidied : After-is_untidy → Latch
 untidied c =
-    of_fields (latch c).parties c.figures_after-figures.result c.loop-i.oldest
+    of_fields (latch c).parties (effect c).figures c.loop-i.oldest
     (set c.loop-i.places (place_index c) c.by_ticket.result)
-    (write_slot c.if-woken-lt32.slots (party c) c.slot_after.result)
+    (write_slot c.if-e-lt32.slots (party c) (effect c).slot)
 
 woken-slots : (c : After-is_untidy)
-    → c.if-woken-lt32.slots ≡ write_slot c.loop-i.slots (effect c).woken (effect c).waiter
+    → c.if-e-lt32.slots ≡ write_slot c.loop-i.slots (effect c).woken (effect c).waiter
 unfolding write_slot
 woken-slots c =
-    elim c.if-woken-lt32.branch [
-      | then-woken-lt32 w ↦
-          w.slots-is ∙ ap (write_slot c.loop-i.slots (effect c).woken) w.waiter_after.ensures
-      | else-woken-lt32 w ↦
+    elim c.if-e-lt32.branch [
+      | then-e-lt32 w ↦ w.slots-is
+      | else-e-lt32 w ↦
           w.slots-is
           ∙ nobody c.loop-i.slots (effect c).woken (effect c).waiter
-          (omega (arith, c.loop-i.invariant.1, w.if-woken-lt32.false))
+          (omega (arith, c.loop-i.invariant.1, w.if-e-lt32.false))
     ]
 
 -- What is left, once it is tidied, is what the call leaves.
@@ -192,8 +190,7 @@ leaves c u e =
     e
     ∙ ap (tidied_by (effect c).turns)
     (stores (latch c) (party c) _ (index c) (effect c) _ _ _ _ _
-    c.figures_after-figures.ensures c.seat_after.ensures c.by_ticket.ensures
-    c.slot_after.ensures (woken-slots c))
+    refl refl c.by_ticket.ensures refl (woken-slots c))
     ∙ left _ _ _ _ _ (reading c) (op c) (effect c) (effect_is c)
 
 -- One more call is answered: its answer is written, and u is the record that is left.
@@ -204,8 +201,7 @@ one_more c u e =
     (answered c)
     (c.put_at-in-loop-i.ensures
     ∙ ap (λ (a : Answer). with_reply c.loop-i.i (frame_of (party c) (printed a)) c.loop-i.out)
-    (c.answer_after.ensures
-    ∙ said _ _ _ _ _ (reading c) (op c) (effect c) (effect_is c)))
+    (said _ _ _ _ _ (reading c) (op c) (effect c) (effect_is c)))
     (leaves c u e)
 
 -- The slots stay as many.

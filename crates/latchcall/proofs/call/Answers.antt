@@ -26,7 +26,7 @@ use Rattle.latchmove.proofs.Laws.Indexed.{reads, stores}
 use Rattle.latchmove.proofs.Laws.Sight.{Reads, sight_by, sight_of}
 use Rattle.latchmove.proofs.Laws.Stored.{made, nobody, stored, few-turns}
 use Rattle.latchcall.proofs.call.Goals as goal
-use Rattle.latchcall.proofs.call.Goals.{Start, After-is_untidy, then-woken-lt32, else-woken-lt32}
+use Rattle.latchcall.proofs.call.Goals.{Start, After-is_untidy, then-e-lt32, else-e-lt32}
 
 -- What is known once the record fits, and once the party is one of its own.
 passes : (h : Latch) {b : Bool} → b ≡ fits h → b ≡ true → fits h ≡ true
@@ -82,7 +82,7 @@ abbrev seat : After-is_untidy → PlaceSlot
 seat c = c.by_ticket-seat.result
 
 abbrev waiter : After-is_untidy → LatchSlot
-waiter c = c.slot_within-waiter.result
+waiter c = c.slot_within.result
 
 abbrev at : After-is_untidy → ℕ
 at c = c.seat_index-t.result
@@ -96,7 +96,7 @@ unfolding read_slot
 reading c z =
     reads (latch c) (party c) (at c) (index c) _ _ _ _ z
     c.empty_seat.ensures c.by_ticket-seat.ensures
-    c.waiter_at-q.ensures c.slot_within-waiter.ensures
+    c.waiter_at-q.ensures c.slot_within.ensures
 
 -- The effect is that of the call.
 abbrev sight : After-is_untidy → LatchSight
@@ -111,7 +111,7 @@ effect_is c =
     let s : ℕ → LatchSight = λ n. sight_by n (latch c) (party c) (seat c) (waiter c) in
     c.decide-e.ensures
     ∙ ap (λ (n : ℕ). effect_by c.args.op (full c) (s n))
-    (c.kind_in.ensures ∙ ap (λ (l : List ℕ). kind_in l (party c)) c.built_in-kinds.ensures)
+    (c.kind_in.ensures ∙ ap (λ (l : List ℕ). kind_in l (party c)) c.built_in.ensures)
 
 turns-most : (c : After-is_untidy) → c.decide-e.result.turns ≤ 256
 turns-most c = few-turns c.args.op (full c) (sight c) c.decide-e.result (effect_is c)
@@ -120,23 +120,23 @@ turns-most c = few-turns c.args.op (full c) (sight c) c.decide-e.result (effect_
 slots_set : (c : After-is_untidy) → Sized c
     → let h = latch c in
     let e = c.decide-e.result in
-    c.if-woken-lt32.latch ≡ made h h.figures h.places (write_slot h.slots e.woken e.waiter)
+    c.if-e-lt32.latch ≡ made h h.figures h.places (write_slot h.slots e.woken e.waiter)
 unfolding write_slot
 slots_set c z =
     let h = latch c in
     let e = c.decide-e.result in
-    elim c.if-woken-lt32.branch [
-      | then-woken-lt32 w ↦ w.latch-is
-      | else-woken-lt32 w ↦
+    elim c.if-e-lt32.branch [
+      | then-e-lt32 w ↦ w.latch-is
+      | else-e-lt32 w ↦
           w.latch-is
           ∙ ap (made h h.figures h.places)
-          (nobody h.slots e.woken e.waiter (omega (arith, z, w.if-woken-lt32.false)))
+          (nobody h.slots e.woken e.waiter (omega (arith, z, w.if-e-lt32.false)))
     ]
 
 -- The record after the stores.
 abbrev after : After-is_untidy → Latch
 after c =
-    let g = c.if-woken-lt32.latch in
+    let g = c.if-e-lt32.latch in
     let e = c.decide-e.result in
     made g e.figures (set g.places (at c) c.by_ticket.result) (write_slot g.slots (party c) e.slot)
 
@@ -157,17 +157,6 @@ leaves c z g e =
     (fitting c) (lt-ltb _ _ c.if-latch-party.false) g
     (e ∙ ap (tidied_by c.decide-e.result.turns) (is-stored c z))
 
-pub returns-then-not-is_untidy : goal.returns-then-not-is_untidy
-unfolding read_seat write_slot
-returns-then-not-is_untidy c =
-    let b = (goal.at.returns-then-not-is_untidy c).After-is_untidy in
-    let z = size (goal.at.returns-then-not-is_untidy c).Start in
-    let h = after b in
-    with-printed (leaves b z _
-    (ap (with_ring h)
-    (tidy b.decide-e.result.turns (ring_of h)
-    (sym b.is_untidy.ensures ∙ not-true _ c.if-not-is_untidy.true-raw))))
-
 pub reclaim-tidied-requires : goal.reclaim-tidied-requires
 reclaim-tidied-requires c =
     let b = (goal.at.reclaim-tidied-requires c).After-is_untidy in
@@ -177,9 +166,19 @@ reclaim-tidied-requires c =
       turns-most b,
     )
 
-pub returns : goal.returns
+pub returns-else-is_untidy : goal.returns-else-is_untidy
+unfolding read_seat write_slot
+returns-else-is_untidy c =
+    let b = (goal.at.returns-else-is_untidy c).After-is_untidy in
+    let z = size (goal.at.returns-else-is_untidy c).Start in
+    let h = after b in
+    with-printed (leaves b z _
+    (ap (with_ring h)
+    (tidy b.decide-e.result.turns (ring_of h) (sym b.is_untidy.ensures ∙ c.if-is_untidy.false))))
+
+pub returns-then-is_untidy : goal.returns-then-is_untidy
 unfolding write_slot
-returns c =
-    let b = (goal.at.returns c).After-is_untidy in
-    let z = size (goal.at.returns c).Start in
+returns-then-is_untidy c =
+    let b = (goal.at.returns-then-is_untidy c).After-is_untidy in
+    let z = size (goal.at.returns-then-is_untidy c).Start in
     with-printed (leaves b z _ (ap (with_ring (after b)) c.reclaim-tidied.ensures))

@@ -1,2 +1,0 @@
--- Laws that the rows' proofs cite.
-pub mod Figures
