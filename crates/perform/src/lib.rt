@@ -16,7 +16,7 @@ use exchange::wire::{code_at, party_at};
 use hub::record::{Hub, Phase};
 use hub::slots::with_phase;
 use plan::{Seen, is_full_for, place_for, plan_for, radios_after_operation};
-use tidystep::tidy_step;
+use tidystep::Tidying;
 
 // Performs the operations, two bytes each, on a hub at rest.
 pub fn perform_operations(hub: Hub, operations: &[u8], out: &mut [u8])
@@ -31,69 +31,51 @@ pub fn perform_operations(hub: Hub, operations: &[u8], out: &mut [u8])
     let mut places = hub.places;
     let mut slots = hub.slots;
     let mut pool = hub.control.pool;
-    let kinds = opening.kinds;
-    let count = operations.len() / 2;
-    let mut i: usize = 0;
-    while i < count {
+    for i in 0..operations.len() / 2 {
         let code = code_at(operations, i);
         let party = party_at(operations, i);
-        let at = i;
-        i += 1;
         if opening.parties <= party {
-            put_at(out, at, 4, 0xFF, 0);
+            put_at(out, i, 4, 0xFF, 0);
             continue;
         }
         let own = party as usize;
-        let slot = slots[own];
-        let t = place_for(code, slot, figures);
-        let seat = places[t];
-        let kind = kinds[own];
+        let t = place_for(code, slots[own], figures);
         let full = is_full_for(code, oldest, figures.issued);
         let s = Seen {
             party,
-            kind,
+            kind: opening.kinds[own],
             named: opening.named,
-            slot,
-            seat,
+            slot: slots[own],
+            seat: places[t],
             figures,
         };
         let plan = plan_for(code, full, s);
-        let woken = plan.woken;
-        if woken < 32 {
-            let q = woken as usize;
-            let waiter = slots[q];
-            slots[q] = with_phase(Phase::Holding, waiter);
+        if plan.woken < 32 {
+            let q = plan.woken as usize;
+            slots[q] = with_phase(Phase::Holding, slots[q]);
         }
-        let becomes = plan.slot;
-        slots[own] = becomes;
-        let left = plan.seat;
-        places[t] = left;
-        put_at(out, at, plan.code, woken, plan.steps);
+        slots[own] = plan.slot;
+        places[t] = plan.seat;
+        put_at(out, i, plan.code, plan.woken, plan.steps);
         if opening.named {
-            pool = radios_after_operation(code, plan.steps, woken, party, pool);
+            pool = radios_after_operation(code, plan.steps, plan.woken, party, pool);
         }
-        let next = plan.figures;
-        figures = next;
-        // the tidying
-        let mut resumed = figures.resumed;
-        let mut skips = plan.turns;
-        let mut retires = skips;
-        while 0 < retires {
-            let tidy = tidy_step(
-                places[(resumed % Hub::PLACES) as usize],
-                places[(oldest % Hub::PLACES) as usize],
-                resumed,
-                oldest,
-                skips,
-                retires,
+        figures = plan.figures;
+        let mut tidying = Tidying {
+            resumed: figures.resumed,
+            oldest,
+            skips: plan.turns,
+            retires: plan.turns,
+        };
+        while 0 < tidying.retires {
+            let turn = tidying.step(
+                places[(tidying.resumed % Hub::PLACES) as usize],
+                places[(tidying.oldest % Hub::PLACES) as usize],
             );
-            let stored = tidy.seat;
-            places[(tidy.ticket % Hub::PLACES) as usize] = stored;
-            resumed = tidy.resumed;
-            oldest = tidy.oldest;
-            skips = tidy.skips;
-            retires = tidy.retires;
+            places[(turn.ticket % Hub::PLACES) as usize] = turn.seat;
+            tidying = turn.left;
         }
-        figures.resumed = resumed;
+        figures.resumed = tidying.resumed;
+        oldest = tidying.oldest;
     }
 }

@@ -19,6 +19,5 @@ pub(crate) fn put_at(out: &mut [u8], i: usize, code: u8, woken: u32, steps: u8)
     ensures { out.new ≡ with_answer i (code ∷ woken % 256 ∷ steps ∷ []) out.old }
 {
     let at = 3 * i;
-    let end = at + 3;
-    put(&mut out[at..end], code, woken, steps);
+    put(&mut out[at..at + 3], code, woken, steps);
 }

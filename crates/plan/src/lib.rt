@@ -49,23 +49,18 @@ pub fn is_full_for(code: u8, oldest: u32, issued: u32) -> bool
     requires { oldest ≤ 1000000 }
     ensures { result ≡ full_for (operation_of code) (leb (oldest + PLACES) issued) }
 {
-    if code == 0x10 {
-        return oldest + Hub::PLACES <= issued;
-    }
-    false
+    code == 0x10 && oldest + Hub::PLACES <= issued
 }
 
 // The ticket whose place it is about: the next that is drawn, the party's own, the next that is resumed.
 fn ticket_for(code: u8, slot: PartySlot, figures: Figures) -> u32
     ensures { result ≡ ticket_for code slot.phase figures }
 {
-    if code == 0x10 {
-        return figures.issued;
+    match code {
+        0x10 => figures.issued,
+        0x12 => ticket(slot.phase).unwrap_or(0),
+        _ => figures.resumed,
     }
-    if code == 0x12 {
-        return ticket(slot.phase).unwrap_or(0);
-    }
-    figures.resumed
 }
 
 // Where that place lies in the ring.
@@ -79,12 +74,11 @@ fn after_acquire(issued: u32, figures: Figures) -> Figures
     requires { CounterFits figures.counter × (figures.begun < 1000000) }
     ensures { result ≡ after_acquire issued figures }
 {
-    let counter = figures.counter - 1;
     Figures {
-        counter,
+        counter: figures.counter - 1,
         issued,
-        resumed: figures.resumed,
         begun: figures.begun + 1,
+        ..figures
     }
 }
 
@@ -92,29 +86,24 @@ fn after_return(resumed: u32, figures: Figures) -> Figures
     requires { CounterFits figures.counter }
     ensures { result ≡ after_return resumed figures }
 {
-    let counter = figures.counter + 1;
     Figures {
-        counter,
-        issued: figures.issued,
+        counter: figures.counter + 1,
         resumed,
-        begun: figures.begun,
+        ..figures
     }
 }
 
 fn refused(code: u8, s: Seen) -> Plan
     ensures { result ≡ refused_by code s }
 {
-    let figures = s.figures;
-    let slot = s.slot;
-    let seat = s.seat;
     Plan {
         code,
         woken: 0xFF,
         steps: 0,
         turns: 0,
-        figures,
-        slot,
-        seat,
+        figures: s.figures,
+        slot: s.slot,
+        seat: s.seat,
     }
 }
 
@@ -122,25 +111,20 @@ fn refused(code: u8, s: Seen) -> Plan
 fn one_step(named: bool) -> u8
     ensures { result ≡ cond named 2 1 }
 {
-    if named {
-        return 2;
-    }
-    1
+    if named { 2 } else { 1 }
 }
 
 fn short(figures: Figures, phase: Phase, s: Seen) -> Plan
     ensures { result ≡ short figures phase s }
 {
-    let slot = s.slot;
-    let seat = s.seat;
     Plan {
         code: 0x20,
         woken: 0xFF,
         steps: one_step(s.named),
         turns: 0,
         figures,
-        slot: with_phase(phase, slot),
-        seat,
+        slot: with_phase(phase, s.slot),
+        seat: s.seat,
     }
 }
 
@@ -155,9 +139,8 @@ fn waited_by(party: u8, seat: PlaceSlot) -> PlaceSlot
 fn waiter_at(seat: PlaceSlot) -> u32
     ensures { result ≡ by_waiter 0xFF (λ q. q) seat.place }
 {
-    let place = seat.place;
-    match place {
-        Place::Waiting(q) => q as u32,
+    match seat.place {
+        Place::Waiting(q) => u32::from(q),
         _ => 0xFF,
     }
 }
@@ -167,9 +150,7 @@ fn plan_acquire(full: bool, s: Seen) -> Plan
     ensures { result ≡ plan_acquire (is_free s.slot.phase) (leb MAX_BEGUN s.figures.begun) full
         (above_zero s.figures.counter) s }
 {
-    let slot = s.slot;
-    let phase = slot.phase;
-    let Phase::Free = phase else {
+    let Phase::Free = s.slot.phase else {
         return refused(5, s);
     };
     let figures = s.figures;
@@ -183,15 +164,14 @@ fn plan_acquire(full: bool, s: Seen) -> Plan
     if above_zero(figures.counter) {
         return short(after_acquire(t, figures), Phase::Holding, s);
     }
-    let seat = s.seat;
     Plan {
         code: 0x20,
         woken: 0xFF,
         steps: 3,
         turns: 0,
         figures: after_acquire(t + 1, figures),
-        slot: with_phase(Phase::Waiting(t), slot),
-        seat: waited_by(s.party, seat),
+        slot: with_phase(Phase::Waiting(t), s.slot),
+        seat: waited_by(s.party, s.seat),
     }
 }
 
@@ -199,24 +179,20 @@ fn plan_cancel(s: Seen) -> Plan
     requires { CounterFits s.figures.counter }
     ensures { result ≡ plan_cancel (is_waiting s.slot.phase) (eqb s.kind 3) s }
 {
-    let slot = s.slot;
-    let phase = slot.phase;
-    let Phase::Waiting(_) = phase else {
+    let Phase::Waiting(_) = s.slot.phase else {
         return refused(9, s);
     };
     if s.kind == 3 {
         return refused(10, s);
     }
-    let figures = s.figures;
-    let seat = s.seat;
     Plan {
         code: 0x20,
         woken: 0xFF,
         steps: 2,
-        turns: 256,
-        figures: after_return(figures.resumed, figures),
-        slot: with_phase(Phase::Free, slot),
-        seat: with_place(Place::Cancelled, seat),
+        turns: Hub::PLACES,
+        figures: after_return(s.figures.resumed, s.figures),
+        slot: with_phase(Phase::Free, s.slot),
+        seat: with_place(Place::Cancelled, s.seat),
     }
 }
 
@@ -224,9 +200,7 @@ fn plan_release(s: Seen) -> Plan
     requires { CounterFits s.figures.counter × (s.figures.resumed ≤ 1000000) }
     ensures { result ≡ plan_release (is_holding s.slot.phase) (below_zero s.figures.counter) s }
 {
-    let slot = s.slot;
-    let phase = slot.phase;
-    let Phase::Holding = phase else {
+    let Phase::Holding = s.slot.phase else {
         return refused(11, s);
     };
     let figures = s.figures;
@@ -234,19 +208,19 @@ fn plan_release(s: Seen) -> Plan
     if !below_zero(figures.counter) {
         return short(after_return(t, figures), Phase::Free, s);
     }
-    let seat = s.seat;
     Plan {
         code: 0x20,
-        woken: waiter_at(seat),
+        woken: waiter_at(s.seat),
         steps: 3,
-        turns: 256,
+        turns: Hub::PLACES,
         figures: after_return(t + 1, figures),
-        slot: with_phase(Phase::Free, slot),
-        seat: with_place(Place::Done, seat),
+        slot: with_phase(Phase::Free, s.slot),
+        seat: with_place(Place::Done, s.seat),
     }
 }
 
 // `full`: is there no place for one more ticket? Only an ask looks at it.
+// Tests, and no match as in `ticket_for`: with a match here an operation costs 106 instructions, with tests 97.
 pub fn plan_for(code: u8, full: bool, s: Seen) -> Plan
     requires { CounterFits s.figures.counter × (s.figures.issued ≤ 1000000) × (s.figures.resumed ≤ 1000000) }
     ensures { result ≡ plan_of code full s }
@@ -264,22 +238,13 @@ pub fn plan_for(code: u8, full: bool, s: Seen) -> Plan
 fn radio_by(code: u8, steps: u8, woken: u32) -> Answer
     ensures { result ≡ radio_by code steps woken }
 {
-    if code == 0x10 {
-        if steps == 2 {
-            return Answer::Fetched;
-        }
-        return Answer::Accepted;
+    match (code, steps) {
+        (0x10, 2) => Answer::Fetched,
+        (0x10 | 0x12, _) => Answer::Accepted,
+        (_, 3) => Answer::Woke(woken, 0),
+        (_, 2) => Answer::Stored,
+        _ => Answer::Accepted,
     }
-    if code == 0x12 {
-        return Answer::Accepted;
-    }
-    if steps == 3 {
-        return Answer::Woke(woken, 0);
-    }
-    if steps == 2 {
-        return Answer::Stored;
-    }
-    Answer::Accepted
 }
 
 // Who has which radio after the operation, on a hub with radios.

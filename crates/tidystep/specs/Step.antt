@@ -6,49 +6,37 @@ use Rattle.hub.specs.Phases.{is_cancelled, is_done}
 use Rattle.hub.specs.Record.{empty_seat, with_place}
 use Rattle.hub.specs.Ring.{PLACES}
 use Rattle.tidystep.specs.declared.TidyStep.{TidyStep}
+use Rattle.tidystep.specs.declared.Tidying.{Tidying}
 
-abbrev pub skip_turn : PlaceSlot → ℕ → ℕ → ℕ → ℕ → TidyStep
-skip_turn ahead resumed oldest skips retires =
+abbrev pub skip_turn : PlaceSlot → Tidying → TidyStep
+skip_turn ahead t =
     record {
-      ticket = resumed;
+      ticket = t.resumed;
       seat = with_place Place.Done ahead;
-      resumed = resumed + 1;
-      oldest = oldest;
-      skips = skips - 1;
-      retires = retires;
+      left = record { resumed = t.resumed + 1; oldest = t.oldest; skips = t.skips - 1; retires = t.retires };
     }
 
-abbrev pub retire_turn : ℕ → ℕ → ℕ → TidyStep
-retire_turn resumed oldest retires =
+abbrev pub retire_turn : Tidying → TidyStep
+retire_turn t =
     record {
-      ticket = oldest;
+      ticket = t.oldest;
       seat = empty_seat;
-      resumed = resumed;
-      oldest = oldest + 1;
-      skips = 0;
-      retires = retires - 1;
+      left = record { resumed = t.resumed; oldest = t.oldest + 1; skips = 0; retires = t.retires - 1 };
     }
 
 -- Nothing more is to do: what was there is stored.
-abbrev pub last_turn : PlaceSlot → ℕ → ℕ → TidyStep
-last_turn behind resumed oldest =
+abbrev pub last_turn : PlaceSlot → Tidying → TidyStep
+last_turn behind t =
     record {
-      ticket = oldest;
+      ticket = t.oldest;
       seat = behind;
-      resumed = resumed;
-      oldest = oldest;
-      skips = 0;
-      retires = 0;
+      left = record { resumed = t.resumed; oldest = t.oldest; skips = 0; retires = 0 };
     }
 
--- May ticket `resumed`, whose place this is, be skipped, with so many left to skip?
-abbrev pub may_skip : ℕ → PlaceSlot → ℕ → ℕ → Bool
-may_skip skips seat resumed oldest =
-    ltb 0 skips && (ltb resumed (oldest + PLACES) && is_cancelled seat.place)
+-- May the next ticket to resume, whose place this is, be skipped?
+abbrev pub may_skip : PlaceSlot → Tidying → Bool
+may_skip seat t = ltb 0 t.skips && (ltb t.resumed (t.oldest + PLACES) && is_cancelled seat.place)
 
--- With so many left to skip and to retire.
-unfoldable pub tidy_step : PlaceSlot → PlaceSlot → ℕ → ℕ → ℕ → ℕ → TidyStep
-tidy_step ahead behind resumed oldest skips retires =
-    cond (may_skip skips ahead resumed oldest)
-    (skip_turn ahead resumed oldest skips retires)
-    (cond (is_done behind.place) (retire_turn resumed oldest retires) (last_turn behind resumed oldest))
+unfoldable pub tidy_step : PlaceSlot → PlaceSlot → Tidying → TidyStep
+tidy_step ahead behind t =
+    cond (may_skip ahead t) (skip_turn ahead t) (cond (is_done behind.place) (retire_turn t) (last_turn behind t))

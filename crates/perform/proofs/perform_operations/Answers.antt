@@ -17,7 +17,7 @@ use Rattle.perform.proofs.Laws.Answers.{ended}
 use Rattle.perform.proofs.Laws.Comes.{pool_by}
 use Rattle.perform.proofs.Laws.Turn.{fit, counts, turned_down, turns-most, one_more, still-32}
 use Rattle.perform.proofs.perform_operations.Goals as goal
-use Rattle.perform.proofs.perform_operations.Goals.{then-woken-lt32, else-woken-lt32, then-opening, else-opening}
+use Rattle.perform.proofs.perform_operations.Goals.{then-plan-lt32, else-plan-lt32, then-opening, else-opening}
 
 pub loop-i-preserved-then-opening-party : goal.loop-i-preserved-then-opening-party
 loop-i-preserved-then-opening-party c =
@@ -31,8 +31,12 @@ pub bounds-slots-own : goal.bounds-slots-own
 bounds-slots-own c =
     omega (arith, c.if-opening-party.false, (counts _ _ _ _ _ _ c.loop-i.invariant.0).parties)
 
-pub bounds-kinds-own : goal.bounds-kinds-own
-bounds-kinds-own c =
+pub bounds-opening-own : goal.bounds-opening-own
+bounds-opening-own c =
+    omega (arith, c.if-opening-party.false, (counts _ _ _ _ _ _ c.loop-i.invariant.0).parties)
+
+pub bounds-slots-own-in-loop-i-2 : goal.bounds-slots-own-in-loop-i-2
+bounds-slots-own-in-loop-i-2 c =
     omega (arith, c.if-opening-party.false, (counts _ _ _ _ _ _ c.loop-i.invariant.0).parties)
 
 pub is_full_for-full-requires : goal.is_full_for-full-requires
@@ -50,9 +54,9 @@ pub radios_after_operation-pool-requires : goal.radios_after_operation-pool-requ
 radios_after_operation-pool-requires c =
     few-stored _ (fit _ _ _ _ _ _ c.loop-i.invariant.0) c.if-opening.true
 
-pub loop-retires-init : goal.loop-retires-init
+pub loop-tidying-init : goal.loop-tidying-init
 unfolding read_slot
-loop-retires-init c =
+loop-tidying-init c =
     let k = c.loop-i.invariant in (
       tidying _ _,
       (counts _ _ _ _ _ _ k.0).oldest,
@@ -60,16 +64,16 @@ loop-retires-init c =
           c.if-opening-party.false _ c.place_for-t.ensures _ c.is_full_for-full.ensures _ c.plan_for-plan.ensures,
     )
 
-pub loop-retires-smaller : goal.loop-retires-smaller
+pub loop-tidying-smaller : goal.loop-tidying-smaller
 unfolding read_seat
-loop-retires-smaller c =
-    (steps_on _ _ _ _ _ c.loop-retires.invariant.0 c.loop-retires-test.true _ c.tidy_step-tidy.ensures).1
+loop-tidying-smaller c =
+    (steps_on _ _ _ _ _ c.loop-tidying.invariant.0 c.loop-tidying-test.true _ c.step-turn.ensures).1
 
-pub loop-retires-preserved : goal.loop-retires-preserved
+pub loop-tidying-preserved : goal.loop-tidying-preserved
 unfolding read_seat write_seat
-loop-retires-preserved c =
-    let i = c.loop-retires.invariant in
-    ((steps_on _ _ _ _ _ i.0 c.loop-retires-test.true _ c.tidy_step-tidy.ensures).0, i.1, i.2)
+loop-tidying-preserved c =
+    let i = c.loop-tidying.invariant in
+    ((steps_on _ _ _ _ _ i.0 c.loop-tidying-test.true _ c.step-turn.ensures).0, i.1, i.2)
 
 pub loop-i-preserved : goal.loop-i-preserved
 unfolding read_slot write_slot
@@ -83,25 +87,25 @@ loop-i-preserved c =
     let party = c.party_at-party.result in
     let woken : List PartySlot =
     write_slot c.loop-i.slots plan.woken (with_phase Phase.Holding (read_slot c.loop-i.slots plan.woken)) in
-    let slots-are : c.if-woken-lt32.slots ≡ woken =
-    elim c.if-woken-lt32.branch [
-      | then-woken-lt32 w ↦ w.slots-is ∙ ap (set c.loop-i.slots plan.woken) w.with_phase.ensures
-      | else-woken-lt32 w ↦
+    let slots-are : c.if-plan-lt32.slots ≡ woken =
+    elim c.if-plan-lt32.branch [
+      | then-plan-lt32 w ↦ w.slots-is ∙ ap (set c.loop-i.slots plan.woken) w.with_phase.ensures
+      | else-plan-lt32 w ↦
           w.slots-is
           ∙ nobody c.loop-i.slots plan.woken (with_phase Phase.Holding (read_slot c.loop-i.slots plan.woken))
-          (omega (arith, k.1, w.if-woken-lt32.false))
+          (omega (arith, k.1, w.if-plan-lt32.false))
     ] in
     let pool-is : c.if-opening.pool ≡ pool_by h party code plan =
     elim c.if-opening.branch [
       | then-opening w ↦ with-radios _ _ _ _ _ w.if-opening.true (w.pool-is ∙ w.radios_after_operation-pool.ensures)
       | else-opening w ↦ w.pool-is ∙ without-radios _ _ _ _ w.if-opening.false
     ] in
-    let ends = tidying-ends _ _ _ _ _ c.loop-retires.invariant.0 c.loop-retires-test.false in (
+    let ends = tidying-ends _ _ _ _ _ c.loop-tidying.invariant.0 c.loop-tidying-test.false in (
       one_more _ _ _ h _ _ k.0 k.1 c.loop-i-test.true code party c.code_at-code.ensures c.party_at-party.ensures
           c.if-opening-party.false _ c.place_for-t.ensures _ c.is_full_for-full.ensures plan c.plan_for-plan.ensures
           _ slots-are _ pool-is _ _
           (ap (with_ring (of_fields (set c.loop-i.places c.place_for-t.result plan.seat)
-          (write_slot c.if-woken-lt32.slots party plan.slot)
+          (write_slot c.if-plan-lt32.slots party plan.slot)
           (control_of c.args.hub.control.opening plan.figures c.loop-i.oldest c.if-opening.pool))) ends)
           c.put_at-in-loop-i.ensures,
       still-32 _ _ _ h _ _ k.0 k.1 c.loop-i-test.true code party c.code_at-code.ensures c.party_at-party.ensures

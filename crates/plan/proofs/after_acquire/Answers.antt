@@ -6,8 +6,8 @@ use Rattle.hub.specs.Table.{with_begun, with_counter, with_issued}
 use Rattle.effects.proofs.Laws.Counter.{less, less-fits}
 use Rattle.plan.proofs.after_acquire.Goals as goal
 
-pub overflow_sub-counter : goal.overflow_sub-counter
-overflow_sub-counter c = less-fits c.args.figures.counter c.requires.0
+pub overflow_sub-result : goal.overflow_sub-result
+overflow_sub-result c = less-fits c.args.figures.counter c.requires.0
 
 pub returns : goal.returns
 returns c =

@@ -5,8 +5,8 @@ use Rattle.hub.specs.Table.{with_counter, with_resumed}
 use Rattle.effects.proofs.Laws.Counter.{more, more-fits}
 use Rattle.plan.proofs.after_return.Goals as goal
 
-pub overflow_add-counter : goal.overflow_add-counter
-overflow_add-counter c = more-fits c.args.figures.counter c.requires
+pub overflow_add-result : goal.overflow_add-result
+overflow_add-result c = more-fits c.args.figures.counter c.requires
 
 pub returns : goal.returns
 returns c =

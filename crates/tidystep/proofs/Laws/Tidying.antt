@@ -16,12 +16,12 @@ use Rattle.tidystep.specs.declared.TidyStep.{TidyStep}
 use Rattle.tidystep.specs.Step.{tidy_step}
 
 -- Of n turns of each loop from r₀ so many are left at r.
-pub record Tidying (n : ℕ) (r₀ r : Ring) (skips retires : ℕ) : Type 0 where
+pub record Partway (n : ℕ) (r₀ r : Ring) (skips retires : ℕ) : Type 0 where
   pub few : skips ≤ retires
   pub low : r.oldest + retires ≤ r₀.oldest + n
   pub same : retire retires (skip skips r) ≡ reclaimed_by n r₀
 
-pub tidying : (n : ℕ) (r : Ring) → Tidying n r r n n
+pub tidying : (n : ℕ) (r : Ring) → Partway n r r n n
 tidying n r = record { few = omega arith; low = omega arith; same = refl }
 
 one_less : (k : ℕ) → 0 < k → k ≡ suc (k - 1)
@@ -44,15 +44,16 @@ module _ (r : Ring) where
 -- The turn that is decided at a ring.
 abbrev pub step_at : Ring → ℕ → ℕ → TidyStep
 step_at r skips retires =
-    tidy_step (read_seat r.places r.resumed) (read_seat r.places r.oldest) r.resumed r.oldest skips retires
+    tidy_step (read_seat r.places r.resumed) (read_seat r.places r.oldest)
+    (record { resumed = r.resumed; oldest = r.oldest; skips = skips; retires = retires })
 
 -- The ring that a turn leaves.
 abbrev after_step : Ring → TidyStep → Ring
 after_step r d =
-    record { resumed = d.resumed; oldest = d.oldest; places = write_seat r.places d.ticket d.seat }
+    record { resumed = d.left.resumed; oldest = d.left.oldest; places = write_seat r.places d.ticket d.seat }
 
-module _ (n : ℕ) (r₀ r : Ring) (skips retires : ℕ) (t : Tidying n r₀ r skips retires) where
-  skips-on : can_skip_in r skips ≡ true → Tidying n r₀ (skipped r) (skips - 1) retires
+module _ (n : ℕ) (r₀ r : Ring) (skips retires : ℕ) (t : Partway n r₀ r skips retires) where
+  skips-on : can_skip_in r skips ≡ true → Partway n r₀ (skipped r) (skips - 1) retires
   skips-on e =
       let some = ltb-true 0 skips (first (ltb 0 skips) (can_skip r) e) in
       record {
@@ -69,7 +70,7 @@ module _ (n : ℕ) (r₀ r : Ring) (skips retires : ℕ) (t : Tidying n r₀ r s
     all-skipped : retire retires r ≡ reclaimed_by n r₀
     all-skipped = ap (retire retires) (sym (skip-off r skips e)) ∙ t.same
 
-    retires-on : 0 < retires → can_retire r ≡ true → Tidying n r₀ (retired r) 0 (retires - 1)
+    retires-on : 0 < retires → can_retire r ≡ true → Partway n r₀ (retired r) 0 (retires - 1)
     retires-on l f =
         record {
           few = omega arith;
@@ -80,7 +81,7 @@ module _ (n : ℕ) (r₀ r : Ring) (skips retires : ℕ) (t : Tidying n r₀ r s
               ∙ all-skipped;
         }
 
-    stops : can_retire r ≡ false → Tidying n r₀ r 0 0
+    stops : can_retire r ≡ false → Partway n r₀ r 0 0
     stops f =
         record {
           few = omega arith;
@@ -90,7 +91,7 @@ module _ (n : ℕ) (r₀ r : Ring) (skips retires : ℕ) (t : Tidying n r₀ r s
 
   -- A turn leads on, and leaves less to do.
   abbrev Onward : TidyStep → Type 0
-  Onward d = Tidying n r₀ (after_step r d) d.skips d.retires × (d.skips + d.retires < skips + retires)
+  Onward d = Partway n r₀ (after_step r d) d.left.skips d.left.retires × (d.left.skips + d.left.retires < skips + retires)
 
   is-onward : 0 < retires → Onward (step_at r skips retires)
   unfolding tidy_step
