@@ -1,4 +1,5 @@
-// The calls on a record in place. A shell hands the record to the by-value core, and stores the one that comes back. Its
+// The calls on a record in place. A shell takes the hub by reference, hands its three fields to a
+// function over them, which calls the by-value core, and stores the record that comes back. Its
 // contract names `printed` beside the answer, since that is where the paper's codes are.
 
 #![tactic(auto)]
@@ -7,26 +8,37 @@ ghost use Rattle.std.specs.Prelude.{◌≡◌};
 ghost use Rattle.hub.specs.declared.moves.Op.{Op};
 ghost use Rattle.hub.specs.Answers.{printed};
 ghost use Rattle.hub.specs.Calls.{called};
+ghost use Rattle.hub.specs.Record.{of_fields};
 
-use hub::{Answer, Hub, Op, Outcome};
+use anycall::call;
+use hub::{Answer, Control, Hub, Op, Outcome, PartySlot, PlaceSlot};
 
-// Any of them.
-pub fn call(hub: &mut Hub, op: Op, party: u8) -> Answer
-    ensures { (result ≡ (called hub.old (record { op = op; party = party })).answer)
-        × (printed result ≡ printed (called hub.old (record { op = op; party = party })).answer)
-        × (hub.new ≡ (called hub.old (record { op = op; party = party })).hub) }
+fn call_fields(
+    op: Op,
+    party: u8,
+    places: [PlaceSlot; 256],
+    slots: [PartySlot; 32],
+    control: Control,
+) -> Outcome
+    ensures { result ≡ called (of_fields places slots control) (record { op = op; party = party }) }
 {
-    let outcome = anycall::call(*hub, op, party);
-    *hub = outcome.hub;
-    outcome.answer
+    let hub = Hub {
+        places,
+        slots,
+        control,
+    };
+    call(hub, op, party)
 }
 
+// Five shells alike, since the paper asks each call for one that hands the fields over (docs/DECISIONS.md, 20).
 pub fn acquire(hub: &mut Hub, party: u8) -> Answer
     ensures { (result ≡ (called hub.old (record { op = Op.Acquire; party = party })).answer)
         × (printed result ≡ printed (called hub.old (record { op = Op.Acquire; party = party })).answer)
         × (hub.new ≡ (called hub.old (record { op = Op.Acquire; party = party })).hub) }
 {
-    call(hub, Op::Acquire, party)
+    let o = call_fields(Op::Acquire, party, hub.places, hub.slots, hub.control);
+    *hub = o.hub;
+    o.answer
 }
 
 pub fn step(hub: &mut Hub, party: u8) -> Answer
@@ -34,7 +46,9 @@ pub fn step(hub: &mut Hub, party: u8) -> Answer
         × (printed result ≡ printed (called hub.old (record { op = Op.Step; party = party })).answer)
         × (hub.new ≡ (called hub.old (record { op = Op.Step; party = party })).hub) }
 {
-    call(hub, Op::Step, party)
+    let o = call_fields(Op::Step, party, hub.places, hub.slots, hub.control);
+    *hub = o.hub;
+    o.answer
 }
 
 pub fn cancel(hub: &mut Hub, party: u8) -> Answer
@@ -42,7 +56,9 @@ pub fn cancel(hub: &mut Hub, party: u8) -> Answer
         × (printed result ≡ printed (called hub.old (record { op = Op.Cancel; party = party })).answer)
         × (hub.new ≡ (called hub.old (record { op = Op.Cancel; party = party })).hub) }
 {
-    call(hub, Op::Cancel, party)
+    let o = call_fields(Op::Cancel, party, hub.places, hub.slots, hub.control);
+    *hub = o.hub;
+    o.answer
 }
 
 pub fn release(hub: &mut Hub, party: u8) -> Answer
@@ -50,7 +66,9 @@ pub fn release(hub: &mut Hub, party: u8) -> Answer
         × (printed result ≡ printed (called hub.old (record { op = Op.Release; party = party })).answer)
         × (hub.new ≡ (called hub.old (record { op = Op.Release; party = party })).hub) }
 {
-    call(hub, Op::Release, party)
+    let o = call_fields(Op::Release, party, hub.places, hub.slots, hub.control);
+    *hub = o.hub;
+    o.answer
 }
 
 pub fn radio(hub: &mut Hub, party: u8) -> Answer
@@ -58,14 +76,24 @@ pub fn radio(hub: &mut Hub, party: u8) -> Answer
         × (printed result ≡ printed (called hub.old (record { op = Op.Radio; party = party })).answer)
         × (hub.new ≡ (called hub.old (record { op = Op.Radio; party = party })).hub) }
 {
-    call(hub, Op::Radio, party)
+    let o = call_fields(Op::Radio, party, hub.places, hub.slots, hub.control);
+    *hub = o.hub;
+    o.answer
 }
 
-// A call for those who have the record by value.
-pub fn call_on_board(mut hub: Hub, op: Op, party: u8) -> Outcome
+// A call for those who have the record by value: what calls this needs no walk by hand.
+pub fn call_on_board(hub: Hub, op: Op, party: u8) -> Outcome
     ensures { (result ≡ called hub (record { op = op; party = party }))
         × (printed result.answer ≡ printed (called hub (record { op = op; party = party })).answer) }
 {
-    let answer = call(&mut hub, op, party);
-    Outcome { answer, hub }
+    let mut h = hub;
+    // each call by its own shell: so what is proved here of any call is proved of them
+    let answer = match op {
+        Op::Acquire => acquire(&mut h, party),
+        Op::Step => step(&mut h, party),
+        Op::Cancel => cancel(&mut h, party),
+        Op::Release => release(&mut h, party),
+        Op::Radio => radio(&mut h, party),
+    };
+    Outcome { answer, hub: h }
 }
