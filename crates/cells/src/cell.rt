@@ -58,6 +58,7 @@ fn put_places(out: &mut [u8], places: &[PlaceSlot])
     }
 }
 
+// Into a buffer: cells that are mapped and then flattened did not prove, what a closure answers being an array of five.
 pub fn place_bytes(places: [PlaceSlot; 256]) -> [u8; 1280]
     ensures { result ≡ place_bytes places }
 {

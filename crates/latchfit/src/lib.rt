@@ -64,6 +64,7 @@ fn member_fits(
     slot_fits(slot) && party_fits(slot.phase, seat.place, tickets_of(figures), oldest, true)
 }
 
+// The hub's goes over other slots with other figures, and asks for radios: what both ask of a party is `party_fits`.
 fn members_fit(
     slots: &[LatchSlot],
     places: &[PlaceSlot; 256],

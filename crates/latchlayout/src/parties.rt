@@ -83,6 +83,7 @@ pub(crate) fn lefts_of(slots: [LatchSlot; 32]) -> [u8; 32]
     array::from_fn(|p| left_of(slots[p].phase, slots[p].left))
 }
 
+// The hub's slots have the same line in `layout`: one function for both would be longer, for its type and its bound.
 pub(crate) fn marks_of(slots: [LatchSlot; 32]) -> [u8; 32]
     ensures { result ≡ mark_bytes slots }
 {

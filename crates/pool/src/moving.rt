@@ -22,6 +22,7 @@ fn laid_at(pool: Pool, t: u32) -> u8
     pool.laid[(t % Hub::PLACES) as usize]
 }
 
+// A test and no `get_mut`: with it the proof stops where a slot is found, since what its borrow leaves behind has no name to cite.
 fn hand_to(q: u32, radio: u8, mut pool: Pool) -> Pool
     ensures { result ≡ hand_to q radio pool }
 {
