@@ -15,7 +15,7 @@ use screensteps::accepted_steps;
 
 #[derive(Clone, Copy)]
 pub struct DeskReply {
-    pub code: u8, // as it is printed (a): 12 and 13 are no answers of the hub, and `line_text` prints all of them alike
+    pub code: u8, // as it is printed: 12 and 13 are no answers of the hub, and `line_text` prints all of them alike
     pub party: Option<u8>, // none for openings and for 12
     pub steps: Option<u8>, // to rest, of an operation that is accepted
     pub line: Line, // as it is left

@@ -6,7 +6,7 @@ use hub::answers::Answer;
 use hub::record::Hub;
 
 // What an operation answers, whom it woke, how many steps it took, and the record that it leaves. FF for nobody is the
-// number that `ScreenShows` and `WritesShown` speak of (a).
+// number that `ScreenShows` and `WritesShown` speak of.
 #[derive(Clone, Copy)]
 pub struct Operated {
     pub answer: Answer, // of the call: accepted (20) or refused

@@ -1,6 +1,6 @@
 // The plain line of the desk screen.
 //
-// A line is bytes as a clerk hands them in, and `line_fits` says which of them fit. So it has no invariant (a): a type
+// A line is bytes as a clerk hands them in, and `line_fits` says which of them fit. So it has no invariant: a type
 // with one would ask more of the callers of `call`.
 
 ghost use Rattle.std.specs.Prelude.{◌≡◌, ◌≤◌};
@@ -25,7 +25,7 @@ impl Line {
     pub fn open(o: Opening) -> Line
         ensures { result ≡ opened_line o }
     {
-        let kinds = o.kinds; // (c): an array of a field that goes straight into a literal gets no proof
+        let kinds = o.kinds; // an array of a field that goes straight into a literal gets no proof
         Line {
             permits: o.permits,
             parties: o.parties,
