@@ -29,10 +29,10 @@ tickets_fit f o =
     ∷ [])
 
 -- The clause of the place of ticket t, where these slots are kept: whoever waits there stands there, by that slot's phase.
-abbrev pub place_fits : {S : Type 0} → (S → Phase) → S → List S → ℕ → Place → Bool
-place_fits phase nobody slots t = by_waiter true (λ q. stands_at (phase (get_or slots q nobody)) t)
+abbrev pub waiter_fits : {S : Type 0} → (S → Phase) → S → List S → ℕ → Place → Bool
+waiter_fits phase nobody slots t = by_waiter true (λ q. stands_at (phase (get_or slots q nobody)) t)
 
 -- The clause of the place at index i.
 abbrev pub seat_fits : {S : Type 0} → (S → Phase) → S → List S → List PlaceSlot → ℕ → ℕ → Bool
 seat_fits phase nobody slots places o i =
-    place_fits phase nobody slots (ticket_at o i) (get_or places i empty_seat).place
+    waiter_fits phase nobody slots (ticket_at o i) (get_or places i empty_seat).place

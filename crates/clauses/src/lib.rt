@@ -9,7 +9,7 @@ ghost use Rattle.hub.specs.Fits.{counter_fits, figures_fit, in_window, ticket_fi
 ghost use Rattle.hub.specs.Fits.{kinds_fit, stands_at};
 ghost use Rattle.hub.specs.Phases.{by_waiter, is_free, of_radios};
 ghost use Rattle.hub.specs.Ring.{read_place};
-ghost use Rattle.clauses.specs.Window.{place_fits, seat_fits, ticket_at, tickets_fit};
+ghost use Rattle.clauses.specs.Window.{seat_fits, ticket_at, tickets_fit, waiter_fits};
 
 use hub::opening::Opening;
 use hub::record::{Figures, Hub, Phase, Place, PlaceSlot};
@@ -133,8 +133,8 @@ fn ticket_at(oldest: u32, i: usize) -> u32
 }
 
 // The clause of the place of ticket t: whoever waits there stands there.
-fn place_fits<S: Slot>(seat: PlaceSlot, slots: &[S], t: u32) -> bool
-    ensures { result ≡ place_fits S.phase_of S.nobody slots.now t seat.place }
+fn waiter_fits<S: Slot>(seat: PlaceSlot, slots: &[S], t: u32) -> bool
+    ensures { result ≡ waiter_fits S.phase_of S.nobody slots.now t seat.place }
 {
     match seat.place {
         Place::Waiting(q) => {
@@ -153,8 +153,8 @@ fn nobody_waits(seats: &[PlaceSlot]) -> bool
         .all(|seat| !matches!(seat.place, Place::Waiting(_)))
 }
 
-// The clauses of eight places in a row. The compiler asks all eight at once whether anyone waits there, a place being
-// two bytes.
+// The clauses of eight places in a row. A row where nobody waits is passed over by eight tests, and the tickets of its indices
+// are only computed where somebody waits in it.
 fn row_fits<S: Slot>(places: &[PlaceSlot; 256], slots: &[S], oldest: u32, first: usize) -> bool
     requires { (oldest ≤ 1000000) × (first + 8 ≤ 256) }
     ensures { result ≡ all_from (seat_fits S.phase_of S.nobody slots.now places.now oldest) first 8 }
@@ -163,7 +163,7 @@ fn row_fits<S: Slot>(places: &[PlaceSlot; 256], slots: &[S], oldest: u32, first:
         return true;
     }
     for i in first..first + 8 {
-        if !place_fits(places[i], slots, ticket_at(oldest, i)) {
+        if !waiter_fits(places[i], slots, ticket_at(oldest, i)) {
             return false;
         }
     }
@@ -173,7 +173,7 @@ fn row_fits<S: Slot>(places: &[PlaceSlot; 256], slots: &[S], oldest: u32, first:
 // The clauses of all places, whatever record has these slots.
 pub fn waiters_fit<S: Slot>(places: &[PlaceSlot; 256], slots: &[S], oldest: u32) -> bool
     requires { oldest ≤ 1000000 }
-    ensures { result ≡ all_from (λ t. place_fits S.phase_of S.nobody slots.now t (read_place places.now t)) oldest 256 }
+    ensures { result ≡ all_from (λ t. waiter_fits S.phase_of S.nobody slots.now t (read_place places.now t)) oldest 256 }
 {
     for row in 0..32 {
         if !row_fits(places, slots, oldest, 8 * row) {

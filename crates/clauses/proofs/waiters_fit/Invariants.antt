@@ -2,7 +2,7 @@
 use Prim.Native.Nat.{◌*◌}
 use Rattle.hub.specs.Basics.{all_from}
 use Rattle.hub.specs.Ring.{read_place}
-use Rattle.clauses.specs.Window.{place_fits, seat_fits}
+use Rattle.clauses.specs.Window.{seat_fits, waiter_fits}
 use Rattle.clauses.proofs.Laws.Ranges.{Left}
 use Rattle.clauses.proofs.waiters_fit.Given as goal
 
@@ -10,4 +10,4 @@ abbrev pub invariant-loop-row : goal.invariant-loop-row
 invariant-loop-row g l =
     let k = g.S.Slot in
     Left (seat_fits k.phase_of k.nobody l.slots l.places l.oldest) 256
-    (all_from (λ t. place_fits k.phase_of k.nobody l.slots t (read_place l.places t)) l.oldest 256) (8 * l.row)
+    (all_from (λ t. waiter_fits k.phase_of k.nobody l.slots t (read_place l.places t)) l.oldest 256) (8 * l.row)

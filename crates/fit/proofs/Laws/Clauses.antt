@@ -23,7 +23,7 @@ use Rattle.hub.specs.Record.{PARTIES, MAX_BEGUN, free_slot, read_slot}
 use Rattle.hub.specs.Ring.{PLACES, read_place, read_seat}
 use Rattle.hub.proofs.Laws.Bools.{clause, first, second}
 use Rattle.hub.proofs.Laws.Phases.{phases-alike}
-use Rattle.clauses.specs.Window.{place_fits as window_fits}
+use Rattle.clauses.specs.Window.{waiter_fits}
 use Rattle.fit.specs.Members.{member_fits}
 use Rattle.std.specs.List.{list_all}
 use Rattle.clauses.proofs.Laws.Listed.{listed-any}
@@ -107,7 +107,7 @@ module _ (h : Hub) where
   pub by-tests : length h.slots ≡ PARTIES → outline_fits ≡ true
       → list_all (member h) (take h.control.opening.parties h.slots)
       && list_all (λ s. is_free s.phase) (drop h.control.opening.parties h.slots)
-      && all_from (λ t. window_fits (λ (s : PartySlot). s.phase) free_slot h.slots t (read_place h.places t)) h.control.oldest PLACES
+      && all_from (λ t. waiter_fits (λ (s : PartySlot). s.phase) free_slot h.slots t (read_place h.places t)) h.control.oldest PLACES
       && radios_fit h
       ≡ fits h
   unfolding fits state_fits place_fits read_slot

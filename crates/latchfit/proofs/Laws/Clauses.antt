@@ -17,7 +17,7 @@ use Rattle.hub.specs.Record.{PARTIES, MAX_BEGUN}
 use Rattle.hub.specs.Ring.{PLACES, read_place, read_seat}
 use Rattle.hub.proofs.Laws.Bools.{clause, second}
 use Rattle.hub.proofs.Laws.Phases.{phases-alike}
-use Rattle.clauses.specs.Window.{place_fits as window_fits}
+use Rattle.clauses.specs.Window.{waiter_fits}
 use Rattle.std.specs.List.{list_all}
 use Rattle.hub.specs.declared.record.PlaceSlot.{PlaceSlot}
 use Rattle.clauses.proofs.Laws.Listed.{listed-any}
@@ -112,7 +112,7 @@ module _ (h : Latch) where
 
   pub by-tests : length h.slots ≡ PARTIES → figures_fit h.parties h.figures h.oldest ≡ true
       → list_all (member h) (take h.parties h.slots) && list_all (λ s. is_free s.phase) (drop h.parties h.slots)
-      && all_from (λ t. window_fits (λ (s : LatchSlot). s.phase) free_slot h.slots t (read_place h.places t)) h.oldest PLACES
+      && all_from (λ t. waiter_fits (λ (s : LatchSlot). s.phase) free_slot h.slots t (read_place h.places t)) h.oldest PLACES
       ≡ fits h
   unfolding fits place_fits read_slot
   by-tests size e = rw (e, all-parties h size (parties-few h.parties h.figures h.oldest e))
