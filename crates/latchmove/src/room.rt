@@ -1,7 +1,9 @@
-// Refusal 7: is there a place for one more ticket?
+// Refusal 7: is there a place for one more ticket? The counting and the test are as the hub's (crates counts and
+// transition). Tried: both, and the two functions of `sight`, generic in what is kept of a party; the hub's program
+// `schedule` then took 158, 152 and 141 instructions a line (mixed, waits, full) in place of 151, 145 and 132.
 
 ghost use Rattle.std.specs.Prelude.{◌≡◌, ◌≤◌};
-ghost use Rattle.hub.specs.Basics.{bit, count};
+ghost use Rattle.hub.specs.Basics.{count};
 ghost use Rattle.hub.specs.Phases.{draws_ticket};
 ghost use Rattle.latch.specs.Calls.{is_full};
 ghost use Rattle.latch.specs.Record.{phases_of};
@@ -11,29 +13,21 @@ use hub::record::{Hub, Phase};
 use latch::moves::LatchOp;
 use latch::record::LatchSlot;
 
-// 1 if a party of this phase, asked, raising or unnumbered, may yet draw a ticket.
-fn drawing(phase: Phase) -> u32
-    ensures { result ≡ bit (draws_ticket phase) }
+// Asked, raising or unnumbered, with a mark or without: it may yet draw a ticket.
+#[tactic(auto, unfolding(hub::specs::Phases::is_one_of))]
+fn draws_ticket(phase: Phase) -> bool
+    ensures { result ≡ draws_ticket phase }
 {
-    match phase {
-        Phase::Acquiring | Phase::Suspending | Phase::AcquiringMarked | Phase::SuspendingMarked =>
-            1,
-        _ => 0,
-    }
+    matches!(
+        phase,
+        Phase::Acquiring | Phase::Suspending | Phase::AcquiringMarked | Phase::SuspendingMarked
+    )
 }
 
 pub fn count_drawing(slots: [LatchSlot; 32]) -> u32
     ensures { (result ≡ count draws_ticket (phases_of slots)) × (result ≤ 32) }
 {
-    let mut n: u32 = 0;
-    let mut p: usize = 0;
-    while p < 32 {
-        let slot = slots[p];
-        let phase = slot.phase;
-        n += drawing(phase);
-        p += 1;
-    }
-    n
+    slots.iter().filter(|slot| draws_ticket(slot.phase)).count() as u32
 }
 
 fn is_full(oldest: u32, issued: u32, slots: [LatchSlot; 32]) -> bool

@@ -1,4 +1,5 @@
-// What a call looks at, from what lies in the arrays.
+// What a call looks at, from what lies in the arrays. `seat_index` and `slot_within` are as the hub's, for the reason
+// that stands in `room`.
 
 ghost use Rattle.std.specs.Prelude.{◌≡◌, cond, ◌%◌, ltb};
 ghost use Rattle.hub.specs.Phases.{by_ticket, ticket_of};

@@ -1,21 +1,23 @@
--- `count_drawing` meets its contract: what is counted and what is left come to the whole.
-use mathlib.Core.Path.{sym, ◌∙◌}
-use native.Mathlib.Omega.{arith}
-use Prim.Native.Nat.{◌-◌}
-use Rattle.latch.specs.Record.{free_slot}
-use Rattle.counts.proofs.Laws.Counting.{counting-on, counting-all}
-use Rattle.latchmove.proofs.Laws.Counting.{by_slots}
+-- `count_drawing` meets its contract: a filter's length is a count, and a phase is asked of its slot.
+use Rattle.std.proofs.Common.{rules, tests, sym, ◌∙◌, ◌≡◌, ◌≤◌, length}
+use mathlib.Core.Path.{subst}
+use Rattle.std.proofs.lemmas.Iterator.{YieldsList-from_slice}
+use Rattle.std.proofs.lemmas.Iterator.Consumers.{YieldsList-from_filter, count_from_yields_List}
+use Rattle.hub.specs.Basics.{count}
+use Rattle.hub.specs.Phases.{draws_ticket}
+use Rattle.hub.proofs.Laws.Lists.{count-filter}
+use Rattle.latch.specs.declared.record.LatchSlot.{LatchSlot}
+use Rattle.latch.specs.Record.{phases_of}
+use Rattle.latchmove.proofs.Laws.Counting.{by_slots, draws-few}
 use Rattle.latchmove.proofs.room.count_drawing.Goals as goal
-
-pub loop-p-preserved : goal.loop-p-preserved
-loop-p-preserved c =
-    let l = c in
-    counting-on _ _ _ _ _ l.loop-p.invariant free_slot _ c.loop-p-test.true
-    c.drawing-n.ensures
 
 pub returns : goal.returns
 returns c =
-    let i = c.loop-p.invariant in (
-      counting-all _ _ _ _ _ i c.loop-p-test.false ∙ sym (by_slots _),
-      omega (arith, i.few, i.within),
-    )
+    let l = c.args.slots in
+    let size : length l ≡ 32 = search rules in
+    let e : c.count.result ≡ count draws_ticket (phases_of l) =
+    count_from_yields_List _ _ c.count.ensures.ran
+    (YieldsList-from_filter _ (λ (s : LatchSlot). draws_ticket s.phase) (YieldsList-from_slice l cc) c.filter.ensures.closure (λ s b k r. search (rules, tests)))
+    ∙ count-filter (λ (s : LatchSlot). draws_ticket s.phase) l
+    ∙ sym (by_slots l) in
+    (e, subst (λ n. n ≤ 32) (sym e) (subst (λ n. count draws_ticket (phases_of l) ≤ n) size (draws-few l)))
