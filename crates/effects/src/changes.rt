@@ -7,7 +7,6 @@ ghost use Rattle.effects.specs.Effect.{effect_of};
 ghost use Rattle.effects.specs.Small.{CounterFits};
 
 use crate::effect::Effect;
-use crate::figures::with_counter;
 use hub::answers::{Answer, Refusal};
 use hub::moves::Sight;
 use hub::record::{Figures, Phase, Place};
@@ -17,17 +16,13 @@ use hub::slots::{with_phase, with_place};
 pub fn told(answer: Answer, s: Sight) -> Effect
     ensures { result ≡ effect_of (Tell answer) s }
 {
-    let waiter = s.waiter;
-    let slot = s.slot;
-    let seat = s.seat;
-    let figures = s.figures;
     Effect {
         turns: 0,
         woken: 32,
-        waiter,
-        slot,
-        seat,
-        figures,
+        waiter: s.waiter,
+        slot: s.slot,
+        seat: s.seat,
+        figures: s.figures,
         answer,
     }
 }
@@ -42,17 +37,11 @@ pub fn refused(why: Refusal, s: Sight) -> Effect
 pub fn acted(phase: Phase, figures: Figures, answer: Answer, s: Sight) -> Effect
     ensures { result ≡ effect_of (Act (change phase figures answer s)) s }
 {
-    let waiter = s.waiter;
-    let slot = s.slot;
-    let seat = s.seat;
     Effect {
         turns: 256,
-        woken: 32,
-        waiter,
-        slot: with_phase(phase, slot),
-        seat,
+        slot: with_phase(phase, s.slot),
         figures,
-        answer,
+        ..told(answer, s)
     }
 }
 
@@ -60,8 +49,7 @@ pub fn acted(phase: Phase, figures: Figures, answer: Answer, s: Sight) -> Effect
 pub fn turned(phase: Phase, answer: Answer, s: Sight) -> Effect
     ensures { result ≡ effect_of (turn phase answer s) s }
 {
-    let figures = s.figures;
-    acted(phase, figures, answer, s)
+    acted(phase, s.figures, answer, s)
 }
 
 // The counter: one taken off, one added.
@@ -69,36 +57,33 @@ pub fn taken(phase: Phase, answer: Answer, s: Sight) -> Effect
     requires { CounterFits s.figures.counter }
     ensures { result ≡ effect_of (take phase answer s) s }
 {
-    let figures = s.figures;
-    let counter = figures.counter - 1;
-    acted(phase, with_counter(counter, figures), answer, s)
+    let figures = Figures {
+        counter: s.figures.counter - 1,
+        ..s.figures
+    };
+    acted(phase, figures, answer, s)
 }
 
 pub fn given(phase: Phase, answer: Answer, s: Sight) -> Effect
     requires { CounterFits s.figures.counter }
     ensures { result ≡ effect_of (give phase answer s) s }
 {
-    let figures = s.figures;
-    let counter = figures.counter + 1;
-    acted(phase, with_counter(counter, figures), answer, s)
+    let figures = Figures {
+        counter: s.figures.counter + 1,
+        ..s.figures
+    };
+    acted(phase, figures, answer, s)
 }
 
 // The place of its ticket, too.
 pub fn placed(place: Place, phase: Phase, answer: Answer, s: Sight) -> Effect
     ensures { result ≡ effect_of (put place phase answer s) s }
 {
-    let waiter = s.waiter;
-    let slot = s.slot;
-    let seat = s.seat;
-    let figures = s.figures;
     Effect {
         turns: 256,
-        woken: 32,
-        waiter,
-        slot: with_phase(phase, slot),
-        seat: with_place(place, seat),
-        figures,
-        answer,
+        slot: with_phase(phase, s.slot),
+        seat: with_place(place, s.seat),
+        ..told(answer, s)
     }
 }
 
@@ -106,17 +91,12 @@ pub fn placed(place: Place, phase: Phase, answer: Answer, s: Sight) -> Effect
 pub fn woke(q: u32, t: u32, s: Sight) -> Effect
     ensures { result ≡ effect_of (wake q t s) s }
 {
-    let waiter = s.waiter;
-    let slot = s.slot;
-    let seat = s.seat;
-    let figures = s.figures;
     Effect {
         turns: 256,
         woken: q,
-        waiter: with_phase(Phase::Holding, waiter),
-        slot: with_phase(Phase::Free, slot),
-        seat: with_place(Place::Done, seat),
-        figures,
-        answer: Answer::Woke(q, t),
+        waiter: with_phase(Phase::Holding, s.waiter),
+        slot: with_phase(Phase::Free, s.slot),
+        seat: with_place(Place::Done, s.seat),
+        ..told(Answer::Woke(q, t), s)
     }
 }

@@ -1,5 +1,7 @@
 // A decision laid out flat: it is stored without asking of which kind it is. As an enum it cost a
-// tenth of a line more.
+// tenth of a line more. 32 stands for nobody and a latch has a type of its own (`LatchEffect`): `woken` as an Option in
+// one generic type for both, tried together with Option forms of the waiter, cost 159, 153 and 141 instructions a line
+// (mixed, waits, full) at best, where this form cost 150, 144 and 131.
 
 use hub::answers::Answer;
 use hub::record::{Figures, PartySlot, PlaceSlot};

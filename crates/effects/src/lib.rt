@@ -5,6 +5,5 @@
 
 pub mod effect; // a decision as it is stored
 pub mod counter; // the side of zero that the counter is on
-pub mod figures; // one of them changed
 pub mod changes; // what decisions are made of
 pub mod others; // ask, give up, give back, which radio

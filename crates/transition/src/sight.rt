@@ -17,7 +17,8 @@ pub fn seat_index(slot: PartySlot) -> usize
     (ticket(slot.phase).unwrap_or(0) % Hub::PLACES) as usize
 }
 
-// The party that waits at a place; 32, the first number past the slots, where nobody does.
+// The party that waits at a place; 32, the first number past the slots, where nobody does. Option forms were tried
+// together with one of `woken`, and were dearer (`Effect`, crates/effects, has the figures).
 pub fn waiter_at(seat: PlaceSlot) -> u32
     ensures { result ≡ by_waiter PARTIES (λ q. q) seat.place }
 {
