@@ -35,8 +35,10 @@ pub struct Seen {
 // What was seen and does not change is in it, too.
 #[derive(Clone, Copy)]
 pub struct Plan {
-    pub code: u8, // 20, or the refusal
-    pub woken: u32, // the party that becomes holding; FF if nobody does
+    // 20, or the refusal, as the answer's byte: a refusal has all the fields, too, so that a Result would only add a test.
+    pub code: u8,
+    // The party that becomes holding; FF if nobody does, which is what the answer says: an Option would be turned back to it.
+    pub woken: u32,
     pub steps: u8,
     pub turns: u32, // that each of the tidying's loops may take
     pub figures: Figures,
@@ -44,6 +46,7 @@ pub struct Plan {
     pub seat: PlaceSlot,
 }
 
+// The code of an operation is taken as its byte, here and below: any byte is allowed, which an `Op` would narrow.
 // Is there no place for one more ticket? Asked for an ask alone. At rest nobody is to draw one, so that nobody is counted.
 pub fn is_full_for(code: u8, oldest: u32, issued: u32) -> bool
     requires { oldest ≤ 1000000 }
@@ -135,7 +138,8 @@ fn waited_by(party: u8, seat: PlaceSlot) -> PlaceSlot
     with_place(Place::Waiting(party), seat)
 }
 
-// The party that waits at a place; FF if none does.
+// The party that waits at a place; FF if none does. Transition's has 32 for none, each as its user stores it: by an Option
+// for both each would have a match more.
 fn waiter_at(seat: PlaceSlot) -> u32
     ensures { result ≡ by_waiter 0xFF (λ q. q) seat.place }
 {
