@@ -59,10 +59,13 @@ opening_if true true c n = record { start = Start.Opened; latch = fresh c n }
 abbrev pub opening : ℕ → ℕ → LatchOpening
 opening c n = opening_if (up_to32 n) (up_to200 c) c n
 
--- A refusal's number.
+-- How an opening goes that is refused so, and its number.
+abbrev pub start_of : LatchRefusal → Start
+start_of LatchRefusal.BadParties = Start.BadParties
+start_of LatchRefusal.BadCount = Start.BadCount
+
 abbrev pub refusal_code : LatchRefusal → ℕ
-refusal_code LatchRefusal.BadParties = 3
-refusal_code LatchRefusal.BadCount = 18
+refusal_code why = start_code (start_of why)
 
 -- What an opening hands back: the record, or why there is none.
 abbrev pub made_by : Start → Latch → Result Latch LatchRefusal
@@ -72,3 +75,8 @@ made_by Start.Opened h = Ok h
 
 abbrev pub made : LatchOpening → Result Latch LatchRefusal
 made o = made_by o.start o.latch
+
+-- The opening that handed this back.
+abbrev pub opened_by : Result Latch LatchRefusal → LatchOpening
+opened_by (Ok h) = record { start = Start.Opened; latch = h }
+opened_by (Err why) = not_opened (start_of why)

@@ -1,7 +1,7 @@
 // Opening a latch with N and n, and refusals 3 and 18.
 
 ghost use Rattle.std.specs.Prelude.{◌≡◌};
-ghost use Rattle.latch.specs.Opening.{figures_at, fresh, made, opening, refusal_code, up_to200};
+ghost use Rattle.latch.specs.Opening.{figures_at, fresh, made, opened_by, opening, refusal_code, start_code, up_to200};
 ghost use Rattle.latch.specs.Record.{free_slot};
 
 use crate::record::{Latch, LatchFigures, LatchSlot};
@@ -86,7 +86,9 @@ fn up_to_200(n: u8) -> bool
 // Opens a latch.
 #[tactic(auto, unfolding(crate::specs::Opening::opening_if))]
 pub fn open_latch(count: u8, parties: u8) -> Result<Latch, LatchRefusal>
-    ensures { result ≡ made (opening count parties) }
+    ensures value { result ≡ made (opening count parties) }
+    ensures outcome { opened_by result ≡ opening count parties }
+    ensures printed { start_code (opened_by result).start ≡ start_code (opening count parties).start }
 {
     if !up_to_32(parties) {
         return Err(LatchRefusal::BadParties);
