@@ -12,14 +12,14 @@ abbrev pub terms_of : ℕ → ℕ → List ℕ → Terms
 terms_of n fee l = record { parties = n; fee = fee; grants = table 32 (grants_of l) }
 
 -- The shares of 32 parties: 0 from n up.
-abbrev pub shares_of : ℕ → ℕ → List ℕ → List ℕ
-shares_of n fee l = up_to n (share (terms_of n fee l))
+abbrev pub shares_due : ℕ → ℕ → List ℕ → List ℕ
+shares_due n fee l = up_to n (share (terms_of n fee l))
 
 -- Of n parties, a fee in cents and the lines' bytes l: 3, then 22, else the shares.
 unfoldable pub answer_to : ℕ → ℕ → List ℕ → Result (List ℕ) Refusal
 answer_to n fee l =
     cond (not (up_to32 n)) (Err Refusal.BadParties)
-    (cond (ltb 1000000 fee || ltb 100000000 (lines_in l)) (Err Refusal.TooMuch) (Ok (shares_of n fee l)))
+    (cond (ltb 1000000 fee || ltb 100000000 (lines_in l)) (Err Refusal.TooMuch) (Ok (shares_due n fee l)))
 
 abbrev pub number_of : Refusal → ℕ
 number_of Refusal.BadParties = 3

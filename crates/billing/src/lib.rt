@@ -4,7 +4,7 @@
 #![tactic(auto)]
 
 ghost use Rattle.std.specs.Prelude.{ℕ, ◌*◌, ◌+◌, ◌<◌, ◌≤◌, ◌≡◌, cond, get_or, length, ltb};
-ghost use Rattle.billing.specs.Bill.{answer_to, bill_bytes, bill_code, in_bytes, written_at};
+ghost use Rattle.billing.specs.Bill.{answer_to, bill_bytes, bill_code, in_bytes, number_of, written_at};
 ghost use Rattle.billing.specs.Counting.{grants_of, receiver_of, sum, table};
 ghost use Rattle.billing.specs.Portions.{cents_at, remainder_at};
 ghost use Rattle.billing.specs.Sharing.{Billable, granted, left_over, precedes, rank, remainder};
@@ -23,6 +23,15 @@ const NO_BUFFER: u8 = 255; // answers a buffer that has not four bytes for each 
 pub enum Refusal {
     BadParties = 3, // n is not 1 to 32
     TooMuch = 22, // the fee is above 1,000,000 cents, or the lines exceed 100,000,000
+}
+
+impl Refusal {
+    // Its number.
+    pub fn code(self) -> u8
+        ensures { result ≡ number_of self }
+    {
+        self as u8
+    }
 }
 
 // What is shared, and by what.
@@ -200,7 +209,7 @@ pub fn bill_shares(parties: u8, fee: u32, lines: &[u8], shares: &mut [u8]) -> u8
         × (shares.new ≡ bill_bytes parties fee lines.now shares.old) }
 {
     match share_fee(parties, fee, lines) {
-        Err(why) => why as u8,
+        Err(why) => why.code(),
         Ok(cents) => {
             let n = parties as usize;
             if shares.len() != 4 * n {

@@ -12,7 +12,7 @@ use Rattle.std.proofs.lemmas.List.{get_or-take}
 use Rattle.hub.specs.Basics.{up_to32}
 use Rattle.hub.proofs.Laws.Bools.{first, second}
 use Rattle.billing.specs.declared.Refusal.{Refusal}
-use Rattle.billing.specs.Bill.{answer_to, terms_of, shares_of, in_bytes, bill_code, bill_bytes}
+use Rattle.billing.specs.Bill.{answer_to, terms_of, shares_due, in_bytes, bill_code, bill_bytes}
 use Rattle.billing.specs.Counting.{lines_in, grants_of}
 use Rattle.billing.specs.Sharing.{Billable, share}
 use Rattle.billing.proofs.Laws.Bytes.{bytes_same}
@@ -34,13 +34,13 @@ module _ (n fee : ℕ) (l : List ℕ) where
       }
 
   -- What is billed are the shares.
-  billed : {s : List ℕ} → answer_to n fee l ≡ Ok s → (s ≡ shares_of n fee l) × (n ≤ 32)
+  billed : {s : List ℕ} → answer_to n fee l ≡ Ok s → (s ≡ shares_due n fee l) × (n ≤ 32)
   unfolding answer_to
   billed {s} = go (up_to32 n) (in-range n) (ltb 1000000 fee || ltb 100000000 (lines_in l))
     where
       go : (a : Bool) → (a ≡ true → (1 ≤ n) × (n ≤ 32)) → (b : Bool)
-          → cond (not a) (Err Refusal.BadParties) (cond b (Err Refusal.TooMuch) (Ok (shares_of n fee l))) ≡ Ok s
-          → (s ≡ shares_of n fee l) × (n ≤ 32)
+          → cond (not a) (Err Refusal.BadParties) (cond b (Err Refusal.TooMuch) (Ok (shares_due n fee l))) ≡ Ok s
+          → (s ≡ shares_due n fee l) × (n ≤ 32)
       go true i true e = cc
       go true i false e = (cc, (i refl).1)
       go false i b e = cc
@@ -57,7 +57,7 @@ module _ (n fee : ℕ) (l : List ℕ) where
             ∙ bytes_same (λ p. get_or (take n s) p 0) (share (terms_of n fee l)) n at,
       )
     where
-      is : s ≡ shares_of n fee l
+      is : s ≡ shares_due n fee l
       is = (billed e).0
 
       size : length (take n s) ≡ n
