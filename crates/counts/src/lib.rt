@@ -26,7 +26,8 @@ fn count<T, F: FnMut(&&T) -> bool>(items: &[T], passes: F) -> u32
     items.iter().filter(passes).count() as u32
 }
 
-// The parties that may yet draw a ticket. Seldom asked for: in the loop over requests it would make each of them dearer.
+// The parties that may yet draw a ticket. Seldom asked for, so it stays out of the loop over requests: a line of schedule takes 153,
+// 147, 134 instructions (mixed, waits, full), without the hint 156, 150, 138.
 #[inline(never)]
 pub fn count_drawing(slots: [PartySlot; 32]) -> u32
     ensures { (result ≡ count draws_ticket (phases_of slots)) × (result ≤ 32) }

@@ -43,7 +43,8 @@ fn byte_by(values: &[u16; 256], a: u8, b: u8) -> Option<u8>
 }
 
 // What a line of these four characters asks: a call, or nothing. As call_header of both bytes, each read whatever the
-// other is, a line of the program costs 158 instructions in place of 151.
+// other is, a line of the program costs 160, 154, 141 instructions (mixed, waits, full), at best 158, 152, 139, in place of
+// 151, 145, 132.
 pub fn call_by(values: &[u16; 256], a: u8, b: u8, c: u8, d: u8) -> Header
     requires { Values values.now }
     ensures { result ≡ header_of (request_of (a ∷ b ∷ c ∷ d ∷ [])) }
