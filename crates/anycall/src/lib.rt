@@ -71,7 +71,7 @@ pub fn call(mut hub: Hub, op: Op, party: u8) -> Outcome
     hub.slots[p] = own;
     let put = e.seat;
     hub.places[t] = put;
-    // the kit covers no struct that is stored to a field of a field: so by a copy, which the compiler leaves out
+    // stored by a copy of the control block, which the compiler leaves out
     let after = e.figures;
     let mut control = hub.control;
     control.figures = after;
