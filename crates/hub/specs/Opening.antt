@@ -128,3 +128,8 @@ unless_refused x a = Ok x
 abbrev pub opened : Result Hub Refusal → Outcome
 opened (Ok h) = record { answer = Answer.Opened; hub = h }
 opened (Err r) = not_opened r
+
+-- And its answer alone.
+abbrev pub answered : {A : Type 0} → Result A Refusal → Answer
+answered (Ok x) = Answer.Opened
+answered (Err r) = Answer.Refused r

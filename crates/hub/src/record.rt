@@ -92,7 +92,8 @@ impl Hub {
     pub const PARTIES: u8 = 32;
 }
 
-// What an opening or a call answers, and the record that it leaves.
+// What a call answers, and the record that it leaves. What an opening answers is a Result (`open_hub`); the definition `opening`
+// gives an outcome for it too.
 #[derive(Clone, Copy, PartialEq, Eq, Debug)]
 pub struct Outcome {
     pub answer: Answer,

@@ -8,7 +8,7 @@ ghost use Rattle.std.specs.Prelude.{◌≡◌, ◌≤◌, take};
 ghost use Rattle.hub.specs.Answers.{printed};
 ghost use Rattle.hub.specs.Basics.{up_to32};
 ghost use Rattle.hub.specs.Fits.{kinds_fit};
-ghost use Rattle.hub.specs.Opening.{kind_tests, opened, opening, opening_if, radios_differ, sized, unless_refused};
+ghost use Rattle.hub.specs.Opening.{answered, kind_tests, opened, opening, opening_if, radios_differ, sized, unless_refused};
 ghost use Rattle.hub.specs.Radios.{differ};
 
 use hub::answers::Refusal;
@@ -86,10 +86,11 @@ fn check_kinds(o: Opening) -> Result<(), Refusal>
     Ok(())
 }
 
-// What an opening is refused by.
+// What an opening is refused by; one that is not is answered 1F.
 #[tactic(auto, unfolding(hub::specs::Opening::opening_if))]
 pub fn check_opening(o: Opening) -> Result<(), Refusal>
-    ensures { result ≡ unless_refused tt (opening o).answer }
+    ensures value { result ≡ unless_refused tt (opening o).answer }
+    ensures answer { answered result ≡ (opening o).answer }
 {
     if !up_to_32(o.permits) {
         return Err(Refusal::BadPermits);

@@ -10,14 +10,14 @@ use Rattle.openhub.proofs.open_hub.Goals as goal
 pub returns-in_err-check_opening-clause-outcome : goal.returns-in_err-check_opening-clause-outcome
 returns-in_err-check_opening-clause-outcome c =
     let refused = by_err c.args.o (ends c.args.o (tests c.args.o))
-    (sym c.check_opening.ensures ∙ c.in_err-check_opening.was) in
+    (sym c.check_opening.ensures.value ∙ c.in_err-check_opening.was) in
     search rules
 
 pub returns : goal.returns
 returns c =
     let o = c.args.o in
     let made : accepted o ≡ opening o =
-    sym (by_ok o (ends o (tests o)) (sym c.check_opening.ensures ∙ c.in_ok-check_opening.was)) in
+    sym (by_ok o (ends o (tests o)) (sym c.check_opening.ensures.value ∙ c.in_ok-check_opening.was)) in
     let outcome : opened (Ok c.«open».result) ≡ opening o = ap (λ (h : Hub). opened (Ok h)) c.«open».ensures ∙ made in record {
       value = ap Ok c.«open».ensures ∙ ap (λ (x : Outcome). unless_refused x.hub x.answer) made;
       outcome = outcome;

@@ -15,9 +15,9 @@ pub returns-in-Err : goal.returns-in-Err
 returns-in-Err c =
     with-printed (c.refused_move.ensures
     ∙ ap (refused_move _) (c.«open».ensures ∙ ap opened_line c.sized.ensures)
-    ∙ sym (not_opened_lem c.args.o (sym c.check_opening.ensures ∙ c.in-Err.is)))
+    ∙ sym (not_opened_lem c.args.o (sym c.check_opening.ensures.value ∙ c.in-Err.is)))
 
 pub returns : goal.returns
 returns c =
     with-printed (ap opened c.open-2.ensures
-    ∙ sym (opens c.args.o (sym c.check_opening.ensures ∙ c.in_default.is)))
+    ∙ sym (opens c.args.o (sym c.check_opening.ensures.value ∙ c.in_default.is)))
