@@ -1,7 +1,7 @@
 // What a line asks. Refusal 12 is for every line that is neither a call nor an opening.
 
-ghost use Rattle.std.specs.Prelude.{◌≡◌, true};
-ghost use Rattle.line.specs.Requests.{call_header, header_of, is_opening, malformed, request_of, spelled_by, to_open};
+ghost use Rattle.std.specs.Prelude.{◌≡◌, true, length};
+ghost use Rattle.line.specs.Requests.{header_of, is_opening, malformed, request_of, spelled_by, to_open};
 
 use crate::hex::hex_byte;
 use crate::openings::{opening_in, read_frame};
@@ -31,14 +31,21 @@ pub(crate) fn malformed() -> Header
     }
 }
 
-// The header of four characters, by the bytes that they spell: a call, or malformed.
-fn call_header(code: Option<u8>, party: Option<u8>) -> Header
-    ensures { result ≡ call_header code party }
+// A line of four characters: a call, or malformed. The party is read only behind the code of a call.
+fn call_in(line: &[u8]) -> Header
+    requires { length line.now ≡ 4 }
+    ensures { result ≡ header_of (request_of line.now) }
 {
-    match (code, party) {
-        (Some(code @ 0x10..=0x14), Some(party)) => Header { code, party },
-        _ => malformed(),
+    let Some(code) = hex_byte(line) else {
+        return malformed();
+    };
+    if code < 0x10 || 0x14 < code {
+        return malformed();
     }
+    let Some(party) = hex_byte(&line[2..]) else {
+        return malformed();
+    };
+    Header { code, party }
 }
 
 // The bytes that a line spells, in a buffer that is lent for them; none if it is unreadable.
@@ -77,7 +84,7 @@ pub fn read_header(line: &[u8]) -> Header
     ensures { result ≡ header_of (request_of line.now) }
 {
     if line.len() == 4 {
-        return call_header(hex_byte(line), hex_byte(&line[2..]));
+        return call_in(line);
     }
     if !is_opening(line) {
         return malformed();

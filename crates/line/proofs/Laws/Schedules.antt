@@ -3,17 +3,27 @@ use mathlib.Core.Path.{◌≡◌, refl, ap, ◌∙◌}
 use mathlib.Core.Bool.{true, false}
 use mathlib.Core.List.{List, [], ◌∷◌, map}
 use lib.Dec.{leb}
+use Rattle.hub.specs.declared.answers.Answer.{Answer}
+use Rattle.hub.specs.declared.answers.Refusal.{Refusal}
 use Rattle.hub.specs.declared.moves.Call.{Call}
 use Rattle.hub.specs.declared.opening.Opening.{Opening}
 use Rattle.hub.specs.declared.record.Hub.{Hub}
 use Rattle.hub.specs.Calls.{move_of, called}
 use Rattle.hub.specs.Look.{look}
+use Rattle.hub.specs.Opening.{not_opened}
 use Rattle.hub.specs.Schedule.{entries, run}
 use Rattle.hub.proofs.Laws.Bools.{if-true, if-false}
-use Rattle.hub.proofs.Laws.Opening.{kept-opening}
+use Rattle.hub.proofs.Laws.Opening.{kept-opening, never-opened}
 use Rattle.line.specs.Program.{is_open, Reply, Response, when_open, before_open, respond}
-use Rattle.line.specs.Program.{reply_of, replies, after}
+use Rattle.line.specs.Program.{reply_of, replies, after, unopened}
 use Rattle.line.specs.Requests.{Request, malformed, to_open, to_call}
+
+-- The record before an opening is that of every opening that is refused, and it refuses every call by 1.
+pub no-record : (r : Refusal) → (not_opened r).hub ≡ unopened
+no-record r = refl
+
+pub unopened-refuses : (c : Call) → called unopened c ≡ record { answer = Answer.Refused Refusal.Unfit; hub = unopened }
+unopened-refuses c = never-opened Refusal.Unfit c
 
 -- A request on a hub that is open, or not.
 pub respond-open : (h : Hub) (r : Request) → is_open h ≡ true → respond h r ≡ when_open h r
