@@ -7,6 +7,7 @@ ghost use Rattle.effects.specs.Effect.{effect_of};
 ghost use Rattle.effects.specs.Small.{CounterFits};
 
 use crate::effect::Effect;
+use crate::figures::with_counter;
 use hub::answers::{Answer, Refusal};
 use hub::moves::Sight;
 use hub::record::{Figures, Phase, Place};
@@ -57,22 +58,16 @@ pub fn taken(phase: Phase, answer: Answer, s: Sight) -> Effect
     requires { CounterFits s.figures.counter }
     ensures { result ≡ effect_of (take phase answer s) s }
 {
-    let figures = Figures {
-        counter: s.figures.counter - 1,
-        ..s.figures
-    };
-    acted(phase, figures, answer, s)
+    let counter = s.figures.counter - 1;
+    acted(phase, with_counter(counter, s.figures), answer, s)
 }
 
 pub fn given(phase: Phase, answer: Answer, s: Sight) -> Effect
     requires { CounterFits s.figures.counter }
     ensures { result ≡ effect_of (give phase answer s) s }
 {
-    let figures = Figures {
-        counter: s.figures.counter + 1,
-        ..s.figures
-    };
-    acted(phase, figures, answer, s)
+    let counter = s.figures.counter + 1;
+    acted(phase, with_counter(counter, s.figures), answer, s)
 }
 
 // The place of its ticket, too.

@@ -4,6 +4,7 @@
 #![tactic(auto)]
 
 pub mod effect; // a decision as it is stored
+pub mod figures; // the figures with one of them changed
 pub mod counter; // the side of zero that the counter is on
 pub mod changes; // what decisions are made of
 pub mod others; // ask, give up, give back, which radio

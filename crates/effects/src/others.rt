@@ -8,9 +8,10 @@ ghost use Rattle.effects.specs.Effect.{effect_of};
 
 use crate::changes::{acted, refused, told, turned};
 use crate::effect::Effect;
+use crate::figures::with_begun;
 use hub::answers::{Answer, Refusal};
 use hub::moves::Sight;
-use hub::record::{Figures, Hub, Phase};
+use hub::record::{Hub, Phase};
 use phases::has_radio;
 
 // Is there no place for one more ticket? Asked only of a party that is free.
@@ -28,10 +29,7 @@ pub fn decide_acquire(full: bool, s: Sight) -> Effect
     if full {
         return refused(Refusal::Full, s);
     }
-    let counted = Figures {
-        begun: begun + 1,
-        ..s.figures
-    };
+    let counted = with_begun(begun + 1, s.figures);
     acted(Phase::Acquiring, counted, Answer::Accepted, s)
 }
 

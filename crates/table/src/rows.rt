@@ -14,9 +14,10 @@ ghost use Rattle.effects.specs.Small.{Small, CounterFits};
 use effects::changes::{acted, given, placed, refused, taken, told, turned, woke};
 use effects::counter::{above_zero, below_zero};
 use effects::effect::Effect;
+use effects::figures::{with_issued, with_resumed};
 use hub::answers::{Answer, Refusal};
 use hub::moves::Sight;
-use hub::record::{Figures, Phase, Place};
+use hub::record::{Phase, Place};
 
 // With a permit of its own; having given one back.
 fn with_permit(named: bool) -> Phase
@@ -54,10 +55,7 @@ fn step_suspending(next: Phase, s: Sight) -> Effect
         (Answer.DrewTicket s.figures.issued) s)) s }
 {
     let t = s.figures.issued;
-    let figures = Figures {
-        issued: t + 1,
-        ..s.figures
-    };
+    let figures = with_issued(t + 1, s.figures);
     acted(next, figures, Answer::DrewTicket(t), s)
 }
 
@@ -90,10 +88,7 @@ fn step_resuming(s: Sight) -> Effect
     ensures { result ≡ effect_of (step_in Phase.Resuming s) s }
 {
     let t = s.figures.resumed;
-    let figures = Figures {
-        resumed: t + 1,
-        ..s.figures
-    };
+    let figures = with_resumed(t + 1, s.figures);
     acted(Phase::ResumingAt(t), figures, Answer::StartedResume(t), s)
 }
 

@@ -1,11 +1,23 @@
 -- `given` meets its contract: a counter that fits still fits an `i32` once one is added to it.
+use mathlib.Core.Path.{ap, ◌∙◌}
+use lib.IntN.{ℤ}
+use Rattle.hub.specs.declared.record.Figures.{Figures}
+use Rattle.hub.specs.Moves.{Act}
+use Rattle.hub.specs.Table.{change, with_counter}
+use Rattle.effects.specs.declared.effect.Effect.{Effect}
+use Rattle.effects.specs.Effect.{effect_of}
 use Rattle.effects.proofs.Laws.Counter.{more, more-fits}
 use Rattle.effects.proofs.changes.given.Goals as goal
 
-pub overflow_add-figures : goal.overflow_add-figures
-overflow_add-figures c = more-fits c.args.s.figures.counter c.requires
+pub overflow_add-counter : goal.overflow_add-counter
+overflow_add-counter c = more-fits c.args.s.figures.counter c.requires
 
 pub returns : goal.returns
 returns c =
-    let e = more c.args.s.figures.counter c.requires in
-    rw e at c.acted.ensures
+    let b = c in
+    let a = b.args in
+    let e : Figures → Effect = λ f. effect_of (Act (change a.phase f a.answer a.s)) a.s in
+    c.acted.ensures
+    ∙ ap e
+    (c.with_counter.ensures
+    ∙ ap (λ (z : ℤ). with_counter z a.s.figures) (more a.s.figures.counter b.requires))
