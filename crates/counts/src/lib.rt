@@ -6,7 +6,7 @@ pub mod calm; // how many steps until all are at rest
 mod counted; // who is counted
 
 ghost use Rattle.std.specs.Prelude.{◌≡◌, ◌≤◌, ◌<◌, ◌^◌, Bool, length};
-ghost use Rattle.std.specs.Iterator.{ActsAsAt};
+ghost use Rattle.std.specs.Fn.{FnReturnsAt};
 ghost use Rattle.hub.specs.Basics.{count};
 ghost use Rattle.hub.specs.Counts.{counts_of};
 ghost use Rattle.hub.specs.Ledger.{at_counter};
@@ -16,14 +16,19 @@ ghost use Rattle.hub.specs.Record.{phases_of};
 use counted::{draws_ticket, holds, is_permit, is_refused, is_waiting, refuses, resumes};
 use hub::record::{Counts, Hub, PartySlot};
 
-// How many parties, or places, pass a test.
-fn count<T, F: FnMut(&&T) -> bool>(items: &[T], passes: F) -> u32
+// How many parties, or places, pass a test. Added up, so that many are asked at a time: by filter and count they are asked one
+// by one, and `count_drawing` takes 444 instructions in place of 66.
+fn count<T, F: Fn(&T) -> bool>(items: &[T], passes: F) -> u32
     requires few { length items.now < 2 ^ 32 }
-    requires callable { (state : F) (x : _) → F.pre state x }
-    ensures value { (test : T → Bool) → ActsAsAt F.FnMut passes (λ x. test x.now) → result ≡ count test items.now }
+    requires callable { (x : _) → F.pre passes x }
+    ensures value { (test : T → Bool) → ((x : T) (r : Bool) → FnReturnsAt F.Fn passes x r → r ≡ test x) → result ≡ count test items.now }
     ensures few { result ≤ length items.now }
 {
-    items.iter().filter(passes).count() as u32
+    let mut n = 0;
+    for x in items {
+        n += u32::from(passes(x));
+    }
+    n
 }
 
 // The parties that may yet draw a ticket. Seldom asked for, so it stays out of the loop over requests: a line of schedule takes 153,

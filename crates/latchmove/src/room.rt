@@ -24,10 +24,15 @@ fn draws_ticket(phase: Phase) -> bool
     )
 }
 
+// Added up, as the hub's are, and for the same reason.
 pub fn count_drawing(slots: [LatchSlot; 32]) -> u32
     ensures { (result ≡ count draws_ticket (phases_of slots)) × (result ≤ 32) }
 {
-    slots.iter().filter(|slot| draws_ticket(slot.phase)).count() as u32
+    let mut n = 0;
+    for slot in &slots {
+        n += u32::from(draws_ticket(slot.phase));
+    }
+    n
 }
 
 fn is_full(oldest: u32, issued: u32, slots: [LatchSlot; 32]) -> bool

@@ -12,11 +12,16 @@ use openhub::kinds::{has_desk, kinds_known};
 use openhub::up_to_32;
 use screen::record::Line;
 
-// How many hold.
+// How many hold. Added up, so that many are asked at a time: by filter and count they are asked one by one, which takes some 230
+// instructions, two to five times a line of the desk.
 pub fn holder_count(line: &Line) -> u8
     ensures { result ≡ holder_count line.now }
 {
-    line.holding.iter().filter(|holds| **holds).count() as u8
+    let mut n = 0;
+    for holds in &line.holding {
+        n += u8::from(*holds);
+    }
+    n
 }
 
 // Are all that hold below n?
@@ -61,15 +66,14 @@ fn rest_is_zero(line: &Line) -> bool
 pub fn line_fits(line: &Line) -> bool
     ensures { result ≡ line_fits line.now }
 {
-    let held = holder_count(line);
     up_to_32(line.permits)
         && up_to_32(line.parties)
         && line.waiting <= 32
         && holders_below(line)
         && queue_fits(line)
-        && held <= line.permits
+        && holder_count(line) <= line.permits
         && rest_is_zero(line)
         && kinds_known(line.kinds)
         && has_desk(line.kinds)
-        && (line.waiting == 0 || held == line.permits)
+        && (line.waiting == 0 || holder_count(line) == line.permits)
 }

@@ -1,6 +1,7 @@
 -- A loop that counts: what is counted and what is left come to the whole.
+use mir.Val.{bool_byte}
 use Prim.Native.Nat.{ℕ, ◌+◌, ◌≤◌, ◌<◌}
-use mathlib.Core.Path.{◌≡◌, ap}
+use mathlib.Core.Path.{◌≡◌, ap, refl}
 use mathlib.Core.Bool.{Bool, true, false}
 use mathlib.Core.List.{List}
 use native.Mathlib.Numerals.{add-one}
@@ -17,12 +18,22 @@ pub bit-most : (b : Bool) → bit b ≤ 1
 bit-most true = omega arith
 bit-most false = omega arith
 
+-- A test as a number, in std's words.
+pub bit-of : (b : Bool) → bool_byte b ≡ bit b
+bit-of true = refl
+bit-of false = refl
+
 -- After p of the N elements, n passed the test.
 pub record Counting {A : Type 0} (f : A → Bool) (l : List A) (N p n : ℕ) : Type 0 where
   pub size : length l ≡ N
   pub within : p ≤ N
   pub few : n ≤ p
   pub left : n + weight (λ x. bit (f x)) (drop p l) ≡ weight (λ x. bit (f x)) l
+
+pub counting-start : {A : Type 0} (f : A → Bool) (l : List A) → Counting f l (length l) 0 0
+counting-start f l =
+    let whole : weight (λ x. bit (f x)) (drop 0 l) ≡ weight (λ x. bit (f x)) l = refl in
+    record { size = refl; within = omega arith; few = omega arith; left = omega (arith, whole) }
 
 module _ {A : Type 0} (f : A → Bool) (l : List A) (N p n : ℕ) (c : Counting f l N p n) where
   pub counting-on : (d : A) (x : ℕ) → p < N → x ≡ bit (f (get_or l p d))

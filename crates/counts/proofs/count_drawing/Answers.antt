@@ -6,4 +6,4 @@ use Rattle.counts.proofs.count_drawing.Goals as goal
 
 pub returns : goal.returns
 returns c =
-    (c.count.ensures.value _ (λ x r q k. search (rules, tests)) ∙ of-phases draws_ticket c.args.slots, search rules)
+    (c.count.ensures.value _ (λ x r k. search (rules, tests)) ∙ of-phases draws_ticket c.args.slots, search rules)

@@ -12,12 +12,12 @@ use Rattle.counts.proofs.counts.Goals as goal
 pub returns-clause-value : goal.returns-clause-value
 unfolding counts_of
 returns-clause-value c =
-    let held = c.count-5.ensures.value _ (λ x r q k. search (rules, tests)) ∙ of-phases holds c.args.hub.slots in
-    let brought = c.count.ensures.value _ (λ x r q k. search (rules, tests)) ∙ of-phases resumes c.args.hub.slots in
-    let laid = c.count-2.ensures.value _ (λ x r q k. search (rules, tests)) ∙ of-places is_permit c.args.hub.places in
-    let refusing = c.count-3.ensures.value _ (λ x r q k. search (rules, tests)) ∙ of-phases refuses c.args.hub.slots in
-    let refused = c.count-4.ensures.value _ (λ x r q k. search (rules, tests)) ∙ of-places is_refused c.args.hub.places in
-    let waiting = c.count-6.ensures.value _ (λ x r q k. search (rules, tests)) ∙ of-phases is_waiting c.args.hub.slots in
+    let held = c.count-5.ensures.value _ (λ x r k. search (rules, tests)) ∙ of-phases holds c.args.hub.slots in
+    let brought = c.count.ensures.value _ (λ x r k. search (rules, tests)) ∙ of-phases resumes c.args.hub.slots in
+    let laid = c.count-2.ensures.value _ (λ x r k. search (rules, tests)) ∙ of-places is_permit c.args.hub.places in
+    let refusing = c.count-3.ensures.value _ (λ x r k. search (rules, tests)) ∙ of-phases refuses c.args.hub.slots in
+    let refused = c.count-4.ensures.value _ (λ x r k. search (rules, tests)) ∙ of-places is_refused c.args.hub.places in
+    let waiting = c.count-6.ensures.value _ (λ x r k. search (rules, tests)) ∙ of-phases is_waiting c.args.hub.slots in
     -- The counter is of its width.
     let fits : SFits w32 c.args.hub.control.figures.counter = search rules in
     let available = c.at_counter.ensures ∙ ap at_counter (to_z-of_z fits) in
