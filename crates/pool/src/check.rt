@@ -5,7 +5,7 @@ ghost use Rattle.std.specs.Prelude.{◌≡◌, ◌≤◌, Bool, ◌∷◌, []};
 ghost use Rattle.hub.specs.Fits.{radios_fit};
 ghost use Rattle.hub.specs.Phases.{has_radio, is_permit};
 ghost use Rattle.hub.specs.Radios.{radios_in, ring_from, shown};
-ghost use Rattle.pool.specs.Missing.{met, missing_of, none_missing};
+ghost use Rattle.pool.specs.Missing.{left_by, met, missing_of, none_missing};
 
 use hub::record::{Hub, PartySlot, Place, PlaceSlot};
 use openhub::radios_differ;
@@ -36,10 +36,11 @@ impl Keeper for PlaceSlot {
     }
 }
 
-// Is each radio still to be met?
+// Is each radio still to be met, and how many are?
 #[derive(Clone, Copy)]
 pub struct Missing {
     pub radios: [bool; 256],
+    pub count: usize,
 }
 
 impl Missing {
@@ -49,6 +50,7 @@ impl Missing {
     {
         let mut missing = Missing {
             radios: [false; 256],
+            count: radios.len(),
         };
         for radio in radios {
             missing.radios[*radio as usize] = true;
@@ -56,54 +58,55 @@ impl Missing {
         missing
     }
 
-    // Nothing is left where a radio is met that is not missing.
+    // None where a radio is met that is not missing.
     #[tactic(auto, unfolding(crate::specs::Missing::met))]
-    fn meet(mut self, radio: u8) -> Option<Missing>
-        ensures { result ≡ met (radio ∷ []) self }
+    fn meet(&mut self, radio: u8) -> Option<()>
+        ensures { left_by result self.new ≡ met (radio ∷ []) self.old }
     {
         if !self.radios[radio as usize] {
             return None;
         }
         self.radios[radio as usize] = false;
-        Some(self)
+        self.count = self.count.saturating_sub(1);
+        Some(())
     }
 
     // With those that keep one.
-    fn with<K: Keeper>(mut self, keepers: &[K], radios: &[u8]) -> Option<Missing>
-        ensures { result ≡ met (shown K.keeps keepers.now radios.now) self }
+    fn with<K: Keeper>(&mut self, keepers: &[K], radios: &[u8]) -> Option<()>
+        ensures { left_by result self.new ≡ met (shown K.keeps keepers.now radios.now) self.old }
     {
         for (keeper, radio) in keepers.iter().zip(radios) {
             if keeper.keeps() {
-                self = self.meet(*radio)?;
+                self.meet(*radio)?;
             }
         }
-        Some(self)
+        Some(())
     }
 
     // In the store.
-    fn in_store(mut self, store: &[u8; 32], first: u32, stored: u32) -> Option<Missing>
-        ensures { result ≡ met (ring_from store.now first stored) self }
+    fn in_store(&mut self, store: &[u8; 32], first: u32, stored: u32) -> Option<()>
+        ensures { left_by result self.new ≡ met (ring_from store.now first stored) self.old }
     {
         for i in 0..stored {
-            self = self.meet(store[((first % 32 + i % 32) % 32) as usize])?;
+            self.meet(store[((first % 32 + i % 32) % 32) as usize])?;
         }
-        Some(self)
+        Some(())
     }
 
     fn is_empty(&self) -> bool
         ensures { result ≡ none_missing self.now }
     {
-        self.radios.iter().all(|missing| !*missing)
+        self.count == 0
     }
 
     // With the parties, at the places and in the store.
-    fn in_all(self, hub: &Hub) -> Option<Missing>
-        ensures { result ≡ met (radios_in hub.now.slots hub.now.places hub.now.control.pool) self }
+    fn in_all(&mut self, hub: &Hub) -> Option<()>
+        ensures { left_by result self.new ≡ met (radios_in hub.now.slots hub.now.places hub.now.control.pool) self.old }
     {
         let pool = &hub.control.pool;
-        self.with(&hub.slots, &pool.hands)?
-            .with(&hub.places, &pool.laid)?
-            .in_store(&pool.store, pool.first, pool.stored)
+        self.with(&hub.slots, &pool.hands)?;
+        self.with(&hub.places, &pool.laid)?;
+        self.in_store(&pool.store, pool.first, pool.stored)
     }
 }
 
@@ -113,10 +116,12 @@ pub fn radios_fit(hub: Hub) -> bool
     ensures { result ≡ radios_fit hub }
 {
     let opening = hub.control.opening;
-    !opening.named
-        || radios_differ(opening)
-            && match Missing::of(&opening.radios[..opening.permits as usize]).in_all(&hub) {
-                Some(left) => left.is_empty(),
-                None => false,
-            }
+    if !opening.named {
+        return true;
+    }
+    if !radios_differ(opening) {
+        return false;
+    }
+    let mut missing = Missing::of(&opening.radios[..opening.permits as usize]);
+    missing.in_all(&hub).is_some() && missing.is_empty()
 }

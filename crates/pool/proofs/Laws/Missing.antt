@@ -1,5 +1,5 @@
 -- Radios taken out of a table as they are met: what is left says how often each was met.
-use Prim.Native.Nat.{ℕ, zero, suc, suc-le-suc, ◌+◌, ◌-◌, ◌%◌, ◌≤◌, ◌<◌}
+use Prim.Native.Nat.{ℕ, zero, suc, ◌+◌, ◌-◌, ◌%◌, ◌≤◌, ◌<◌}
 use mathlib.Core.Path.{◌≡◌, refl, sym, ap, ◌∙◌}
 use mathlib.Core.Bool.{Bool, true, false, not, cond, and-false, ◌&&◌, ◌||◌}
 use mathlib.Core.List.{List, [], ◌∷◌, ◌++◌, map}
@@ -11,8 +11,7 @@ use borrow.Author.Tests.{eq-eqb, ne_eqb}
 use lib.Dec.{eqb}
 use lib.ListN.{length, get_or, set, take, drop, replicate, length-set, get_or-eq_default}
 use lib.Seq.{drop-cons, get_or-set_same, get_or-set_other}
-use Rattle.std.specs.Prelude.{Option, Some, None}
-use Rattle.std.specs.List.{list_all}
+use Rattle.std.specs.Prelude.{Option, Some, None, is_some}
 use Rattle.std.specs.Option.{option_and_then}
 use Rattle.hub.specs.Basics.{all_from, among, bit, weight}
 use Rattle.hub.specs.declared.record.PartySlot.{PartySlot}
@@ -25,7 +24,7 @@ use Rattle.hub.proofs.Laws.Bools.{both, never}
 use Rattle.hub.proofs.Laws.Lists.{weight-replicate, weight-set}
 use Rattle.hub.proofs.Laws.Ranges.{all_true, one-true}
 use Rattle.pool.specs.declared.check.Missing.{Missing}
-use Rattle.pool.specs.Missing.{marked, met, missing_of, none_missing, table_of}
+use Rattle.pool.specs.Missing.{left_by, marked, met, missing_of, none_missing, table_of}
 
 -- 1 where radio b is missing.
 abbrev at : List Bool → ℕ → ℕ
@@ -46,10 +45,10 @@ stands t r e = go (dec_le (suc r) (length t))
 pub met-append : (a b : List ℕ) (m : Missing) → met (a ++ b) m ≡ option_and_then (met b) (met a m)
 unfolding met
 met-append [] b m = refl
-met-append (r ∷ a) b m = go (get_or m.radios r false) (met-append a b (table_of (set m.radios r false)))
+met-append (r ∷ a) b m = go (get_or m.radios r false) (met-append a b rest)
   where
     rest : Missing
-    rest = table_of (set m.radios r false)
+    rest = table_of (set m.radios r false) (m.count - 1)
 
     go : (c : Bool) → met (a ++ b) rest ≡ option_and_then (met b) (met a rest)
         → cond c (met (a ++ b) rest) None ≡ option_and_then (met b) (cond c (met a rest) None)
@@ -68,28 +67,30 @@ occurs-one : (b r : ℕ) (l : List ℕ) → occurs b (r ∷ l) ≡ bit (eqb b r)
 unfolding weight
 occurs-one b r l = refl
 
--- Where all are met, what was missing is what is left and what was met.
-pub record Met (l : List ℕ) (t u : List Bool) : Type 0 where
-  pub size : length u ≡ length t
-  pub each : (b : ℕ) → at u b + occurs b l ≡ at t b
-  pub sum : missing u + length l ≡ missing t
+-- Where all are met, what was missing is what is left and what was met; and what is left is still counted.
+pub record Met (l : List ℕ) (t : List Bool) (n : ℕ) (u : Missing) : Type 0 where
+  pub size : length u.radios ≡ length t
+  pub each : (b : ℕ) → at u.radios b + occurs b l ≡ at t b
+  pub sum : missing u.radios + length l ≡ missing t
+  pub count : n ≡ missing t → u.count ≡ missing u.radios
 
-pub all-met : (l : List ℕ) (t u : List Bool) → met l (table_of t) ≡ Some (table_of u) → Met l t u
+pub all-met : (l : List ℕ) (t : List Bool) (n : ℕ) (u : Missing) → met l (table_of t n) ≡ Some u → Met l t n u
 unfolding met weight
-all-met [] t u e =
-    let tables : table_of t ≡ table_of u = cc in
-    let same : t ≡ u = ap (λ (m : Missing). m.radios) tables in
+all-met [] t n u e =
+    let tables : table_of t n ≡ u = cc in
+    let same : t ≡ u.radios = ap (λ (m : Missing). m.radios) tables in
     record {
       size = ap length (sym same);
       each = λ b. omega (arith, ap (λ (t : List Bool). at t b) same);
       sum = omega (arith, ap missing same);
+      count = λ z. omega (arith, z, ap missing same, ap (λ (m : Missing). m.count) tables);
     }
-all-met (r ∷ l) t u e = go (get_or t r false) refl (all-met l (set t r false) u)
+all-met (r ∷ l) t n u e = go (get_or t r false) refl (all-met l (set t r false) (n - 1) u)
   where
-    go : (c : Bool) → get_or t r false ≡ c → (met l (table_of (set t r false)) ≡ Some (table_of u) → Met l (set t r false) u)
-        → Met (r ∷ l) t u
+    go : (c : Bool) → get_or t r false ≡ c
+        → (met l (table_of (set t r false) (n - 1)) ≡ Some u → Met l (set t r false) (n - 1) u) → Met (r ∷ l) t n u
     go false z ih =
-        let none : ◌≡◌ {A = Option Missing} None (Some (table_of u)) = rw z at e in
+        let none : ◌≡◌ {A = Option Missing} None (Some u) = rw z at e in
         cc
     go true z ih =
         let rest = ih (rw z at e) in
@@ -98,10 +99,11 @@ all-met (r ∷ l) t u e = go (get_or t r false) refl (all-met l (set t r false) 
           size = rest.size ∙ length-set t r _;
           each = λ b. one rest h z b (ℕ_discrete b r);
           sum = omega (arith, rest.sum, weight-set bit t r false false h, ap bit z);
+          count = λ k. rest.count (omega (arith, k, weight-set bit t r false false h, ap bit z));
         }
       where
-        one : Met l (set t r false) u → r < length t → get_or t r false ≡ true → (b : ℕ) → Dec (b ≡ r)
-            → at u b + occurs b (r ∷ l) ≡ at t b
+        one : Met l (set t r false) (n - 1) u → r < length t → get_or t r false ≡ true → (b : ℕ) → Dec (b ≡ r)
+            → at u.radios b + occurs b (r ∷ l) ≡ at t b
         one rest h z b (yes d) =
             omega (
               arith,
@@ -122,14 +124,15 @@ Bytes [] = Unit {0}
 Bytes (r ∷ l) = (r < 256) × Bytes l
 
 -- Where not all are met, one is met more often than it is missing.
-pub met-over : (l : List ℕ) (t : List Bool) → length t ≡ 256 → Bytes l → met l (table_of t) ≡ None
+pub met-over : (l : List ℕ) (t : List Bool) (n : ℕ) → length t ≡ 256 → Bytes l → met l (table_of t n) ≡ None
     → (b : ℕ) × (b < 256) × (at t b < occurs b l)
 unfolding met Bytes weight
-met-over [] t s y e = let z : ◌≡◌ {A = Option Missing} (Some (table_of t)) None = e in cc
-met-over (r ∷ l) t s y e = go (get_or t r false) refl (met-over l (set t r false) (length-set t r _ ∙ s) y.1)
+met-over [] t n s y e = let z : ◌≡◌ {A = Option Missing} (Some (table_of t n)) None = e in cc
+met-over (r ∷ l) t n s y e =
+    go (get_or t r false) refl (met-over l (set t r false) (n - 1) (length-set t r _ ∙ s) y.1)
   where
     go : (c : Bool) → get_or t r false ≡ c
-        → (met l (table_of (set t r false)) ≡ None → (b : ℕ) × (b < 256) × (at (set t r false) b < occurs b l))
+        → (met l (table_of (set t r false) (n - 1)) ≡ None → (b : ℕ) × (b < 256) × (at (set t r false) b < occurs b l))
         → (b : ℕ) × (b < 256) × (at t b < occurs b (r ∷ l))
     go false z ih = (r, y.0, omega (arith, occurs-one r r l, ap bit (eq-eqb r r refl), ap bit z))
     go true z ih =
@@ -214,28 +217,26 @@ once (r ∷ l) e b = go (among l r) refl (ℕ_discrete b r) (λ d. once l d b)
           ih (sym (ap (λ (c : Bool). not c && differ l) z) ∙ e),
         )
 
--- Is none missing?
-none-left : (t : List Bool) → list_all not t ≡ true → (missing t ≡ 0) × ((b : ℕ) → at t b ≡ 0)
+-- Where none is counted, none is marked.
+none-left : (t : List Bool) → missing t ≡ 0 → (b : ℕ) → at t b ≡ 0
 unfolding weight
-none-left [] e = (refl, λ b. refl)
-none-left (true ∷ t) e = never (sym e)
-none-left (false ∷ t) e =
-    let rest = none-left t e in
-    (omega (arith, rest.0), λ b. each rest.1 b)
-  where
-    each : ((b : ℕ) → at t b ≡ 0) → (b : ℕ) → at (false ∷ t) b ≡ 0
-    each rest zero = refl
-    each rest (suc b) = rest b
-
-one-left : (t : List Bool) → list_all not t ≡ false → (b : ℕ) × (b < length t) × (at t b ≡ 1)
-one-left [] e = never e
-one-left (true ∷ t) e = (0, omega arith, refl)
-one-left (false ∷ t) e = let rest = one-left t e in (suc rest.0, suc-le-suc rest.1, rest.2)
+none-left [] e b = refl
+none-left (true ∷ t) e b = omega (arith, e)
+none-left (false ∷ t) e zero = refl
+none-left (false ∷ t) e (suc b) = none-left t (omega (arith, e)) b
 
 -- What is left says whether the radios that were met are those of the table.
 abbrev pub says : Option Missing → Bool
 says None = false
 says (Some m) = none_missing m
+
+pub says-left : (o : Option (Unit {0})) (m : Missing) → is_some o ≡ true → says (left_by o m) ≡ none_missing m
+says-left (Some _) m e = refl
+says-left None m e = never (sym e)
+
+pub says-nothing : (o : Option (Unit {0})) (m : Missing) → is_some o ≡ false → says (left_by o m) ≡ false
+says-nothing (Some _) m e = never e
+says-nothing None m e = refl
 
 module _ (l m : List ℕ) (d : differ m ≡ true) (x : Bytes l) (y : Bytes m) where
   abbrev whole : List Bool
@@ -260,29 +261,46 @@ module _ (l m : List ℕ) (d : differ m ≡ true) (x : Bytes l) (y : Bytes m) wh
   pub by-table : (o : Option Missing) → o ≡ met l (missing_of m) → says o ≡ rearranged l m
   unfolding rearranged
   by-table None e =
-      let over = met-over l whole table.size x (sym e) in
+      let over = met-over l whole (length m) table.size x (sym e) in
       sym (differs over.0 over.1 (λ z. omega (arith, over.2, table.each over.0, ap bit (unmarked 256 over.0), z)))
-  by-table (Some u) e = go (list_all not u.radios) refl
+  by-table (Some u) e = go (ℕ_discrete u.count 0)
     where
-      at_last : Met l whole u.radios
-      at_last = all-met l whole u.radios (sym e)
+      at_last : Met l whole (length m) u
+      at_last = all-met l whole (length m) u (sym e)
 
-      go : (c : Bool) → list_all not u.radios ≡ c → c ≡ rearranged l m
-      go true z =
-          let none = none-left u.radios z in
-          sym
-          (both _ _ (eq-eqb _ _ (omega (arith, none.0, at_last.sum, table.sum, weight-replicate bit false refl 256)))
-          (all_true _ 0 256 (λ b i k. eq-eqb _ _ (omega (arith, none.1 b, at_last.each b, table.each b, ap bit (unmarked 256 b))))))
-      go false z =
-          let one = one-left u.radios z in
-          sym (differs one.0 (omega (arith, one.1, at_last.size, table.size))
-          (λ z. omega (arith, one.2, at_last.each one.0, table.each one.0, ap bit (unmarked 256 one.0), z)))
+      all_marked : length m ≡ missing whole
+      all_marked = omega (arith, table.sum, weight-replicate bit false refl 256)
+
+      left : u.count + length l ≡ length m
+      left = omega (arith, at_last.count all_marked, at_last.sum, all_marked)
+
+      go : Dec (u.count ≡ 0) → eqb u.count 0 ≡ rearranged l m
+      go (yes z) =
+          let none = none-left u.radios (omega (arith, z, at_last.count all_marked)) in
+          eq-eqb _ _ z
+          ∙ sym
+          (both _ _ (eq-eqb _ _ (omega (arith, z, left)))
+          (all_true _ 0 256 (λ b i k. eq-eqb _ _ (omega (arith, none b, at_last.each b, table.each b, ap bit (unmarked 256 b))))))
+      go (no z) =
+          let some : eqb (length l) (length m) ≡ false = ne_eqb _ _ (λ e. z (omega (arith, left, e))) in
+          ne_eqb _ _ z ∙ rw some
 
 -- One mark after another is set.
 pub one-marked : (l : List ℕ) (i : ℕ) (t : List Bool) → i < length l
     → marked (drop i l) t ≡ marked (drop (i + 1) l) (set t (get_or l i 0) true)
 unfolding marked
 one-marked l i t h = rw (drop-cons l i 0, add-one i)
+
+-- A method that met a radio which was not missing leaves nothing, and any other its table.
+module _ (o : Option (Unit {0})) (m : Missing) {x : Option Missing} (e : left_by o m ≡ x) where
+  pub was-missing : {u : Unit {0}} → o ≡ Some u → x ≡ Some m
+  was-missing i = sym e ∙ ap (λ (o : Option (Unit {0})). left_by o m) i
+
+  pub not-missing : o ≡ None → x ≡ None
+  not-missing i = sym e ∙ ap (λ (o : Option (Unit {0})). left_by o m) i
+
+pub nothing-left : (o : Option (Unit {0})) (m : Missing) → o ≡ None → left_by o m ≡ None
+nothing-left o m i = not-missing o m refl i
 
 -- One radio met in front of more.
 first-met : (r : ℕ) (l : List ℕ) (m : Missing) → met (r ∷ l) m ≡ option_and_then (met l) (met (r ∷ []) m)

@@ -2,7 +2,7 @@
 use Prim.Native.Nat.{ℕ, ◌<◌}
 use borrow.Author.Rules.{rules}
 use mathlib.Core.Path.{◌≡◌, sym, ap, ap₂, subst, ◌∙◌}
-use mathlib.Core.Bool.{Bool, true, not, ◌&&◌}
+use mathlib.Core.Bool.{Bool, true, ◌&&◌}
 use mathlib.Core.List.{List}
 use lib.ListN.{get_or, length, take}
 use Rattle.std.specs.Prelude.{Option}
@@ -14,9 +14,9 @@ use Rattle.hub.specs.Radios.{differ, radios_in, radios_of, rearranged}
 use Rattle.hub.proofs.Laws.Opening.{named-differ}
 use Rattle.hub.proofs.Laws.Radios.{radios-of}
 use Rattle.pool.specs.declared.check.Missing.{Missing}
-use Rattle.pool.specs.Missing.{met, missing_of}
+use Rattle.pool.specs.Missing.{left_by, met, missing_of}
 use Rattle.pool.proofs.Laws.Fits.{unnamed-fit}
-use Rattle.pool.proofs.Laws.Missing.{by-table, bytes-all, bytes-take, says}
+use Rattle.pool.proofs.Laws.Missing.{by-table, bytes-all, bytes-take, says, says-left, says-nothing}
 use Rattle.pool.proofs.check.radios_fit.Goals.{After-in_all}
 use Rattle.pool.proofs.check.radios_fit.Goals as goal
 
@@ -42,22 +42,23 @@ module _ (h : Hub) (named : h.control.opening.named ≡ true) (d : radios_differ
       ∙ sym (ap₂ (λ (a b : Bool). a && implies b (rearranged found (radios_of h.control.opening))) d named)
 
 pub returns-then-not-opening : goal.returns-then-not-opening
-returns-then-not-opening c = ap not c.if-not-opening.true ∙ sym (unnamed-fit c.args.hub c.if-not-opening.true)
+returns-then-not-opening c = sym (unnamed-fit c.args.hub c.if-not-opening.true)
+
+pub returns-then-not-radios_differ : goal.returns-then-not-radios_differ
+unfolding radios_fit
+returns-then-not-radios_differ c = rw (sym c.radios_differ.ensures ∙ c.if-not-radios_differ.true)
 
 -- What all that were met, or the first that was not missing, say.
-all : (c : After-in_all) → says c.in_all.result ≡ radios_fit c.args.hub
+all : (c : After-in_all) → says (left_by c.in_all.result c.in_all.new.self) ≡ radios_fit c.args.hub
 all c =
-    said c.args.hub c.if-not-opening.false (sym c.radios_differ.ensures ∙ c.if-radios_differ.true) (search rules)
+    said c.args.hub c.if-not-opening.false (sym c.radios_differ.ensures ∙ c.if-not-radios_differ.false) (search rules)
     (search (rules, c.well_formed.0.1.1.1.1)) (search (rules, c.well_formed.0.1.1.1.1)) (search (rules, c.well_formed.0.1.1.1.1))
-    (search (rules, c.well_formed.0.1.1.1.1)) _ c.of.ensures _ c.in_all.ensures
+    (search (rules, c.well_formed.0.1.1.1.1)) _ c.of-missing.ensures _ c.in_all.ensures
 
-pub returns-in-Some : goal.returns-in-Some
-returns-in-Some c = c.is_empty.ensures ∙ ap says (sym c.in-Some.is) ∙ all c.before.before.before
+pub returns-then-is_some : goal.returns-then-is_some
+returns-then-is_some c =
+    c.is_empty.ensures ∙ sym (says-left _ _ (sym c.is_some.ensures ∙ c.if-is_some.true)) ∙ all c.before.before.before.before.before
 
-pub returns-in-None : goal.returns-in-None
-returns-in-None c = ap says (sym c.in-None.is) ∙ all c.before
-
-pub returns-else-radios_differ : goal.returns-else-radios_differ
-unfolding radios_fit
-returns-else-radios_differ c =
-    rw (c.if-radios_differ.false, sym c.radios_differ.ensures ∙ c.if-radios_differ.false)
+pub returns-else-is_some : goal.returns-else-is_some
+returns-else-is_some c =
+    c.if-is_some.false ∙ sym (says-nothing _ _ (sym c.is_some.ensures ∙ c.if-is_some.false)) ∙ all c.before.before.before
