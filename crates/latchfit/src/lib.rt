@@ -49,8 +49,8 @@ fn slot_fits(slot: LatchSlot) -> bool
     }
 }
 
-// The clauses of one of the n parties.
-#[tactic(auto, unfolding(hub::specs::Ring::read_seat))]
+// The clauses of one of the n parties. A free one is let pass by its arm, as at the hub.
+#[tactic(auto, unfolding(latch::specs::Fits::slot_fits, latch::specs::Fits::ticket_fits, hub::specs::Fits::place_listed, hub::specs::Basics::all_of, hub::specs::Phases::is_one_of, hub::specs::Ring::read_seat))]
 fn member_fits(
     slot: LatchSlot,
     places: &[PlaceSlot; 256],
@@ -60,8 +60,13 @@ fn member_fits(
     requires { oldest ≤ 1000000 }
     ensures { result ≡ member_fits places.now figures oldest slot }
 {
-    let seat = places[(ticket(slot.phase).unwrap_or(0) % Hub::PLACES) as usize];
-    slot_fits(slot) && party_fits(slot.phase, seat.place, tickets_of(figures), oldest, true)
+    match slot.phase {
+        Phase::Free => true,
+        phase => {
+            let seat = places[(ticket(phase).unwrap_or(0) % Hub::PLACES) as usize];
+            slot_fits(slot) && party_fits(phase, seat.place, tickets_of(figures), oldest, true)
+        }
+    }
 }
 
 // The hub's goes over other slots with other figures, and asks for radios: what both ask of a party is `party_fits`.
