@@ -8,7 +8,7 @@ ghost use Rattle.deskline.specs.Text.{LONGEST_TEXT};
 use deskline::text::put_line_text;
 use deskreply::reply_to;
 use openhub::sized;
-use reader::Reader;
+use reader::{KEPT, Reader};
 use screen::Line;
 
 // The screen's line, and the line of text that is being read. Of the shape of frame's session, and a
@@ -36,7 +36,7 @@ pub fn begin() -> Session
     }
 }
 
-// Answers the lines that end in a piece.
+// Answers the lines that end in a piece. The reader's two fields are variables here, as in read_piece.
 pub fn feed(session: Session, piece: &[u8], out: &mut [u8]) -> Fed
     requires sound { Sound session }
     requires piece_in_bounds { LONGEST_TEXT * length (asked session.reader piece.now) ≤ length out.old }
@@ -48,20 +48,28 @@ pub fn feed(session: Session, piece: &[u8], out: &mut [u8]) -> Fed
         ++ drop (length (told session piece.now)) out.old) }
 {
     let mut line = session.line;
-    let mut reader = session.reader;
+    let mut text = session.reader.line;
+    let mut len = session.reader.len;
     let mut size: usize = 0;
     for c in piece {
         if *c != b'\n' {
-            reader.keep(*c);
+            if len < KEPT {
+                text[len] = *c;
+                len += 1;
+                continue; // of either branch by itself: where they meet, the proof would begin anew
+            }
             continue;
         }
-        let reply = reply_to(line, reader.kept());
+        let reply = reply_to(line, &text[..len]);
         size = put_line_text(out, size, reply);
         line = reply.line;
-        reader.clear();
+        len = 0;
     }
     Fed {
-        session: Session { line, reader },
+        session: Session {
+            line,
+            reader: Reader { line: text, len },
+        },
         size,
     }
 }

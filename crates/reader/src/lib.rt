@@ -66,17 +66,6 @@ impl Reader {
     {
         self.len = 0;
     }
-
-    // Leaves in the buffer what a line of four characters leaves there, once the next is begun.
-    fn leave(&mut self, call: &[u8])
-        requires { length call.now ≡ 4 }
-        ensures { self.new ≡ record {
-          line = call.now ++ drop 4 self.old.line;
-          len = self.old.len;
-        } }
-    {
-        self.line[..4].copy_from_slice(call);
-    }
 }
 
 // The reader past a piece, and how many lines ended in it.
@@ -95,8 +84,9 @@ fn put_header(out: &mut [u8], h: Header)
 }
 
 // Reads a piece, and leaves what its lines ask, two bytes each. Behind a line, calls of four
-// characters are read by the table, five characters at a time; their characters are kept, as they
-// are of any line.
+// characters are read by the table, five characters at a time; of the last one the characters are
+// kept, as they are of any line. The reader's two fields are variables here, so that its length
+// is held in a register: in a `Reader` it lies in memory, and every character loads and stores it.
 pub fn read_piece(values: &[u16; 256], reader: Reader, piece: &[u8], requests: &mut [u8]) -> Read
     requires values { Values values.now }
     requires len_bound { reader.len ≤ KEPT }
@@ -107,32 +97,40 @@ pub fn read_piece(values: &[u16; 256], reader: Reader, piece: &[u8], requests: &
     })
         × (requests.new ≡ requests_written (asked reader piece.now) requests.old) }
 {
-    let mut current = reader;
+    let mut line = reader.line;
+    let mut len = reader.len;
     let mut count: usize = 0;
     let mut rest = piece;
     while let [c, others @ ..] = rest {
         rest = others;
         if *c != b'\n' {
-            current.keep(*c);
+            if len < KEPT {
+                line[len] = *c;
+                len += 1;
+            }
             continue;
         }
-        let header = read_header(current.kept());
+        let header = read_header(&line[..len]);
         put_header(&mut requests[2 * count..2 * count + 2], header);
-        current.clear();
+        len = 0;
         count += 1;
+        let mut last = &rest[..0];
         while let [a, b, x, y, b'\n', after @ ..] = rest {
             let call = call_by(values, *a, *b, *x, *y);
             if call.code < 0x10 {
                 break;
             }
             put_header(&mut requests[2 * count..2 * count + 2], call);
-            current.leave(&rest[..4]);
+            last = &rest[..4];
             count += 1;
             rest = after;
         }
+        if !last.is_empty() {
+            line[..4].copy_from_slice(last);
+        }
     }
     Read {
-        reader: current,
+        reader: Reader { line, len },
         count,
     }
 }

@@ -4,11 +4,13 @@ use mathlib.Core.Path.{◌≡◌, refl, sym, ap, ◌∙◌, subst}
 use mathlib.Core.Bool.{Bool, true, false, cond}
 use mathlib.Core.List.{List, [], ◌∷◌, ◌++◌, append_assoc}
 use native.Mathlib.Omega.{arith}
-use borrow.Author.Tests.{ltb-true, ne_eqb}
+use borrow.Author.Tests.{le-ltb, lt-ltb, ltb-true, ne_eqb}
 use borrow.Rule.Slice.PartMut.{put_mid}
 use lib.Dec.{eqb, ltb}
 use lib.ListN.{length, get_or, take, drop, set, length-set, take-append-drop}
 use lib.Seq.{drop-drop}
+use mathlib.Core.Logic.{◌⊎◌, inl, inr}
+use Rattle.std.proofs.lemmas.Slice.{drop-append-drop}
 use Rattle.std.proofs.lemmas.List.{take_all}
 use Rattle.line.proofs.Laws.Lines.{NoFeed, call-feeds}
 use Rattle.line.specs.declared.request.Header.{Header}
@@ -19,6 +21,31 @@ use Rattle.reader.specs.declared.Read.{Read}
 use Rattle.reader.specs.declared.Reader.{Reader}
 use Rattle.reader.specs.Reading.{KEPT, line_in, pushed, emptied, next, past, asked}
 use Rattle.reader.specs.Reading.{header_bytes, request_bytes, requests_written}
+
+-- The reader behind a run of calls: the characters of the last one, if there is one, are those that its buffer begins
+-- with.
+abbrev pub left_by : List ℕ → List ℕ → Reader
+left_by call line = record { line = call ++ drop (length call) line; len = 0 }
+
+-- No call, or the four characters of one.
+abbrev pub OneCall : List ℕ → Type 0
+OneCall call = (length call ≡ 0) ⊎ (length call ≡ 4)
+
+one-call-short : (call : List ℕ) → OneCall call → length call ≤ 4
+one-call-short call (inl e) = omega (arith, e)
+one-call-short call (inr e) = omega (arith, e)
+
+-- Before the first one.
+pub none-left : (call line : List ℕ) → length call ≡ 0 → left_by call line ≡ record { line = line; len = 0 }
+none-left [] line e = refl
+none-left (c ∷ cs) line e = absurd (omega (arith, e))
+
+-- Behind the last one.
+pub one-left : (call line copied : List ℕ) → OneCall call → (length call ≡ 0 → ⊥) → copied ≡ call
+    → left_by call line ≡ record { line = copied ++ drop 4 line; len = 0 }
+one-left call line copied (inl e) m f = absurd (m e)
+one-left call line copied (inr e) m f =
+    λ j. record { line = sym f j ++ drop (e j) line; len = 0 }
 
 -- Behind a part of a piece, with `rest` of it still to come, from the reader r₀ and the buffer out₀ on; n lines have
 -- ended.
@@ -79,6 +106,14 @@ pushed-kept r c k = pushes (ltb r.len KEPT) refl
           short = omega (arith, ltb-true r.len KEPT e);
         }
     pushes false e = k
+
+-- A character while there is room, and past that.
+pub char-kept : (r : Reader) (c : ℕ) → r.len < KEPT
+    → record { line = set r.line r.len c; len = r.len + 1 } ≡ pushed r c
+char-kept r c l = rw (lt-ltb r.len KEPT l) refl
+
+pub char-lost : (r : Reader) (c : ℕ) → KEPT ≤ r.len → r ≡ pushed r c
+char-lost r c l = rw (le-ltb r.len KEPT l) refl
 
 next-kept : (r : Reader) (c : ℕ) → Kept r → Kept (next r c)
 next-kept r c k = go (eqb c 0x0A) (pushed-kept r c k)
@@ -261,20 +296,30 @@ module _ (r₀ : Reader) (piece out₀ : List ℕ) where
       pub call-room : 2 * n + 2 ≤ length out
       call-room = one-room _ out n _ all
 
-      pub call-end : (part : List ℕ) → part ≡ header_bytes h → (q : Reader)
-          → q ≡ record { line = take 4 rest ++ drop 4 r.line; len = r.len }
-          → Upto r₀ piece out₀ q (put_mid (2 * n) (2 * n + 2 - 2 * n) out part) (n + 1) cs
-      call-end part g q left =
+      pub call-end : (part : List ℕ) → part ≡ header_bytes h → (last line : List ℕ) → OneCall last
+          → r ≡ left_by last line → (call : List ℕ) → call ≡ take 4 rest
+          → Upto r₀ piece out₀ (left_by call line) (put_mid (2 * n) (2 * n + 2 - 2 * n) out part) (n + 1) cs
+      call-end part g last line o i call l =
           subst
           (λ (p : Reader).
           Upto r₀ piece out₀ p (put_mid (2 * n) (2 * n + 2 - 2 * n) out part) (n + 1) cs)
-          (sym
-          (left ∙ (λ j. record { line = (copy ∙ four-copied r.line a b x y buffer) j; len = begun j })))
+          (sym (λ j. record { line = kept j; len = 0 }))
           (one-ended _ out n cs all h
           (e ∙ ap (λ (m : List ℕ). header_of (request_of m)) (sym (four-line r.line a b x y buffer))) part g)
         where
-          copy : take 4 rest ++ drop 4 r.line ≡ a ∷ b ∷ x ∷ y ∷ drop 4 r.line
-          copy = ap (λ (l : List ℕ). take 4 l ++ drop 4 r.line) (first-five rest five)
+          copy : call ≡ a ∷ b ∷ x ∷ y ∷ []
+          copy = l ∙ ap (λ (m : List ℕ). take 4 m) (first-five rest five)
+
+          beyond : drop 4 line ≡ drop 4 r.line
+          beyond =
+              sym (drop-append-drop (length last) line last 4 (one-call-short last o) refl)
+              ∙ ap (λ (p : Reader). drop 4 p.line) (sym i)
+
+          kept : call ++ drop (length call) line ≡ four r.line a b x y
+          kept =
+              (λ j. copy j ++ drop (length (copy j)) line)
+              ∙ ap (λ (m : List ℕ). a ∷ b ∷ x ∷ y ∷ m) beyond
+              ∙ four-copied r.line a b x y buffer
 
 -- Behind the last character nothing is still to come.
 pub end : (r₀ : Reader) (piece out₀ : List ℕ) (r : Reader) (out : List ℕ) (n : ℕ) (rest : List ℕ)

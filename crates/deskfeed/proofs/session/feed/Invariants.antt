@@ -4,4 +4,4 @@ use Rattle.deskfeed.proofs.session.feed.Given as goal
 
 abbrev pub invariant-loop-c : goal.invariant-loop-c
 invariant-loop-c l =
-    Upto l.fn.session.line l.fn.session.reader l.piece l.fn.out l.line l.reader l.out l.size l.c-index
+    Upto l.fn.session.line l.fn.session.reader l.piece l.fn.out l.line (record { line = l.text; len = l.len }) l.out l.size l.c-index
