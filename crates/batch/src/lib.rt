@@ -56,7 +56,7 @@ pub fn answer_in_turn<F: Form>(
         match admit_at(requests, i, opening.parties) {
             Ok(()) => {}
             Err(why) => {
-                put_refusal::<F>(pairs, out, i, why);
+                put_refusal::<F>(pairs, out, i, why.party(), why.code());
                 continue;
             }
         }

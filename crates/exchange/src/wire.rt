@@ -5,7 +5,7 @@ ghost use Rattle.hub.specs.Answers.{plain, printed};
 ghost use Rattle.encoding.specs.Form.{reply_size};
 ghost use Rattle.encoding.specs.Frame.{frame_of, paper};
 ghost use Rattle.encoding.specs.Tables.{Pairs};
-ghost use Rattle.exchange.specs.Admission.{admission_of, code_of, party_of};
+ghost use Rattle.exchange.specs.Admission.{admission_of};
 ghost use Rattle.exchange.specs.Wire.{with_reply};
 
 use crate::admission::{Unasked, admit};
@@ -50,14 +50,14 @@ fn put_reply_at<F: Form>(pairs: &[u16; 256], out: &mut [u8], i: usize, party: u8
 }
 
 // What a request is answered that was not admitted.
-pub fn put_refusal<F: Form>(pairs: &[u16; 256], out: &mut [u8], i: usize, why: Unasked)
+pub fn put_refusal<F: Form>(pairs: &[u16; 256], out: &mut [u8], i: usize, party: u8, code: u8)
     requires pairs { Pairs pairs.now }
     requires form_in_bounds { reply_size F.form * i + reply_size F.form ≤ length out.old }
     ensures { out.new
-        ≡ with_reply F.form (reply_size F.form * i) (frame_of (party_of why) (plain (code_of why)))
+        ≡ with_reply F.form (reply_size F.form * i) (frame_of party (plain code))
         out.old }
 {
-    put_reply_at::<F>(pairs, out, i, why.party(), plain(why.code()));
+    put_reply_at::<F>(pairs, out, i, party, plain(code));
 }
 
 // What a call is answered.

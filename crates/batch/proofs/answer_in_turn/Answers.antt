@@ -13,7 +13,7 @@ use Rattle.hub.specs.declared.moves.Sight.{Sight}
 use Rattle.hub.specs.declared.record.Hub.{Hub}
 use Rattle.hub.specs.declared.record.PartySlot.{PartySlot}
 use Rattle.hub.specs.declared.record.PlaceSlot.{PlaceSlot}
-use Rattle.hub.specs.Answers.{printed}
+use Rattle.hub.specs.Answers.{plain, printed}
 use Rattle.hub.specs.Calls.{answer_of, apply, is_full, ring_of, with_ring}
 use Rattle.hub.specs.Kinds.{kind_in}
 use Rattle.hub.specs.Look.{look}
@@ -65,7 +65,11 @@ pub loop-i-preserved-in-Err : goal.loop-i-preserved-in-Err
 loop-i-preserved-in-Err g c = let u = c.loop-i.invariant.0 in (
   responded _ _ _ _ _ _ _ _ u c.loop-i-test.true _ _ _
       (refused-response _ _ _ u.reachable _ _ c.admit_at.ensures c.in-Err.is)
-      c.put_refusal.ensures refl,
+      (c.put_refusal.ensures
+      ∙ (λ j.
+      with_reply g.F.Form.form (reply_size g.F.Form.form * c.loop-i.i)
+      (frame_of (c.party.ensures j) (plain (c.code.ensures j)))
+      c.loop-i.out)) refl,
   c.loop-i.invariant.1,
 )
 
