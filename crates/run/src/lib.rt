@@ -64,12 +64,15 @@ pub fn well_formed<F: Fn(u8) -> bool>(pairs: &[u8], is_code: F) -> bool
     ensures { (test : ℕ → Bool) → ((c : ℕ) (b : Bool) → F.post is_code c b → b ≡ test c)
         → result ≡ well_formed test pairs.now }
 {
+    if pairs.len() % 2 == 1 {
+        return false;
+    }
     for pair in pairs.chunks_exact(2) {
         if !is_code(pair[0]) {
             return false;
         }
     }
-    pairs.len() % 2 == 0
+    true
 }
 
 fn is_call(code: u8) -> bool

@@ -2,7 +2,6 @@
 use Prim.Native.Nat.{ℕ, suc, ◌+◌, ◌*◌, ◌/◌, ◌%◌, ◌<◌}
 use mathlib.Core.Path.{◌≡◌, refl, sym, ap, ◌∙◌}
 use mathlib.Core.Bool.{Bool, true, false, ◌&&◌}
-use Rattle.std.specs.Prelude.{nat_eq}
 use mathlib.Core.List.{List, [], ◌∷◌, ◌++◌}
 use native.Mathlib.Omega.{arith}
 use lib.ListN.{length, get_or, drop}
@@ -50,9 +49,20 @@ module _ (is_code : ℕ → Bool) where
   bad (c ∷ p ∷ []) rest l n e t = sym (ap (well_formed is_code) e ∙ rw t)
   bad (c ∷ p ∷ q ∷ f) rest l n e t = absurd (omega (arith, n))
 
-  -- What is left when no pair is: nothing, or a byte too many.
-  pub ended : (l : List ℕ) → length l < 2 → nat_eq (length l % 2) 0 ≡ well_formed is_code l
+  -- A byte too many.
+  pub odd : (l : List ℕ) → length l % 2 ≡ 1 → false ≡ well_formed is_code l
   unfolding well_formed
-  ended [] n = refl
-  ended (c ∷ []) n = refl
-  ended (c ∷ p ∷ l) n = absurd (omega (arith, n))
+  odd [] h = absurd (omega (arith, h))
+  odd (c ∷ []) h = refl
+  odd (c ∷ p ∷ l) h = odd_past (is_code c) (odd l (omega (arith, h)))
+    where
+      odd_past : (b : Bool) {r : Bool} → false ≡ r → false ≡ b && r
+      odd_past true e = e
+      odd_past false e = refl
+
+  -- What is left when no pair is, of an even number of bytes: nothing.
+  pub ended : (l : List ℕ) → length l < 2 → length l % 2 ≡ 0 → true ≡ well_formed is_code l
+  unfolding well_formed
+  ended [] n h = refl
+  ended (c ∷ []) n h = absurd (omega (arith, h))
+  ended (c ∷ p ∷ l) n h = absurd (omega (arith, n))

@@ -1,8 +1,11 @@
 -- `well_formed` meets its contract: what is left of the pairs, from any turn on, says the same.
-use Rattle.std.proofs.Common.{arith, sym, ap, ◌∙◌, ◌%◌, length, length-append, nat_eq}
+use Rattle.std.proofs.Common.{arith, sym, ap, ◌∙◌, ◌%◌, length, length-append}
 use Rattle.run.specs.Bytes.{well_formed}
-use Rattle.run.proofs.Laws.Pairs.{bad, ended, good}
+use Rattle.run.proofs.Laws.Pairs.{bad, ended, good, odd}
 use Rattle.run.proofs.well_formed.Goals as goal
+
+pub returns-then-pairs-eq1 : goal.returns-then-pairs-eq1
+returns-then-pairs-eq1 g c = λ test same. odd test _ c.if-pairs-eq1.true
 
 pub loop-pair-init : goal.loop-pair-init
 loop-pair-init g c =
@@ -31,6 +34,5 @@ loop-pair-preserved g c =
 pub returns : goal.returns
 returns g c = λ test same.
     let s = c.in-None.ensures.steps in
-    ap (λ n. nat_eq n 0) (sym c.loop-pair.invariant.2)
-    ∙ ended test _ (omega (arith, s.1.0, c.loop-pair.invariant.0))
+    ended test _ (omega (arith, s.1.0, c.loop-pair.invariant.0)) (omega (arith, c.loop-pair.invariant.2, c.if-pairs-eq1.false))
     ∙ c.loop-pair.invariant.1 test same
