@@ -108,7 +108,8 @@ impl Book {
     {
         let new = Replacement::read(frame)?;
         let door = new.door as usize;
-        new.admit(self.locks.contains(&new.lock), self.locks[door])?;
+        let stands = new.lock != NONE && self.locks.contains(&new.lock); // no search for a lock that is none
+        new.admit(stands, self.locks[door])?;
         self.locks[door] = new.lock;
         Ok(())
     }

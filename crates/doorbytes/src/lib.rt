@@ -35,7 +35,8 @@ fn enter_in(book: &mut [u8], frame: &[u8]) -> Result<(), Refusal>
 {
     let new = Replacement::read(frame)?;
     let at = 4 * new.door as usize;
-    new.admit(stands_in(book, new.lock), number_at(book, at))?;
+    let stands = new.lock != NONE && stands_in(book, new.lock); // no search for a lock that is none
+    new.admit(stands, number_at(book, at))?;
     fit(book, at, frame);
     Ok(())
 }
