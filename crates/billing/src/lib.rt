@@ -4,7 +4,7 @@
 #![tactic(auto)]
 
 ghost use Rattle.std.specs.Prelude.{ℕ, ◌*◌, ◌+◌, ◌<◌, ◌≤◌, ◌≡◌, cond, get_or, length, ltb};
-ghost use Rattle.billing.specs.Bill.{answer_to, bill_bytes, bill_code, in_bytes, number_of, written_at};
+ghost use Rattle.billing.specs.Bill.{answer_to, bill_bytes, bill_code, code_of, in_bytes, number_of, written_at};
 ghost use Rattle.billing.specs.Counting.{grants_of, receiver_of, sum, table};
 ghost use Rattle.billing.specs.Portions.{cents_at, remainder_at};
 ghost use Rattle.billing.specs.Sharing.{Billable, granted, left_over, precedes, rank, remainder};
@@ -184,6 +184,16 @@ pub fn share_fee(parties: u8, fee: u32, lines: &[u8]) -> Result<[u32; 32], Refus
     Ok(terms.apportion())
 }
 
+// An answer as one byte: 0, or the refusal's number.
+pub fn code(answer: Result<[u32; 32], Refusal>) -> u8
+    ensures { result ≡ code_of answer }
+{
+    match answer {
+        Ok(_) => 0,
+        Err(why) => why.code(),
+    }
+}
+
 // A number in four bytes, high byte first.
 fn put_number(out: &mut [u8], at: usize, n: u32)
     requires { at + 4 ≤ length out.old }
@@ -208,15 +218,14 @@ pub fn bill_shares(parties: u8, fee: u32, lines: &[u8], shares: &mut [u8]) -> u8
     ensures { (result ≡ bill_code parties fee lines.now shares.old)
         × (shares.new ≡ bill_bytes parties fee lines.now shares.old) }
 {
-    match share_fee(parties, fee, lines) {
-        Err(why) => why.code(),
-        Ok(cents) => {
-            let n = parties as usize;
-            if shares.len() != 4 * n {
-                return NO_BUFFER;
-            }
-            put_shares(shares, &cents[..n]);
-            0
-        }
+    let answer = share_fee(parties, fee, lines);
+    let Ok(cents) = answer else {
+        return code(answer);
+    };
+    let n = parties as usize;
+    if shares.len() != 4 * n {
+        return NO_BUFFER;
     }
+    put_shares(shares, &cents[..n]);
+    0
 }

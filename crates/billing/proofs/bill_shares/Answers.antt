@@ -3,6 +3,6 @@ use mathlib.Core.Path.{sym, ◌∙◌}
 use Rattle.billing.proofs.Laws.Answers.{written}
 use Rattle.billing.proofs.bill_shares.Goals as goal
 
-pub returns-else-shares-n : goal.returns-else-shares-n
-returns-else-shares-n c =
-    written _ _ _ _ (sym c.share_fee.ensures ∙ c.in-Ok.is) c.if-shares-n.false c.put_shares.ensures
+pub returns : goal.returns
+returns c =
+    written _ _ _ _ (sym c.share_fee-answer.ensures ∙ c.in-Ok.is) c.if-shares-n.false c.put_shares.ensures
