@@ -113,7 +113,7 @@ pub fn party_fits(phase: Phase, place: Place, figures: Figures, oldest: u32, nam
 
 // Is the phase one of a party that stands at ticket t?
 #[tactic(auto, unfolding(hub::specs::Phases::is_one_of))]
-fn stands_at(phase: Phase, t: u32) -> bool
+pub fn stands_at(phase: Phase, t: u32) -> bool
     ensures { result ≡ stands_at phase t }
 {
     match phase {
@@ -125,7 +125,7 @@ fn stands_at(phase: Phase, t: u32) -> bool
 }
 
 // The ticket whose place is at index i.
-fn ticket_at(oldest: u32, i: usize) -> u32
+pub fn ticket_at(oldest: u32, i: usize) -> u32
     requires { (oldest ≤ 1000000) × (i < 256) }
     ensures { result ≡ ticket_at oldest i }
 {
