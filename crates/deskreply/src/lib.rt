@@ -2,7 +2,7 @@
 
 #![tactic(auto)]
 
-ghost use Rattle.std.specs.Prelude.{◌≡◌};
+ghost use Rattle.std.specs.Prelude.{◌≡◌, eqb, is_some};
 ghost use Rattle.line.specs.Requests.{request_of};
 ghost use Rattle.deskreply.specs.Replies.{asked_by, code_reply, is_open_line, opening_reply, operation_reply, reply_to};
 
@@ -61,9 +61,10 @@ fn operation_reply(line: Line, operation: Operation, party: u8) -> DeskReply
     }
 }
 
-// The answer to a line of text.
+// The answer to a line of text. It has steps exactly where its code is 20: openings and refusals have none, and a dash is printed.
 pub fn reply_to(line: Line, text: &[u8]) -> DeskReply
-    ensures { result ≡ reply_to line (asked_by (request_of text.now)) }
+    ensures value { result ≡ reply_to line (asked_by (request_of text.now)) }
+    ensures steps { is_some result.steps ≡ eqb result.code 0x20 }
 {
     let h = read_header(text);
     if h.code == OPENING {

@@ -24,13 +24,13 @@ own_steps l Operation.Acquire = cond (has_permit l) (to_counter l.named) TO_WAIT
 own_steps l Operation.Cancel = TO_CANCEL
 own_steps l Operation.Release = cond (has_waiter l) TO_HAND_OVER (to_counter l.named)
 
--- How many steps an operation that is accepted takes; a refused one has no such number.
-unfoldable pub accepted_steps : Line → Operation → ℕ → Option ℕ
-accepted_steps l o p = cond (is_accepted (line_move l o p).answer) (Some (own_steps l o)) None
-
 -- A refused operation takes none.
 unfoldable pub steps_to_rest : Line → Operation → ℕ → ℕ
 steps_to_rest l o p = cond (is_accepted (line_move l o p).answer) (own_steps l o) 0
+
+-- The same of an operation that is accepted; a refused one has no such number. The desk prints it.
+unfoldable pub accepted_steps : Line → Operation → ℕ → Option ℕ
+accepted_steps l o p = cond (is_accepted (line_move l o p).answer) (Some (steps_to_rest l o p)) None
 
 -- Whom an operation wakes: the first that waits, where a permit is handed over; else FF.
 unfoldable pub own_woken : Line → Operation → ℕ

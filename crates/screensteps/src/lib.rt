@@ -45,19 +45,20 @@ fn own_steps(line: &Line, operation: Operation) -> u8
     }
 }
 
-// How many steps the hub takes for an operation that is accepted.
-pub fn accepted_steps(line: Line, operation: Operation, party: u8) -> Option<u8>
-    ensures { result ≡ accepted_steps line operation party }
-{
-    match call(line, operation, party).answer {
-        Answer::Accepted => Some(own_steps(&line, operation)),
-        _ => None,
-    }
-}
-
 // How many steps the hub takes to come to rest; none for an operation that is refused.
 pub fn steps_to_rest(line: Line, operation: Operation, party: u8) -> u8
     ensures { result ≡ steps_to_rest line operation party }
 {
-    accepted_steps(line, operation, party).unwrap_or(0)
+    match call(line, operation, party).answer {
+        Answer::Accepted => own_steps(&line, operation),
+        _ => 0,
+    }
+}
+
+// The same of an operation that is accepted: it takes a step at least.
+pub fn accepted_steps(line: Line, operation: Operation, party: u8) -> Option<u8>
+    ensures { result ≡ accepted_steps line operation party }
+{
+    let steps = steps_to_rest(line, operation, party);
+    if steps == 0 { None } else { Some(steps) }
 }

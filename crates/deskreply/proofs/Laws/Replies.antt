@@ -1,9 +1,9 @@
 -- What a line asks, told by its header, and what it is answered.
 use Prim.Native.Nat.{ℕ}
-use mathlib.Core.Path.{◌≡◌, refl, sym, ap, ◌∙◌}
-use mathlib.Core.Bool.{true, false}
+use mathlib.Core.Path.{◌≡◌, refl, sym, ap, subst, ◌∙◌}
+use mathlib.Core.Bool.{Bool, true, false, cond}
 use native.Mathlib.Omega.{arith}
-use Rattle.std.proofs.Common.{Option, Some, None, Ok, Err}
+use Rattle.std.proofs.Common.{Option, Some, None, Ok, Err, eqb, is_some}
 use Rattle.hub.specs.declared.moves.Op.{Op}
 use Rattle.hub.specs.declared.opening.Opening.{Opening}
 use Rattle.hub.specs.Answers.{Printed, printed}
@@ -17,8 +17,10 @@ use Rattle.screen.specs.Moves.{line_move, line_opening}
 use Rattle.screen.specs.declared.record.UnknownOperation.{UnknownOperation}
 use Rattle.screen.specs.Codes.{operation_coded}
 use Rattle.screen.specs.Steps.{accepted_steps}
+use Rattle.screen.proofs.Laws.Steps.{never-accepted, some-if-accepted}
 use Rattle.deskreply.specs.declared.DeskReply.{DeskReply}
-use Rattle.deskreply.specs.Replies.{asked_by, code_reply, is_open_line, opening_reply, operation_reply, reply_to}
+use Rattle.deskreply.specs.Replies.{Asked, an_opening, an_operation, asked_by, code_reply, is_open_line, nothing}
+use Rattle.deskreply.specs.Replies.{opening_reply, operation_reply, reply_to}
 
 -- An opening.
 pub is-opening : (q : Request) → (header_of q).code ≡ 0x01 → is_opening q ≡ true
@@ -103,3 +105,32 @@ unfolding opening_reply
 opens o m y e h =
     (λ i.
     code_reply ((ap (λ (x : Printed). x.code) h ∙ ap (λ (x : Moved). (printed x.answer).code) e) i) None (e i).line)
+
+-- There are steps exactly where the code is 20.
+pub steps-told : (l : Line) (a : Asked) → is_some (reply_to l a).steps ≡ eqb (reply_to l a).code 0x20
+unfolding reply_to opening_reply operation_reply
+steps-told l nothing = refl
+steps-told l (an_opening o) = go (is_open_line l)
+  where
+    go : (b : Bool) → is_some (cond b (code_reply 13 None l) (opening_reply o)).steps
+        ≡ eqb (cond b (code_reply 13 None l) (opening_reply o)).code 0x20
+    go true = refl
+    go false = sym (never-accepted o)
+steps-told l (an_operation o p) = go (is_open_line l)
+  where
+    own : DeskReply
+    own =
+        record {
+          code = (printed (line_move l o p).answer).code;
+          party = Some p;
+          steps = accepted_steps l o p;
+          line = (line_move l o p).line;
+        }
+
+    go : (b : Bool) → is_some (cond b own (code_reply 13 (Some p) l)).steps
+        ≡ eqb (cond b own (code_reply 13 (Some p) l)).code 0x20
+    go true = some-if-accepted l o p
+    go false = refl
+
+pub replied : {r : DeskReply} (l : Line) (a : Asked) → r ≡ reply_to l a → is_some r.steps ≡ eqb r.code 0x20
+replied l a e = subst (λ (r : DeskReply). is_some r.steps ≡ eqb r.code 0x20) (sym e) (steps-told l a)

@@ -7,7 +7,7 @@ use native.Mathlib.Omega.{arith}
 use borrow.Author.Tests.{le-leb, le-ltb, lt-leb, lt-ltb}
 use types.Run.{OneOf, miss}
 use denote.Enum.Declared.{tag_of}
-use Rattle.std.proofs.Common.{Some, None, refl}
+use Rattle.std.proofs.Common.{Some, None, is_some, refl}
 use Rattle.std.specs.Option.{unwrap_or}
 use Rattle.hub.specs.declared.answers.Answer.{Answer}
 use Rattle.hub.specs.declared.answers.Refusal.{Refusal}
@@ -80,20 +80,71 @@ pub not_taken : {y : Answer} → Told y → OneOf OTHERS (tag_of answer.the_type
 not_taken taken t = absurd (miss OTHERS 2 tt t)
 not_taken (turned r) t = no-refusal r 0x20 (omega arith)
 
+-- Each operation that is accepted takes a step at least.
+pub steps-least : (l : Line) (o : Operation) → 1 ≤ own_steps l o
+unfolding own_steps
+steps-least l Operation.Acquire = go (has_permit l) l.named
+  where
+    go : (b n : Bool) → 1 ≤ cond b (to_counter n) TO_WAIT
+    go true true = omega arith
+    go true false = omega arith
+    go false n = omega arith
+steps-least l Operation.Cancel = omega arith
+steps-least l Operation.Release = go (has_waiter l) l.named
+  where
+    go : (b n : Bool) → 1 ≤ cond b TO_HAND_OVER (to_counter n)
+    go true n = omega arith
+    go false true = omega arith
+    go false false = omega arith
+
 module _ (l : Line) (o : Operation) (p : ℕ) where
   pub no_steps : is_accepted (line_move l o p).answer ≡ false → accepted_steps l o p ≡ None
   unfolding accepted_steps
   no_steps e = rw e
 
+  pub none-to-rest : is_accepted (line_move l o p).answer ≡ false → steps_to_rest l o p ≡ 0
+  unfolding steps_to_rest
+  none-to-rest e = rw e
+
+  pub own-to-rest : (line_move l o p).answer ≡ Answer.Accepted → steps_to_rest l o p ≡ own_steps l o
+  unfolding steps_to_rest
+  own-to-rest e = rw e
+
   pub some-steps : (line_move l o p).answer ≡ Answer.Accepted → accepted_steps l o p ≡ Some (own_steps l o)
-  unfolding accepted_steps
+  unfolding accepted_steps steps_to_rest
   some-steps e = rw e
 
   pub steps-counted : unwrap_or (accepted_steps l o p) 0 ≡ steps_to_rest l o p
   unfolding accepted_steps steps_to_rest
   steps-counted = go (is_accepted (line_move l o p).answer)
     where
-      go : (b : Bool) → unwrap_or (cond b (Some (own_steps l o)) None) 0 ≡ cond b (own_steps l o) 0
+      go : (b : Bool) → unwrap_or (cond b (Some (cond b (own_steps l o) 0)) None) 0 ≡ cond b (own_steps l o) 0
+      go true = refl
+      go false = refl
+
+  -- An operation that is accepted takes a step at least, so that 0 is told of a refusal alone.
+  pub told_by_0 : steps_to_rest l o p ≡ 0 → accepted_steps l o p ≡ None
+  unfolding accepted_steps steps_to_rest
+  told_by_0 = go (is_accepted (line_move l o p).answer) (own_steps l o) (steps-least l o)
+    where
+      go : (b : Bool) (n : ℕ) → 1 ≤ n → cond b n 0 ≡ 0 → cond b (Some (cond b n 0)) None ≡ None
+      go true n h e = absurd (omega (arith, h, e))
+      go false n h e = refl
+
+  pub told-by-some : (steps_to_rest l o p ≡ 0 → ⊥) → accepted_steps l o p ≡ Some (steps_to_rest l o p)
+  unfolding accepted_steps steps_to_rest
+  told-by-some = go (is_accepted (line_move l o p).answer) (own_steps l o)
+    where
+      go : (b : Bool) (n : ℕ) → (cond b n 0 ≡ 0 → ⊥) → cond b (Some (cond b n 0)) None ≡ Some (cond b n 0)
+      go true n h = refl
+      go false n h = absurd (h refl)
+
+  -- There is a number for what is accepted, and for nothing else.
+  pub some-if-accepted : is_some (accepted_steps l o p) ≡ is_accepted (line_move l o p).answer
+  unfolding accepted_steps
+  some-if-accepted = go (is_accepted (line_move l o p).answer)
+    where
+      go : (b : Bool) → is_some (cond b (Some (steps_to_rest l o p)) None) ≡ b
       go true = refl
       go false = refl
 
@@ -139,3 +190,12 @@ module _ (o : Opening) where
       → line_opening o ≡ record { answer = Answer.Opened; line = opened_line o }
   unfolding line_opening
   opens e = opened-by (ends o (tests o)) e
+
+  -- An opening is answered 1F or a refusal, and never 20.
+  pub never-accepted : is_accepted (line_opening o).answer ≡ false
+  unfolding line_opening
+  never-accepted = go (ends o (tests o))
+    where
+      go : {b : Bool} {x : Outcome} → Ends o b x → is_accepted x.answer ≡ false
+      go (Ends.refused r) = no-refusal r 0x20 (omega arith)
+      go Ends.opened = refl

@@ -1,25 +1,13 @@
--- `accepted_steps` meets its contract: an operation that is not accepted is refused.
-use Rattle.std.proofs.Common.{Some}
-use mathlib.Core.Path.{sym, ap, subst, ◌∙◌}
-use types.Run.{OneOf}
-use denote.Enum.Declared.{tag_of}
-use Rattle.hub.specs.declared.answers.Answer.{Answer}
-use Rattle.hub.specs.contracts.answers.Answer as answer
-use Rattle.screen.specs.declared.record.Moved.{Moved}
-use Rattle.screen.proofs.Laws.Steps.{OTHERS, no_steps, not_taken, some-steps, told}
-use borrow.Enum.Refused.{opened as opened_keys}
+-- `accepted_steps` meets its contract: 0 steps are told of a refusal alone.
+use Rattle.std.proofs.Common.{Some, sym, ap, ◌∙◌}
+use Rattle.screen.proofs.Laws.Steps.{told-by-some, told_by_0}
 use Rattle.screensteps.proofs.accepted_steps.Goals as goal
 
-pub returns-in_default : goal.returns-in_default
-returns-in_default c =
-    let a = c.args in
-    let e = ap (λ (m : Moved). m.answer) c.call.ensures.0 in
-    sym (no_steps a.line a.operation a.party
-    (not_taken (told a.line a.operation a.party)
-    (subst (λ (y : Answer). OneOf OTHERS (tag_of answer.the_type y)) e (opened_keys c.in_default.in_default-own.keys2))))
+pub returns-then-steps-eq0 : goal.returns-then-steps-eq0
+returns-then-steps-eq0 c =
+    sym (told_by_0 _ _ _ (sym c.steps_to_rest-steps.ensures ∙ c.if-steps-eq0.true))
 
-pub returns-in-Accepted : goal.returns-in-Accepted
-returns-in-Accepted c =
-    ap Some c.own_steps.ensures
-    ∙ sym (some-steps _ _ _ (sym (ap (λ (m : Moved). m.answer)
-    c.call.ensures.0) ∙ c.in-Accepted.is))
+pub returns-else-steps-eq0 : goal.returns-else-steps-eq0
+returns-else-steps-eq0 c =
+    ap Some c.steps_to_rest-steps.ensures
+    ∙ sym (told-by-some _ _ _ (λ e. c.if-steps-eq0.false (c.steps_to_rest-steps.ensures ∙ e)))
