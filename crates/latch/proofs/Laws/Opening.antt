@@ -14,7 +14,8 @@ use Rattle.latch.specs.Calls.{called, checked, apply}
 use Rattle.latch.specs.Fits.{figures_fit, fits}
 use Rattle.latch.specs.Opening.{Start, fresh, not_opened, opening, opening_if, up_to200}
 
--- What a refused opening hands back refuses every call by 1.
+-- The record with N 0 and n 0, which `opening` has for a refused opening, refuses every call by 1.
+-- `open_latch` hands back none.
 pub never-opened : (x : Start) (c : LatchCall)
     → called (not_opened x).latch c
     ≡ record { answer = Answer.Refused Refusal.Unfit; latch = (not_opened x).latch }
