@@ -56,7 +56,7 @@ pub fn feed(session: Session, piece: &[u8], out: &mut [u8]) -> Fed
             if len < KEPT {
                 text[len] = *c;
                 len += 1;
-                continue; // of either branch by itself: where they meet, the proof would begin anew
+                continue; // not one `continue` for both branches: each of them is proved by itself
             }
             continue;
         }
