@@ -1,5 +1,5 @@
 -- "20 05 3 held 0 3 waiting 7 5": an answer as a line.
-use Rattle.std.specs.Prelude.{ℕ, ◌+◌, ◌/◌, ◌%◌, cond, Option, Some, None, List, [], ◌∷◌, ◌++◌, ltb, length, take, drop}
+use Rattle.std.specs.Prelude.{ℕ, ◌+◌, ◌/◌, ◌%◌, cond, Option, Some, None, List, [], ◌∷◌, ◌++◌, eqb, ltb, length, take, drop}
 use Rattle.std.specs.Option.{unwrap_or}
 use Rattle.encoding.specs.Hex.{hex_of}
 use Rattle.screen.specs.declared.record.Line.{Line}
@@ -29,6 +29,10 @@ unfoldable pub steps_text : Option ℕ → List ℕ
 steps_text (Some steps) = decimal steps
 steps_text None = 0x2D ∷ []
 
+-- The steps that are told of an answer: none unless its code is 20.
+abbrev pub steps_told : ℕ → Option ℕ → Option ℕ
+steps_told code steps = cond (eqb code 0x20) steps None
+
 -- "held", "waiting".
 abbrev pub HELD : List ℕ
 HELD = 0x68 ∷ 0x65 ∷ 0x6C ∷ 0x64 ∷ []
@@ -39,7 +43,7 @@ WAITING = 0x77 ∷ 0x61 ∷ 0x69 ∷ 0x74 ∷ 0x69 ∷ 0x6E ∷ 0x67 ∷ []
 -- The code, the party, FF if there is none, and the steps; then who holds and who waits.
 unfoldable pub head_text : ℕ → Option ℕ → Option ℕ → List ℕ
 head_text code party steps =
-    hex_of (code ∷ []) ++ SPACE ∷ (hex_of (unwrap_or party 0xFF ∷ []) ++ SPACE ∷ steps_text steps)
+    hex_of (code ∷ []) ++ SPACE ∷ (hex_of (unwrap_or party 0xFF ∷ []) ++ SPACE ∷ steps_text (steps_told code steps))
 
 unfoldable pub parties_text : Line → List ℕ
 parties_text l =

@@ -3,7 +3,7 @@
 ghost use Rattle.std.specs.Prelude.{◌≡◌, [], ◌∷◌, ◌+◌, ◌≤◌, length};
 ghost use Rattle.screen.specs.Line.{holders, waiters};
 ghost use Rattle.deskline.specs.Text.{LONGEST_TEXT, head_text, line_text, numbers, parties_text, put_at};
-ghost use Rattle.deskline.specs.Text.{steps_text};
+ghost use Rattle.deskline.specs.Text.{steps_text, steps_told};
 
 use crate::digits::{put_char, put_decimal, put_hex, put_word};
 use deskreply::DeskReply;
@@ -64,6 +64,13 @@ fn put_steps(out: &mut [u8], at: usize, steps: Option<u8>) -> usize
     }
 }
 
+// The steps that are told: none unless the code is 20, whatever else the reply has.
+fn steps_told(r: &DeskReply) -> Option<u8>
+    ensures { result ≡ steps_told r.now.code r.now.steps }
+{
+    if r.code == 0x20 { r.steps } else { None }
+}
+
 // The code, the party and the steps.
 fn put_head(out: &mut [u8], at: usize, r: &DeskReply) -> usize
     requires { at + 9 ≤ length out.old }
@@ -75,7 +82,7 @@ fn put_head(out: &mut [u8], at: usize, r: &DeskReply) -> usize
     let b = put_char(out, a, SPACE);
     let c = put_hex(out, b, r.party.unwrap_or(0xFF));
     let d = put_char(out, c, SPACE);
-    put_steps(out, d, r.steps)
+    put_steps(out, d, steps_told(r))
 }
 
 // Who holds and who waits.
