@@ -5,7 +5,7 @@ ghost use Rattle.std.specs.Prelude.{◌≡◌, ◌≤◌, Bool, ◌∷◌, []};
 ghost use Rattle.hub.specs.Fits.{radios_fit};
 ghost use Rattle.hub.specs.Phases.{has_radio, is_permit};
 ghost use Rattle.hub.specs.Radios.{radios_in, ring_from, shown};
-ghost use Rattle.pool.specs.Missing.{left_by, met, missing_of, none_missing};
+ghost use Rattle.pool.specs.Missing.{Counted, left_by, met, missing_of, none_counted, none_missing};
 
 use hub::record::{Hub, PartySlot, Place, PlaceSlot};
 use openhub::radios_differ;
@@ -93,8 +93,10 @@ impl Missing {
         Some(())
     }
 
+    // Is the count 0? Where it is the table's own, no radio is left in the table then.
     fn is_empty(&self) -> bool
-        ensures { result ≡ none_missing self.now }
+        ensures counted { result ≡ none_counted self.now }
+        ensures none { Counted self.now → result ≡ none_missing self.now }
     {
         self.count == 0
     }

@@ -12,6 +12,7 @@ use lib.Dec.{eqb}
 use lib.ListN.{length, get_or, set, take, drop, replicate, length-set, get_or-eq_default}
 use lib.Seq.{drop-cons, get_or-set_same, get_or-set_other}
 use Rattle.std.specs.Prelude.{Option, Some, None, is_some}
+use Rattle.std.specs.List.{list_all}
 use Rattle.std.specs.Option.{option_and_then}
 use Rattle.hub.specs.Basics.{all_from, among, bit, weight}
 use Rattle.hub.specs.declared.record.PartySlot.{PartySlot}
@@ -24,7 +25,7 @@ use Rattle.hub.proofs.Laws.Bools.{both, never}
 use Rattle.hub.proofs.Laws.Lists.{weight-replicate, weight-set}
 use Rattle.hub.proofs.Laws.Ranges.{all_true, one-true}
 use Rattle.pool.specs.declared.check.Missing.{Missing}
-use Rattle.pool.specs.Missing.{left_by, marked, met, missing_of, none_missing, table_of}
+use Rattle.pool.specs.Missing.{Counted, left_by, marked, met, missing_of, none_counted, none_missing, table_of}
 
 -- 1 where radio b is missing.
 abbrev at : List Bool → ℕ → ℕ
@@ -225,18 +226,37 @@ none-left (true ∷ t) e b = omega (arith, e)
 none-left (false ∷ t) e zero = refl
 none-left (false ∷ t) e (suc b) = none-left t (omega (arith, e)) b
 
--- What is left says whether the radios that were met are those of the table.
+-- Where a table is counted, its count says whether none is left in it.
+counted-none : (t : List Bool) → eqb (missing t) 0 ≡ list_all not t
+unfolding weight
+counted-none [] = refl
+counted-none (true ∷ t) = ne_eqb _ _ (λ e. omega (arith, e))
+counted-none (false ∷ t) =
+    let same : missing (false ∷ t) ≡ missing t = omega arith in
+    ap (λ (n : ℕ). eqb n 0) same ∙ counted-none t
+
+pub by-its-count : (m : Missing) → Counted m → none_counted m ≡ none_missing m
+by-its-count m e = ap (λ (n : ℕ). eqb n 0) e ∙ counted-none m.radios
+
+-- What is left says whether the radios that were met are those of the table. The test asks the table, or its count.
+abbrev pub says_by : (Missing → Bool) → Option Missing → Bool
+says_by f None = false
+says_by f (Some m) = f m
+
 abbrev pub says : Option Missing → Bool
-says None = false
-says (Some m) = none_missing m
+says o = says_by none_missing o
 
-pub says-left : (o : Option (Unit {0})) (m : Missing) → is_some o ≡ true → says (left_by o m) ≡ none_missing m
-says-left (Some _) m e = refl
-says-left None m e = never (sym e)
+abbrev pub count_says : Option Missing → Bool
+count_says o = says_by none_counted o
 
-pub says-nothing : (o : Option (Unit {0})) (m : Missing) → is_some o ≡ false → says (left_by o m) ≡ false
-says-nothing (Some _) m e = never e
-says-nothing None m e = refl
+module _ (f : Missing → Bool) where
+  pub says-left : (o : Option (Unit {0})) (m : Missing) → is_some o ≡ true → says_by f (left_by o m) ≡ f m
+  says-left (Some _) m e = refl
+  says-left None m e = never (sym e)
+
+  pub says-nothing : (o : Option (Unit {0})) (m : Missing) → is_some o ≡ false → says_by f (left_by o m) ≡ false
+  says-nothing (Some _) m e = never e
+  says-nothing None m e = refl
 
 module _ (l m : List ℕ) (d : differ m ≡ true) (x : Bytes l) (y : Bytes m) where
   abbrev whole : List Bool
@@ -258,18 +278,18 @@ module _ (l m : List ℕ) (d : differ m ≡ true) (x : Bytes l) (y : Bytes m) wh
       go true e =
           never (sym (one-true same-often 0 256 b e (omega arith) k) ∙ ne_eqb (occurs b l) (occurs b m) n)
 
-  pub by-table : (o : Option Missing) → o ≡ met l (missing_of m) → says o ≡ rearranged l m
+  all_marked : length m ≡ missing whole
+  all_marked = omega (arith, table.sum, weight-replicate bit false refl 256)
+
+  pub by-count : (o : Option Missing) → o ≡ met l (missing_of m) → count_says o ≡ rearranged l m
   unfolding rearranged
-  by-table None e =
+  by-count None e =
       let over = met-over l whole (length m) table.size x (sym e) in
       sym (differs over.0 over.1 (λ z. omega (arith, over.2, table.each over.0, ap bit (unmarked 256 over.0), z)))
-  by-table (Some u) e = go (ℕ_discrete u.count 0)
+  by-count (Some u) e = go (ℕ_discrete u.count 0)
     where
       at_last : Met l whole (length m) u
       at_last = all-met l whole (length m) u (sym e)
-
-      all_marked : length m ≡ missing whole
-      all_marked = omega (arith, table.sum, weight-replicate bit false refl 256)
 
       left : u.count + length l ≡ length m
       left = omega (arith, at_last.count all_marked, at_last.sum, all_marked)
@@ -285,6 +305,14 @@ module _ (l m : List ℕ) (d : differ m ≡ true) (x : Bytes l) (y : Bytes m) wh
           let some : eqb (length l) (length m) ≡ false = ne_eqb _ _ (λ e. z (omega (arith, left, e))) in
           ne_eqb _ _ z ∙ rw some
 
+  -- What is left is still counted, so that the table says the same.
+  pub still-counted : (u : Missing) → ◌≡◌ {A = Option Missing} (Some u) (met l (missing_of m)) → Counted u
+  still-counted u e = (all-met l whole (length m) u (sym e)).count all_marked
+
+  pub by-table : (o : Option Missing) → o ≡ met l (missing_of m) → says o ≡ rearranged l m
+  by-table None e = by-count None e
+  by-table (Some u) e = sym (by-its-count u (still-counted u e)) ∙ by-count (Some u) e
+
 -- One mark after another is set.
 pub one-marked : (l : List ℕ) (i : ℕ) (t : List Bool) → i < length l
     → marked (drop i l) t ≡ marked (drop (i + 1) l) (set t (get_or l i 0) true)
@@ -298,6 +326,10 @@ module _ (o : Option (Unit {0})) (m : Missing) {x : Option Missing} (e : left_by
 
   pub not-missing : o ≡ None → x ≡ None
   not-missing i = sym e ∙ ap (λ (o : Option (Unit {0})). left_by o m) i
+
+pub left-some : (o : Option (Unit {0})) (m : Missing) → is_some o ≡ true → left_by o m ≡ Some m
+left-some (Some _) m e = refl
+left-some None m e = never (sym e)
 
 pub nothing-left : (o : Option (Unit {0})) (m : Missing) → o ≡ None → left_by o m ≡ None
 nothing-left o m i = not-missing o m refl i

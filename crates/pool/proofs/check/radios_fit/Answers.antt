@@ -5,7 +5,7 @@ use mathlib.Core.Path.{◌≡◌, sym, ap, ap₂, subst, ◌∙◌}
 use mathlib.Core.Bool.{Bool, true, ◌&&◌}
 use mathlib.Core.List.{List}
 use lib.ListN.{get_or, length, take}
-use Rattle.std.specs.Prelude.{Option}
+use Rattle.std.specs.Prelude.{Option, Some, is_some}
 use Rattle.hub.specs.declared.record.Hub.{Hub}
 use Rattle.hub.specs.Basics.{implies}
 use Rattle.hub.specs.Fits.{radios_fit}
@@ -14,9 +14,9 @@ use Rattle.hub.specs.Radios.{differ, radios_in, radios_of, rearranged}
 use Rattle.hub.proofs.Laws.Opening.{named-differ}
 use Rattle.hub.proofs.Laws.Radios.{radios-of}
 use Rattle.pool.specs.declared.check.Missing.{Missing}
-use Rattle.pool.specs.Missing.{left_by, met, missing_of}
+use Rattle.pool.specs.Missing.{Counted, left_by, met, missing_of, none_missing}
 use Rattle.pool.proofs.Laws.Fits.{unnamed-fit}
-use Rattle.pool.proofs.Laws.Missing.{by-table, bytes-all, bytes-take, says, says-left, says-nothing}
+use Rattle.pool.proofs.Laws.Missing.{by-table, bytes-all, bytes-take, left-some, says, says-left, says-nothing, still-counted}
 use Rattle.pool.proofs.check.radios_fit.Goals.{After-in_all}
 use Rattle.pool.proofs.check.radios_fit.Goals as goal
 
@@ -31,11 +31,20 @@ module _ (h : Hub) (named : h.control.opening.named ≡ true) (d : radios_differ
   abbrev found : List ℕ
   found = radios_in h.slots h.places h.control.pool
 
+  apart : differ given ≡ true
+  apart =
+      subst (λ (l : List ℕ). differ l ≡ true) (radios-of h.control.opening size)
+      (sym (named-differ h.control.opening named) ∙ d)
+
+  counted : (m : Missing) → m ≡ missing_of given → (u : Missing) → ◌≡◌ {A = Option Missing} (Some u) (met found m) → Counted u
+  counted m e u i =
+      still-counted found given apart (bytes-all h.slots h.places h.control.pool y z w)
+      (bytes-take h.control.opening.permits h.control.opening.radios x) u (i ∙ ap (met found) e)
+
   said : (m : Missing) → m ≡ missing_of given → (o : Option Missing) → o ≡ met found m → says o ≡ radios_fit h
   unfolding radios_fit
   said m e o i =
       let same = radios-of h.control.opening size in
-      let apart : differ given ≡ true = subst (λ (l : List ℕ). differ l ≡ true) same (sym (named-differ h.control.opening named) ∙ d) in
       by-table found given apart (bytes-all h.slots h.places h.control.pool y z w)
       (bytes-take h.control.opening.permits h.control.opening.radios x) o (i ∙ ap (met found) e)
       ∙ ap (rearranged found) (sym same)
@@ -55,10 +64,19 @@ all c =
     (search (rules, c.well_formed.0.1.1.1.1)) (search (rules, c.well_formed.0.1.1.1.1)) (search (rules, c.well_formed.0.1.1.1.1))
     (search (rules, c.well_formed.0.1.1.1.1)) _ c.of-missing.ensures _ c.in_all.ensures
 
+-- The table that they leave is still counted.
+all_counted : (c : After-in_all) → is_some c.in_all.result ≡ true → Counted c.in_all.new.self
+all_counted c i =
+    counted c.args.hub c.if-not-opening.false (sym c.radios_differ.ensures ∙ c.if-not-radios_differ.false) (search rules)
+    (search (rules, c.well_formed.0.1.1.1.1)) (search (rules, c.well_formed.0.1.1.1.1)) (search (rules, c.well_formed.0.1.1.1.1))
+    (search (rules, c.well_formed.0.1.1.1.1)) _ c.of-missing.ensures _ (sym (left-some _ _ i) ∙ c.in_all.ensures)
+
 pub returns-then-is_some : goal.returns-then-is_some
 returns-then-is_some c =
-    c.is_empty.ensures ∙ sym (says-left _ _ (sym c.is_some.ensures ∙ c.if-is_some.true)) ∙ all c.before.before.before.before.before
+    let some = sym c.is_some.ensures ∙ c.if-is_some.true in
+    c.is_empty.ensures.none (all_counted c.before.before.before.before.before some)
+    ∙ sym (says-left none_missing _ _ some) ∙ all c.before.before.before.before.before
 
 pub returns-else-is_some : goal.returns-else-is_some
 returns-else-is_some c =
-    c.if-is_some.false ∙ sym (says-nothing _ _ (sym c.is_some.ensures ∙ c.if-is_some.false)) ∙ all c.before.before.before
+    c.if-is_some.false ∙ sym (says-nothing none_missing _ _ (sym c.is_some.ensures ∙ c.if-is_some.false)) ∙ all c.before.before.before
