@@ -1,5 +1,6 @@
 -- A table of the radios that the check has still to meet, and how many they are.
-use Rattle.std.specs.Prelude.{ℕ, ◌≡◌, ◌-◌, Bool, true, false, not, cond, List, [], ◌∷◌, Option, Some, None, eqb, length, get_or, set, replicate}
+use Rattle.std.specs.Prelude.{ℕ, ◌≡◌, ◌-◌, Bool, true, false, not, cond, Option, Some, None, eqb}
+use Rattle.std.specs.Prelude.{List, [], ◌∷◌, length, get_or, set, replicate}
 use Rattle.std.specs.List.{list_all}
 use Rattle.hub.specs.Basics.{bit, weight}
 use Rattle.pool.specs.declared.check.Missing.{Missing}

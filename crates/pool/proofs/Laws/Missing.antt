@@ -249,10 +249,14 @@ says o = says_by none_missing o
 abbrev pub count_says : Option Missing → Bool
 count_says o = says_by none_counted o
 
+-- A method that met no radio but those that were missing leaves its table.
+pub left-some : (o : Option (Unit {0})) (m : Missing) → is_some o ≡ true → left_by o m ≡ Some m
+left-some (Some _) m e = refl
+left-some None m e = never (sym e)
+
 module _ (f : Missing → Bool) where
   pub says-left : (o : Option (Unit {0})) (m : Missing) → is_some o ≡ true → says_by f (left_by o m) ≡ f m
-  says-left (Some _) m e = refl
-  says-left None m e = never (sym e)
+  says-left o m e = ap (says_by f) (left-some o m e)
 
   pub says-nothing : (o : Option (Unit {0})) (m : Missing) → is_some o ≡ false → says_by f (left_by o m) ≡ false
   says-nothing (Some _) m e = never e
@@ -326,10 +330,6 @@ module _ (o : Option (Unit {0})) (m : Missing) {x : Option Missing} (e : left_by
 
   pub not-missing : o ≡ None → x ≡ None
   not-missing i = sym e ∙ ap (λ (o : Option (Unit {0})). left_by o m) i
-
-pub left-some : (o : Option (Unit {0})) (m : Missing) → is_some o ≡ true → left_by o m ≡ Some m
-left-some (Some _) m e = refl
-left-some None m e = never (sym e)
 
 pub nothing-left : (o : Option (Unit {0})) (m : Missing) → o ≡ None → left_by o m ≡ None
 nothing-left o m i = not-missing o m refl i

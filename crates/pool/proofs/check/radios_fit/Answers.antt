@@ -5,7 +5,7 @@ use mathlib.Core.Path.{◌≡◌, sym, ap, ap₂, subst, ◌∙◌}
 use mathlib.Core.Bool.{Bool, true, ◌&&◌}
 use mathlib.Core.List.{List}
 use lib.ListN.{get_or, length, take}
-use Rattle.std.specs.Prelude.{Option, Some, is_some}
+use Rattle.std.specs.Prelude.{Option, Some}
 use Rattle.hub.specs.declared.record.Hub.{Hub}
 use Rattle.hub.specs.Basics.{implies}
 use Rattle.hub.specs.Fits.{radios_fit}
@@ -16,7 +16,8 @@ use Rattle.hub.proofs.Laws.Radios.{radios-of}
 use Rattle.pool.specs.declared.check.Missing.{Missing}
 use Rattle.pool.specs.Missing.{Counted, left_by, met, missing_of, none_missing}
 use Rattle.pool.proofs.Laws.Fits.{unnamed-fit}
-use Rattle.pool.proofs.Laws.Missing.{by-table, bytes-all, bytes-take, left-some, says, says-left, says-nothing, still-counted}
+use Rattle.pool.proofs.Laws.Missing.{by-table, bytes-all, bytes-take, left-some, says, says-left, says-nothing}
+use Rattle.pool.proofs.Laws.Missing.{still-counted}
 use Rattle.pool.proofs.check.radios_fit.Goals.{After-in_all}
 use Rattle.pool.proofs.check.radios_fit.Goals as goal
 
@@ -36,19 +37,20 @@ module _ (h : Hub) (named : h.control.opening.named ≡ true) (d : radios_differ
       subst (λ (l : List ℕ). differ l ≡ true) (radios-of h.control.opening size)
       (sym (named-differ h.control.opening named) ∙ d)
 
-  counted : (m : Missing) → m ≡ missing_of given → (u : Missing) → ◌≡◌ {A = Option Missing} (Some u) (met found m) → Counted u
-  counted m e u i =
-      still-counted found given apart (bytes-all h.slots h.places h.control.pool y z w)
-      (bytes-take h.control.opening.permits h.control.opening.radios x) u (i ∙ ap (met found) e)
-
-  said : (m : Missing) → m ≡ missing_of given → (o : Option Missing) → o ≡ met found m → says o ≡ radios_fit h
+  -- And what it leaves of them is still counted.
+  said : (m : Missing) → m ≡ missing_of given → (o : Option Missing) → o ≡ met found m
+      → (says o ≡ radios_fit h) × ((u : Missing) → o ≡ Some u → Counted u)
   unfolding radios_fit
   said m e o i =
       let same = radios-of h.control.opening size in
-      by-table found given apart (bytes-all h.slots h.places h.control.pool y z w)
-      (bytes-take h.control.opening.permits h.control.opening.radios x) o (i ∙ ap (met found) e)
-      ∙ ap (rearranged found) (sym same)
-      ∙ sym (ap₂ (λ (a b : Bool). a && implies b (rearranged found (radios_of h.control.opening))) d named)
+      let all = bytes-all h.slots h.places h.control.pool y z w in
+      let each = bytes-take h.control.opening.permits h.control.opening.radios x in
+      let reached : o ≡ met found (missing_of given) = i ∙ ap (met found) e in (
+        by-table found given apart all each o reached
+            ∙ ap (rearranged found) (sym same)
+            ∙ sym (ap₂ (λ (a b : Bool). a && implies b (rearranged found (radios_of h.control.opening))) d named),
+        λ u k. still-counted found given apart all each u (sym k ∙ reached),
+      )
 
 pub returns-then-not-opening : goal.returns-then-not-opening
 returns-then-not-opening c = sym (unnamed-fit c.args.hub c.if-not-opening.true)
@@ -58,25 +60,22 @@ unfolding radios_fit
 returns-then-not-radios_differ c = rw (sym c.radios_differ.ensures ∙ c.if-not-radios_differ.true)
 
 -- What all that were met, or the first that was not missing, say.
-all : (c : After-in_all) → says (left_by c.in_all.result c.in_all.new.self) ≡ radios_fit c.args.hub
+all : (c : After-in_all)
+    → (says (left_by c.in_all.result c.in_all.new.self) ≡ radios_fit c.args.hub)
+    × ((u : Missing) → left_by c.in_all.result c.in_all.new.self ≡ Some u → Counted u)
 all c =
     said c.args.hub c.if-not-opening.false (sym c.radios_differ.ensures ∙ c.if-not-radios_differ.false) (search rules)
     (search (rules, c.well_formed.0.1.1.1.1)) (search (rules, c.well_formed.0.1.1.1.1)) (search (rules, c.well_formed.0.1.1.1.1))
     (search (rules, c.well_formed.0.1.1.1.1)) _ c.of-missing.ensures _ c.in_all.ensures
 
--- The table that they leave is still counted.
-all_counted : (c : After-in_all) → is_some c.in_all.result ≡ true → Counted c.in_all.new.self
-all_counted c i =
-    counted c.args.hub c.if-not-opening.false (sym c.radios_differ.ensures ∙ c.if-not-radios_differ.false) (search rules)
-    (search (rules, c.well_formed.0.1.1.1.1)) (search (rules, c.well_formed.0.1.1.1.1)) (search (rules, c.well_formed.0.1.1.1.1))
-    (search (rules, c.well_formed.0.1.1.1.1)) _ c.of-missing.ensures _ (sym (left-some _ _ i) ∙ c.in_all.ensures)
-
 pub returns-then-is_some : goal.returns-then-is_some
 returns-then-is_some c =
+    let met_all = all c.before.before.before.before.before in
     let some = sym c.is_some.ensures ∙ c.if-is_some.true in
-    c.is_empty.ensures.none (all_counted c.before.before.before.before.before some)
-    ∙ sym (says-left none_missing _ _ some) ∙ all c.before.before.before.before.before
+    c.is_empty.ensures.none (met_all.1 _ (left-some _ _ some)) ∙ sym (says-left none_missing _ _ some) ∙ met_all.0
 
 pub returns-else-is_some : goal.returns-else-is_some
 returns-else-is_some c =
-    c.if-is_some.false ∙ sym (says-nothing none_missing _ _ (sym c.is_some.ensures ∙ c.if-is_some.false)) ∙ all c.before.before.before
+    c.if-is_some.false
+    ∙ sym (says-nothing none_missing _ _ (sym c.is_some.ensures ∙ c.if-is_some.false))
+    ∙ (all c.before.before.before).0
